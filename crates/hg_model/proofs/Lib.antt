@@ -1,0 +1,14 @@
+pub mod ChunkLemmas
+pub mod FramingLemmas
+pub mod TakenLemmas
+pub mod BundleEntryLemmas
+pub mod ListingLemmas
+pub mod TailLemmas
+pub mod BundleLemmas
+pub mod HunkLemmas
+pub mod DeltaLemmas
+pub mod EntryLemmas
+pub mod ManifestLemmas
+pub mod ExtrasLemmas
+pub mod DateLemmas
+pub mod ChangesetLemmas

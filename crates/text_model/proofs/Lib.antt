@@ -1,0 +1,13 @@
+pub mod ByteLemmas
+pub mod CutLemmas
+pub mod DecimalLemmas
+pub mod EachLemmas
+pub mod EscapeLemmas
+pub mod HexLemmas
+pub mod ItemLemmas
+pub mod LineLemmas
+pub mod OrderLemmas
+pub mod PathLemmas
+pub mod TestLemmas
+pub mod LackLemmas
+pub mod FaultLemmas

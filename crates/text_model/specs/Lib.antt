@@ -1,0 +1,9 @@
+pub mod Lists
+pub mod Text
+pub mod Id
+pub mod Escape
+pub mod Path
+pub mod Fault
+pub mod Cuts
+pub mod Items
+pub mod Unescape
