@@ -1,0 +1,139 @@
+// The slot of the program: a file in the current folder.
+ghost use Rattle.std.specs.Prelude.{◌≡◌, ◌≤◌, ℕ, [], None, Ok, false, OnOk, length};
+
+use crate::failed::Failed;
+use crate::slot::{Slot, SlotFault};
+use std::fs::OpenFile;
+use std::io::{ErrorKind, Read, Write};
+use std::marker::Model;
+use std::rt::Files;
+use std::{fs, io};
+
+#[cfg(test)]
+mod tests;
+
+const STATE: &str = "hggit.state";
+
+const NEW_STATE: &str = "hggit.state.new";
+
+/// The file `hggit.state` in the current folder. While there is no such file, nothing is held. It tells no content.
+///
+/// A replacement is written to `hggit.state.new`, handed to the disk, and renamed. So a replacement that fails or is cut
+/// off before the renaming leaves the old file as it was.
+#[derive(Drop)]
+pub struct FileSlot<R: Files + Drop> {
+    files: R,
+    faults: u64,
+}
+
+impl<R: Files + Drop> Model for FileSlot<R> {
+    ghost Value = { ℕ };
+
+    ghost view = { λ s. s.faults };
+}
+
+impl<R: Files + Drop> FileSlot<R> {
+    /// A slot without a fault so far. Contracts see the number of its faults.
+    pub fn new(files: R) -> FileSlot<R>
+        ensures { result ≡ 0 }
+    {
+        FileSlot { files, faults: 0 }
+    }
+}
+
+impl<R: Files + Drop> Slot for FileSlot<R> {
+    ghost held = { λ _. None };
+
+    ghost faults = { λ s. s };
+
+    /// `Failed` comes where the file can't be opened or read, where it is no plain file, and where its length changes
+    /// while it is read.
+    fn fetch(&mut self, max: usize, into: &mut Vec<u8>) -> Result<bool, SlotFault> {
+        match fetch_file(&self.files, max, into) {
+            Ok(found) => Ok(found),
+            Err(fault) => {
+                into.clear();
+                if fault == SlotFault::Failed {
+                    self.faults = self.faults.saturating_add(1);
+                }
+                Err(fault)
+            }
+        }
+    }
+
+    /// `Failed` comes where the new file can't be made, written or renamed, want of memory included.
+    fn replace(&mut self, bytes: &[u8]) -> Result<(), Failed> {
+        match replace_file(&self.files, bytes) {
+            Ok(()) => Ok(()),
+            Err(_) => {
+                self.faults = self.faults.saturating_add(1);
+                Err(Failed)
+            }
+        }
+    }
+}
+
+// Answers whether there is a file, and appends its bytes.
+fn fetch_file(files: &impl Files, max: usize, into: &mut Vec<u8>) -> Result<bool, SlotFault>
+    requires empty { into.old.items ≡ [] }
+    ensures most { OnOk result (length into.new.items ≤ max) }
+    ensures none { result ≡ Ok false → into.new.items ≡ [] }
+{
+    match fs::open(files, STATE) {
+        Ok(file) => {
+            read_whole(file, max, into)?;
+            Ok(true)
+        }
+        Err(error) if error.kind() == ErrorKind::NotFound => Ok(false),
+        Err(error) => Err(fault_of(&error)),
+    }
+}
+
+// Reads a plain file of at most `max` bytes whole.
+fn read_whole<F: Read + OpenFile + Drop>(
+    file: F,
+    max: usize,
+    into: &mut Vec<u8>,
+) -> Result<(), SlotFault>
+    requires empty { into.old.items ≡ [] }
+    ensures most { OnOk result (length into.new.items ≤ max) }
+{
+    let len = plain_len(&file)?;
+    if len > max as u64 {
+        return Err(SlotFault::TooLong);
+    }
+    // One byte more than its length, so that a file that grows is noticed and the end is read into room that is there.
+    let limit = len.saturating_add(1);
+    if into.reserve_exact(limit as usize).is_err() {
+        return Err(SlotFault::Memory);
+    }
+    match file.take(limit).read_to_end(into) {
+        Ok(count) if count as u64 == len => Ok(()),
+        Ok(_) => Err(SlotFault::Failed),
+        Err(error) => Err(fault_of(&error)),
+    }
+}
+
+// The length of a plain file in bytes.
+fn plain_len(file: &impl OpenFile) -> Result<u64, SlotFault> {
+    match file.metadata() {
+        Ok(metadata) if metadata.is_file() => Ok(metadata.len()),
+        Ok(_) => Err(SlotFault::Failed),
+        Err(error) => Err(fault_of(&error)),
+    }
+}
+
+fn fault_of(error: &io::Error) -> SlotFault {
+    match error.kind() {
+        ErrorKind::OutOfMemory => SlotFault::Memory,
+        _ => SlotFault::Failed,
+    }
+}
+
+// Writes the new file, hands it to the disk, and puts it in the place of the old one.
+fn replace_file(files: &impl Files, bytes: &[u8]) -> io::Result<()> {
+    let mut file = fs::create(files, NEW_STATE)?;
+    file.write_all(bytes)?;
+    file.sync_all()?;
+    fs::rename(files, NEW_STATE, STATE)
+}

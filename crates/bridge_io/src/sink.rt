@@ -1,0 +1,42 @@
+// Where bytes go.
+ghost use Rattle.std.specs.Prelude.{List, ℕ, Option, OnOk};
+ghost use Rattle.std.specs.Io.KnownBytes.{WriteAppends, Appends, Keeps};
+ghost use Rattle.bridge_io.specs.Causes.{HasCause};
+ghost use Rattle.bridge_io.specs.Sink.{WritesSome, AppendsPrefix};
+
+use crate::failed::Failed;
+
+/// Takes bytes in pieces, and counts its faults.
+pub trait Sink {
+    /// All bytes so far, where it tells them.
+    ghost taken: { Self → Option (List ℕ) };
+
+    /// How often it has failed.
+    ghost faults: { Self → ℕ };
+
+    /// Takes some front of a piece, at least one byte of one that is not empty, and answers how many bytes it took.
+    /// After `Failed` it took none.
+    fn write(&mut self, piece: &[u8]) -> Result<usize, Failed>
+        ensures bound { WritesSome result piece.now }
+        ensures bytes { WriteAppends (taken self.old) (taken self.new) result piece.now }
+        ensures cause { HasCause (faults self.old) (faults self.new) result };
+
+    /// Hands on what was taken.
+    fn flush(&mut self) -> Result<(), Failed>
+        ensures bytes { Keeps (taken self.old) (taken self.new) }
+        ensures cause { HasCause (faults self.old) (faults self.new) result };
+}
+
+/// Writes all of the bytes. After `Failed` the sink has taken a front of them.
+pub fn write_all<O: Sink>(out: &mut O, bytes: &[u8]) -> Result<(), Failed>
+    ensures ok { OnOk result (Appends (O.taken out.old) (O.taken out.new) bytes.now) }
+    ensures prefix { AppendsPrefix (O.taken out.old) (O.taken out.new) bytes.now }
+    ensures cause { HasCause (O.faults out.old) (O.faults out.new) result }
+{
+    let mut rest = bytes;
+    while !rest.is_empty() {
+        let count = out.write(rest)?;
+        rest = &rest[count..];
+    }
+    Ok(())
+}

@@ -1,0 +1,50 @@
+ghost use Rattle.std.specs.Prelude.{◌≡◌, ◌++◌, [], ◌∷◌, not, if◌then◌else◌, IfOk, OnErr};
+ghost use Rattle.text_model.specs.Id.{has_id};
+
+use crate::id::Id;
+use crate::memory::NoMemory;
+use indexmap::IndexSet;
+use std::alloc::Global;
+use std::marker::Model;
+
+/// A set of ids. Contracts see the list of the ids, each once, in the order in which they came.
+#[derive(Drop)]
+pub struct IdSet {
+    ids: IndexSet<Id>,
+}
+
+impl Model for IdSet {
+    ghost use Rattle.std.specs.Prelude.{List};
+    ghost use Rattle.text_model.specs.Id.{Id};
+
+    ghost Value = { List Id };
+
+    ghost view = { λ set. set.ids.keys };
+}
+
+impl IdSet {
+    /// The empty set.
+    pub fn new(alloc: Global) -> IdSet
+        ensures { result ≡ [] }
+    {
+        IdSet {
+            ids: IndexSet::new(alloc),
+        }
+    }
+
+    /// Puts an id in, and answers whether it is new. After want of memory the set is as it was.
+    pub fn insert(&mut self, id: Id) -> Result<bool, NoMemory>
+        ensures new { IfOk result (λ new. new ≡ not (has_id self.old id)) }
+        ensures ok { IfOk result (λ new. self.new ≡ (if new then self.old ++ id ∷ [] else self.old)) }
+        ensures err { OnErr result (self.new ≡ self.old) }
+    {
+        Ok(self.ids.insert(id)?)
+    }
+
+    /// Whether the id is in the set.
+    pub fn contains(&self, id: &Id) -> bool
+        ensures { result ≡ has_id self.now id.now }
+    {
+        self.ids.contains(id)
+    }
+}
