@@ -1,0 +1,4 @@
+pub mod LineLemmas
+pub mod Progress
+pub mod ReadBytes
+pub mod BundleLaws

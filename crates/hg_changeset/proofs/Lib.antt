@@ -1,0 +1,4 @@
+pub mod DateLineLemmas
+pub mod EscapeLemmas
+pub mod HeadLemmas
+pub mod ItemsLemmas

@@ -1,0 +1,6 @@
+use Rattle.std.proofs.Transfers.{starts_with_of_append, starts_with_trans}
+use Rattle.hg_changeset.proofs.lines.put_files.Goals as goal
+
+pub returns-in_err-put_line-clause-front : goal.returns-in_err-put_line-clause-front
+returns-in_err-put_line-clause-front c =
+    starts_with_trans _ _ _ c.put_line.ensures.front (starts_with_of_append _ _ _ c.loop-file.invariant)

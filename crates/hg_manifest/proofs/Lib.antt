@@ -1,0 +1,3 @@
+pub mod LineTurns
+pub mod ReadLemmas
+pub mod SearchLemmas

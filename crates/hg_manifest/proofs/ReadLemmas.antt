@@ -1,0 +1,89 @@
+-- How far a text is read: what was read, and what is left to judge.
+use Rattle.std.proofs.Common.{◌≡◌, ◌+◌, ◌-◌, ◌<◌, ℕ, true, false, List, [], ◌∷◌, ◌++◌, length, Option, Some, None, refl, sym, ap, subst, ◌∙◌, append_assoc, arith, map, IsTrue}
+use Rattle.std.proofs.lemmas.List.{length-append, append-nil, map-append}
+use Rattle.text_model.specs.Text.{Bytes, IsBytes, whole_lines}
+use Rattle.hg_model.specs.Manifest.{ManifestEntry, entry_text, manifest_text, IsManifest, IsManifestText, ManifestFault, BadLine, UnfitPath, last_path, rises_above, entry_of_line, entry_fault, path_of_line, lines_fault, manifest_fault}
+use Rattle.text_model.specs.Id.{IsId}
+use Rattle.text_model.specs.Path.{is_fit_path}
+use Rattle.hg_manifest.specs.declared.entry.Entry.{Entry}
+use Rattle.hg_manifest.specs.Values.{manifest_entry}
+use Rattle.text_model.proofs.ByteLemmas.{IsBytes-front, IsBytes-rest}
+use Rattle.hg_model.proofs.EntryLemmas.{entry_of_line-takes, at_nul, path_of_line-text, is_fit_path-plain}
+use Rattle.hg_model.proofs.ManifestLemmas.{IsManifest-push, manifest_text-none, manifest_text-push, last_path-push, entry_fault-fits, entry_fault-falls, entry_fault-unfit, lines_fault-bad, lines_fault-fits}
+
+-- the entries are the lines before the rest, and the fault of the text is that of the rest
+pub record IsReadTo (text : Bytes) (last : Option Bytes) (entries : List ManifestEntry) (rest : Bytes) : Type 0 where
+  pub whole : text ≡ manifest_text entries ++ rest
+  pub last_is : last ≡ last_path entries
+  pub is : IsManifest entries
+  pub fits : IsBytes rest
+  pub fault : manifest_fault text ≡ lines_fault last (length text - length rest) (whole_lines rest)
+
+pub at_start : (text : Bytes) → IsBytes text → IsReadTo text None [] text
+at_start text fits = record {
+  whole = ap (λ (x : Bytes). x ++ text) (sym manifest_text-none);
+  last_is = refl;
+  is = (tt, refl);
+  fits = fits;
+  fault =
+      let none : length text - length text ≡ 0 = omega arith in
+      ap (λ (at : ℕ). lines_fault None at (whole_lines text)) (sym none);
+}
+
+-- nothing is left
+pub at_end : (text : Bytes) (last : Option Bytes) (entries : List ManifestEntry) → IsReadTo text last entries [] → IsManifestText text entries
+at_end text last entries r = (r.is, r.whole ∙ append-nil (manifest_text entries))
+
+-- the first line of the rest, and what follows it
+pub record IsLineOf (rest line after : Bytes) : Type 0 where
+  pub lines : whole_lines rest ≡ line ∷ whole_lines after
+  pub whole : rest ≡ line ++ after
+  pub some : 0 < length line
+
+module _ (text : Bytes) (last : Option Bytes) (entries : List ManifestEntry) (rest line after : Bytes) (r : IsReadTo text last entries rest) (l : IsLineOf rest line after) where
+  pub shorter : length after < length rest
+  shorter = omega (arith, l.some, ap (λ (x : Bytes). length x) l.whole, length-append line after)
+
+  fault_at : (why : ManifestFault) → entry_fault last (length text - length rest) (entry_of_line line) ≡ Some why → manifest_fault text ≡ Some why
+  fault_at why h =
+      let at : ℕ = length text - length rest in
+      r.fault ∙ ap (lines_fault last (length text - length rest)) l.lines ∙ lines_fault-bad last (length text - length rest) line (whole_lines after) why h
+
+  pub no_entry : None ≡ entry_of_line line → manifest_fault text ≡ Some (BadLine (length text - length rest))
+  no_entry none = fault_at (BadLine (length text - length rest)) (ap (entry_fault last (length text - length rest)) (sym none))
+
+  pub falls : (e : ManifestEntry) → Some e ≡ entry_of_line line → rises_above last e.path ≡ false → manifest_fault text ≡ Some (BadLine (length text - length rest))
+  falls e reads below = fault_at (BadLine (length text - length rest)) (ap (entry_fault last (length text - length rest)) (sym reads) ∙ entry_fault-falls last (length text - length rest) e below)
+
+  pub unfit : (e : ManifestEntry) → Some e ≡ entry_of_line line → rises_above last e.path ≡ true → is_fit_path e.path ≡ false → manifest_fault text ≡ Some (UnfitPath (length text - length rest))
+  unfit e reads above bad = fault_at (UnfitPath (length text - length rest)) (ap (entry_fault last (length text - length rest)) (sym reads) ∙ entry_fault-unfit last (length text - length rest) e above bad)
+
+  -- one entry more
+  pub goes_on : (e : ManifestEntry) → Some e ≡ entry_of_line line → rises_above last e.path ≡ true → is_fit_path e.path ≡ true → IsReadTo text (Some e.path) (entries ++ e ∷ []) after
+  goes_on e reads above fit =
+      let spelled = entry_of_line-takes line e (sym reads) in
+      let plain = is_fit_path-plain e.path fit in
+      let both : IsBytes (line ++ after) = subst (λ (x : Bytes). IsBytes x) l.whole r.fits in
+      let bytes : IsBytes e.path = IsBytes-front e.path _ (subst (λ (x : Bytes). IsBytes x) (spelled.whole ∙ at_nul e) (IsBytes-front line after both)) in
+      let at : length text - length rest + length line ≡ length text - length after =
+      omega (arith, ap (λ (x : Bytes). length x) r.whole, length-append (manifest_text entries) rest, ap (λ (x : Bytes). length x) l.whole, length-append line after) in
+      let fits = ap (entry_fault last (length text - length rest)) (sym reads) ∙ entry_fault-fits last (length text - length rest) e above fit in
+      let path = ap path_of_line spelled.whole ∙ path_of_line-text e plain.no_nul in
+      record {
+        whole =
+            r.whole ∙ ap (λ (x : Bytes). manifest_text entries ++ x) (l.whole ∙ ap (λ (x : Bytes). x ++ after) spelled.whole)
+            ∙ sym (append_assoc (manifest_text entries) (entry_text e) after) ∙ ap (λ (x : Bytes). x ++ after) (sym (manifest_text-push entries e));
+        last_is = sym (last_path-push entries e);
+        is = IsManifest-push entries e r.is (fit, bytes, spelled.node) (ap (λ (x : Option Bytes). rises_above x e.path) (sym r.last_is) ∙ above);
+        fits = IsBytes-rest line after both;
+        fault =
+            r.fault ∙ ap (lines_fault last (length text - length rest)) l.lines ∙ lines_fault-fits last (length text - length rest) line (whole_lines after) fits
+            ∙ (λ i. lines_fault (Some (path i)) (at i) (whole_lines after));
+      }
+
+-- an entry put behind the others
+pub pushed : (items new : List Entry) (e : Entry) → new ≡ items ++ e ∷ [] → IsManifest (map manifest_entry items)
+    → IsTrue (is_fit_path e.path) → IsBytes e.path → IsId e.node → IsTrue (rises_above (last_path (map manifest_entry items)) e.path) → IsManifest (map manifest_entry new)
+pushed items new e same is fit bytes node above =
+    let whole : map manifest_entry new ≡ map manifest_entry items ++ manifest_entry e ∷ [] = ap (map manifest_entry) same ∙ map-append manifest_entry items (e ∷ []) in
+    subst (λ (es : List ManifestEntry). IsManifest es) (sym whole) (IsManifest-push (map manifest_entry items) (manifest_entry e) is (fit, bytes, node) above)

@@ -1,0 +1,26 @@
+-- What this crate's entries, flags and faults are in the words of the format.
+use Rattle.std.specs.Prelude.{◌≡◌, Some, ⊤}
+use Rattle.text_model.specs.Text.{Bytes}
+use Rattle.hg_model.specs.Manifest.{Regular, Executable, Symlink, ManifestEntry, BadLine, UnfitPath, manifest_fault}
+use Rattle.hg_model.specs.Manifest as manifest
+use Rattle.hg_manifest.specs.declared.entry.Entry.{Entry}
+use Rattle.hg_manifest.specs.declared.entry.Flag.{Flag}
+use Rattle.hg_manifest.specs.declared.entry.Flag.TheVariants.{Plain, Exec, Link}
+use Rattle.hg_manifest.specs.declared.fault.ManifestFault.{ManifestFault}
+use Rattle.hg_manifest.specs.declared.fault.ManifestFault.TheVariants.{Shape, PathUnfit, Memory}
+
+-- the kind of file that a value of the enum stands for
+abbrev pub file_flag : Flag → manifest.Flag
+file_flag Plain = Regular
+file_flag Exec = Executable
+file_flag Link = Symlink
+
+-- the entry that a value of the struct stands for
+abbrev pub manifest_entry : Entry → ManifestEntry
+manifest_entry e = record { path = e.path; node = e.node; flag = file_flag e.flag }
+
+-- why the text is no manifest's: a fault other than want of memory is exactly the first of the text
+abbrev pub IsFault : Bytes → ManifestFault → Type 0
+IsFault text (Shape place) = manifest_fault text ≡ Some (BadLine place)
+IsFault text (PathUnfit place) = manifest_fault text ≡ Some (UnfitPath place)
+IsFault text Memory = ⊤

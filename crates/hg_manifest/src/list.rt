@@ -1,0 +1,157 @@
+ghost use Rattle.std.specs.Prelude.{◌≡◌, ◌==◌, ◌<◌, ◌++◌, [], ◌∷◌, length, slice_get, Some, MatchResult, OnOk, OnErr, IsTrue, option_map, find, bytes_eq};
+ghost use Rattle.std.specs.Option.{option_copied};
+ghost use Rattle.std.specs.Ordering.{nat_cmp};
+ghost use Rattle.std.specs.Cmp.Lexicographic.{slice_cmp};
+ghost use Rattle.text_model.specs.Path.{is_fit_path};
+ghost use Rattle.hg_model.specs.Manifest.{IsManifest, IsManifestText, manifest_text, rises_above, last_path};
+ghost use Rattle.hg_manifest.specs.Values.{manifest_entry, IsFault};
+
+use crate::entry::Entry;
+use crate::fault::ManifestFault;
+use crate::line::{first_line, read_line};
+use crate::lines::put_lines;
+use bridge_text::{Bytes, NoMemory, each_is_byte, fit_path};
+use std::alloc::Global;
+use std::cmp::Ordering;
+use std::marker::Model;
+
+/// The entries of a manifest, whose paths are fit and rise strictly as bytes. Contracts see the list.
+#[derive(Debug, Drop)]
+pub struct Manifest {
+    entries: Vec<Entry>,
+}
+
+impl Model for Manifest {
+    ghost use Rattle.std.specs.Prelude.{List, map};
+    ghost use Rattle.hg_model.specs.Manifest.{ManifestEntry, IsManifest};
+    ghost use Rattle.hg_manifest.specs.Values.{manifest_entry};
+
+    ghost Value = { List ManifestEntry };
+
+    ghost view = { λ m. map manifest_entry m.entries.items };
+
+    ghost invariant = { λ m. IsManifest (map manifest_entry m.entries.items) };
+}
+
+impl Manifest {
+    /// No entries.
+    pub fn new(alloc: Global) -> Manifest
+        ensures { result ≡ [] }
+    {
+        Manifest {
+            entries: Vec::new(alloc),
+        }
+    }
+
+    /// The manifest whose text this is. The lines are a path, NUL, the 40 lower case hex digits of a node, nothing or `x` or `l`, and LF;
+    /// their paths rise strictly as bytes and are fit. The first line that doesn't fit decides the fault, and on one line Shape comes before PathUnfit.
+    /// Memory comes where memory runs out.
+    pub fn read(alloc: Global, text: &[u8]) -> Result<Manifest, ManifestFault>
+        ensures { MatchResult result (IsManifestText text.now) (IsFault text.now) }
+    {
+        each_is_byte(text);
+        let mut manifest = Manifest::new(alloc);
+        let mut last = None;
+        let mut rest = text;
+        while !rest.is_empty() {
+            let place = text.len() - rest.len();
+            let (line, after) = first_line(rest);
+            let Some(line) = read_line(line) else {
+                return Err(ManifestFault::Shape(place));
+            };
+            if !rises_above(last, line.path) {
+                return Err(ManifestFault::Shape(place));
+            }
+            if !fit_path(line.path) {
+                return Err(ManifestFault::PathUnfit(place));
+            }
+            manifest.push(Entry {
+                path: Bytes::of(alloc, line.path)?,
+                node: line.node,
+                flag: line.flag,
+            })?;
+            last = Some(line.path);
+            rest = after;
+        }
+        Ok(manifest)
+    }
+
+    /// Adds an entry behind the others: its path is fit, and stands after that of the last one. After want of memory the manifest is as it was.
+    pub fn push(&mut self, entry: Entry) -> Result<(), NoMemory>
+        requires fit { IsTrue (is_fit_path entry.path) }
+        requires rises { IsTrue (rises_above (last_path self.old) entry.path) }
+        ensures ok { OnOk result (self.new ≡ self.old ++ manifest_entry entry ∷ []) }
+        ensures err { OnErr result (self.new ≡ self.old) }
+    {
+        each_is_byte(entry.path.as_slice());
+        let _bytes = entry.node.bytes();
+        Ok(self.entries.push(entry)?)
+    }
+
+    /// A law, which does nothing when it runs: the entries are those of a manifest.
+    pub fn is_manifest(&self)
+        ensures { IsManifest self.now }
+    {
+        let _entries = &self.entries;
+    }
+
+    /// How many entries there are.
+    pub fn len(&self) -> usize
+        ensures { result ≡ length self.now }
+    {
+        self.entries.len()
+    }
+
+    /// Whether there are no entries.
+    pub fn is_empty(&self) -> bool
+        ensures { result ≡ (length self.now == 0) }
+    {
+        self.entries.is_empty()
+    }
+
+    /// The entry at place `i`, which is below the length.
+    pub fn at(&self, i: usize) -> &Entry
+        requires { i < length self.now }
+        ensures { slice_get self.now i ≡ Some (manifest_entry result.now) }
+    {
+        &self.entries[i]
+    }
+
+    /// The entry of a path; `None` exactly where no entry has it.
+    pub fn get(&self, path: &[u8]) -> Option<&Entry>
+        ensures { option_map (λ entry. manifest_entry entry.now) result ≡ find (λ entry. bytes_eq entry.path path.now) self.now }
+    {
+        let place = self.entries.binary_search_by(
+            |entry: &Entry| -> Ordering
+                ensures { result ≡ slice_cmp nat_cmp entry.now.path path.entry.now }
+            { entry.path.as_slice().cmp(path) },
+        );
+        match place {
+            Ok(i) => Some(&self.entries[i]),
+            Err(_) => None,
+        }
+    }
+
+    /// Adds the text of the manifest. After want of memory `out` is as it was.
+    pub fn write_into(&self, out: &mut Vec<u8>) -> Result<(), NoMemory>
+        ensures ok { OnOk result (out.new.items ≡ out.old.items ++ manifest_text self.now) }
+        ensures err { OnErr result (out.new.items ≡ out.old.items) }
+    {
+        let start = out.len();
+        if put_lines(out, &self.entries).is_err() {
+            out.truncate(start);
+            return Err(NoMemory);
+        }
+        Ok(())
+    }
+}
+
+// Whether a path stands after that of the line before, if there is one.
+fn rises_above(last: Option<&[u8]>, path: &[u8]) -> bool
+    ensures { result ≡ rises_above (option_copied last.entry) path.now }
+{
+    match last {
+        None => true,
+        Some(last) => last.cmp(path) == Ordering::Less,
+    }
+}
