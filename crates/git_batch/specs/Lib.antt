@@ -1,0 +1,5 @@
+pub mod Faults
+pub mod Header
+pub mod Item
+pub mod Line
+pub mod Listing
