@@ -1,0 +1,4 @@
+pub mod Ends
+pub mod Outside
+pub mod Report
+pub mod Status

@@ -1,0 +1,33 @@
+-- The statuses and commands of the code, as those of the definitions.
+use Rattle.std.specs.Prelude.{◌≡◌, ℕ}
+use Rattle.history_model.specs.Command as command
+use Rattle.history_model.specs.Run as report
+use Rattle.bridge_cli.specs.declared.status.Status.{Status}
+use Rattle.bridge_cli.specs.declared.status.Status.TheVariants.{Done, Refused, Usage, ReadFault, WriteFault, SlotFault, StateBad, Memory, Mismatch}
+use Rattle.bridge_cli.specs.declared.words.Command.{Command}
+use Rattle.bridge_cli.specs.declared.words.Command.TheVariants.{ListHg, ListGit}
+
+abbrev pub command_value : Command → command.Command
+command_value ListHg = command.ListHg
+command_value ListGit = command.ListGit
+
+-- the exit status of the program
+abbrev pub code_of : Status → ℕ
+code_of Done = 0
+code_of Refused = 1
+code_of Usage = 2
+code_of ReadFault = 3
+code_of WriteFault = 4
+code_of SlotFault = 5
+code_of StateBad = 6
+code_of Memory = 7
+code_of Mismatch = 8
+
+-- the status that tells a report
+abbrev pub status_of : report.Report → Status
+status_of report.Done = Done
+status_of (report.IsRefused why) = Refused
+status_of report.Usage = Usage
+status_of report.ReadFault = ReadFault
+status_of report.WriteFault = WriteFault
+status_of report.Memory = Memory

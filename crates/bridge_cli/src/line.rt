@@ -1,0 +1,50 @@
+// The line that a run prints on its errors, built without memory.
+ghost use Rattle.std.specs.Prelude.{◌≡◌, ◌≤◌, length};
+ghost use Rattle.history_model.specs.Run.{refused_line, report_line};
+ghost use Rattle.bridge_cli.specs.Report.{refusal_value, report_value};
+
+use crate::report::{Refusal, Report};
+use arrayvec::ArrayVec;
+
+/// The longest line has 89 bytes.
+pub const LONGEST: usize = 96;
+
+/// The line of a report; no bytes where the work was done.
+pub fn line_of(report: &Report) -> ArrayVec<u8, LONGEST>
+    ensures { result.items ≡ report_line (report_value report.now) }
+{
+    match report {
+        Report::Done => ArrayVec::new(),
+        Report::Refused(refusal) => refused_line(refusal),
+        Report::Usage => line(b"usage\n"),
+        Report::ReadFault => line(b"read fault\n"),
+        Report::WriteFault => line(b"write fault\n"),
+        Report::Memory => line(b"no memory\n"),
+    }
+}
+
+// These bytes as a line.
+fn line(text: &[u8]) -> ArrayVec<u8, LONGEST>
+    requires { length text.now ≤ 96 }
+    ensures { result.items ≡ text.now }
+{
+    let mut line = ArrayVec::new();
+    line.try_extend_from_slice(text).unwrap();
+    line
+}
+
+// `refused`, the name, the id in hex digits and the place.
+fn refused_line(refusal: &Refusal) -> ArrayVec<u8, LONGEST>
+    ensures { result.items ≡ refused_line (refusal_value refusal.now) }
+{
+    let mut place = itoa::Buffer::new();
+    let mut line = line(b"refused ");
+    line.try_extend_from_slice(refusal.fault.name()).unwrap();
+    line.push(b' ');
+    line.try_extend_from_slice(&refusal.id.hex()).unwrap();
+    line.push(b' ');
+    line.try_extend_from_slice(place.format(refusal.place).as_bytes())
+        .unwrap();
+    line.push(b'\n');
+    line
+}

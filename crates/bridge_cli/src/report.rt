@@ -1,0 +1,153 @@
+// How a run ends, with what is printed of it.
+ghost use Rattle.std.specs.Prelude.{◌≡◌, ◌≤◌, length};
+ghost use Rattle.text_model.specs.Fault.{fault_word};
+ghost use Rattle.bridge_cli.specs.Report.{bundle_report, fault_name, fault_of, report_value, stream_report};
+ghost use Rattle.bridge_cli.specs.Status.{status_of};
+
+use crate::status::Status;
+use bridge_text::Id;
+use git_batch::{BatchFault, INPUT_LIMIT};
+use hg_bundle::{BundleFault, HgByteFault};
+
+/// What an input is refused for. Each name is also the word that is printed.
+#[derive(Clone, Copy, Debug, PartialEq, Eq)]
+pub enum Fault {
+    /// The input ends before the last byte of an item.
+    Truncated,
+    /// The length of a chunk is 1 to 4, or negative.
+    Length,
+    /// A length, a size or a text is over its limit.
+    Limit,
+    /// A byte follows the end of a bundle.
+    Trailing,
+    /// The input begins with no magic of a bundle.
+    Magic,
+    /// The input begins with the magic of another kind of bundle.
+    OtherBundle,
+    /// The input, or the sum of its texts, is over its limit.
+    InputLimit,
+    /// The payload of a delta chunk is shorter than four ids.
+    HeaderShort,
+    /// A line of a stream is of another form, or no LF follows a content.
+    Line,
+    /// A line of a stream says that an object is missing.
+    Missing,
+    /// A line of a stream names another kind of objects.
+    KindUnknown,
+    /// An object has another id than its line names.
+    IdWrong,
+}
+
+impl Fault {
+    /// The word that is printed: the variant's name. No word of a refusal is longer than 18 bytes.
+    #[tactic(auto, unfolding(text_model::specs::Fault::fault_word))]
+    pub fn name(&self) -> &'static [u8]
+        ensures word { result.now ≡ fault_word (fault_name self.now) }
+        ensures short { length result.now ≤ 18 }
+    {
+        match self {
+            Fault::Truncated => b"Truncated",
+            Fault::Length => b"Length",
+            Fault::Limit => b"Limit",
+            Fault::Trailing => b"Trailing",
+            Fault::Magic => b"Magic",
+            Fault::OtherBundle => b"OtherBundle",
+            Fault::InputLimit => b"InputLimit",
+            Fault::HeaderShort => b"HeaderShort",
+            Fault::Line => b"Line",
+            Fault::Missing => b"Missing",
+            Fault::KindUnknown => b"KindUnknown",
+            Fault::IdWrong => b"IdWrong",
+        }
+    }
+}
+
+impl From<HgByteFault> for Fault {
+    ghost from_gives = { λ why e. e ≡ fault_of why };
+
+    fn from(why: HgByteFault) -> Fault {
+        match why {
+            HgByteFault::Truncated => Fault::Truncated,
+            HgByteFault::Length => Fault::Length,
+            HgByteFault::Limit => Fault::Limit,
+            HgByteFault::Trailing => Fault::Trailing,
+            HgByteFault::Magic => Fault::Magic,
+            HgByteFault::OtherBundle => Fault::OtherBundle,
+            HgByteFault::InputLimit => Fault::InputLimit,
+            HgByteFault::HeaderShort => Fault::HeaderShort,
+        }
+    }
+}
+
+/// Why an input is refused.
+#[derive(Clone, Copy, Debug, PartialEq, Eq)]
+pub struct Refusal {
+    pub fault: Fault,
+    /// The revision or object of which it is refused; null where it is none's.
+    pub id: Id,
+    /// The offset in the input, or the number of a line.
+    pub place: u64,
+}
+
+/// How a run ends.
+#[derive(Clone, Copy, Debug, PartialEq, Eq)]
+pub enum Report {
+    Done,
+    Refused(Refusal),
+    Usage,
+    ReadFault,
+    WriteFault,
+    Memory,
+}
+
+impl Report {
+    /// The status that tells it.
+    pub fn status(&self) -> Status
+        ensures { result ≡ status_of (report_value self.now) }
+    {
+        match self {
+            Report::Done => Status::Done,
+            Report::Refused(_) => Status::Refused,
+            Report::Usage => Status::Usage,
+            Report::ReadFault => Status::ReadFault,
+            Report::WriteFault => Status::WriteFault,
+            Report::Memory => Status::Memory,
+        }
+    }
+}
+
+impl From<BundleFault> for Report {
+    ghost from_gives = { λ fault e. e ≡ bundle_report fault };
+
+    fn from(fault: BundleFault) -> Report {
+        match fault {
+            BundleFault::Bad { why, id, at } => refused(Fault::from(why), id, at),
+            BundleFault::Read => Report::ReadFault,
+            BundleFault::Memory => Report::Memory,
+        }
+    }
+}
+
+impl From<BatchFault> for Report {
+    ghost from_gives = { λ fault e. e ≡ stream_report fault };
+
+    fn from(fault: BatchFault) -> Report {
+        match fault {
+            BatchFault::Line(at) => refused(Fault::Line, Id::NULL, at),
+            BatchFault::Missing(at) => refused(Fault::Missing, Id::NULL, at),
+            BatchFault::KindUnknown(id, at) => refused(Fault::KindUnknown, id, at),
+            BatchFault::Limit(at) => refused(Fault::Limit, Id::NULL, at),
+            BatchFault::Truncated(at) => refused(Fault::Truncated, Id::NULL, at),
+            BatchFault::InputLimit => refused(Fault::InputLimit, Id::NULL, INPUT_LIMIT),
+            BatchFault::IdWrong(id, at) => refused(Fault::IdWrong, id, at),
+            BatchFault::Read => Report::ReadFault,
+            BatchFault::Memory => Report::Memory,
+        }
+    }
+}
+
+fn refused(fault: Fault, id: Id, place: u64) -> Report
+    ensures { result ≡ Report.Refused (record { fault = fault; id = id; place = place }) }
+{
+    Report::Refused(Refusal { fault, id, place })
+}

@@ -1,0 +1,75 @@
+// The words of a command line.
+ghost use Rattle.std.specs.Prelude.{◌≡◌, ◌++◌, ◌∷◌, [], List, ℕ, OnOk, OnErr, option_map};
+ghost use Rattle.history_model.specs.Command.{command_of};
+ghost use Rattle.bridge_cli.specs.Status.{command_value};
+
+use bridge_text::{Bytes, NoMemory};
+use std::alloc::Global;
+use std::marker::Model;
+
+/// What the program is asked to do.
+#[derive(Clone, Copy, Debug, PartialEq, Eq)]
+pub enum Command {
+    /// List the entries of a bundle.
+    ListHg,
+    /// List the objects of a stream.
+    ListGit,
+}
+
+/// The words of a command line, after the program's name.
+#[derive(Debug, Drop)]
+pub struct Words {
+    alloc: Global,
+    list: Vec<Bytes>,
+}
+
+impl Model for Words {
+    ghost Value = { List (List ℕ) };
+
+    ghost view = { λ w. w.list.items };
+}
+
+impl Words {
+    /// No words.
+    pub fn new(alloc: Global) -> Words
+        ensures { result ≡ [] }
+    {
+        Words {
+            alloc,
+            list: Vec::new(alloc),
+        }
+    }
+
+    /// Adds a word at the end. Where memory runs out, the words are as they were.
+    pub fn push(&mut self, word: &[u8]) -> Result<(), NoMemory>
+        ensures ok { OnOk result (self.new ≡ self.old ++ word.now ∷ []) }
+        ensures err { OnErr result (self.new ≡ self.old) }
+    {
+        let word = Bytes::of(self.alloc, word)?;
+        self.list.push(word)?;
+        Ok(())
+    }
+
+    /// The command that the words ask for. No words at all ask for the listing of a bundle.
+    pub fn command(&self) -> Option<Command>
+        ensures { option_map command_value result ≡ command_of self.now }
+    {
+        match self.list.as_slice() {
+            [] => Some(Command::ListHg),
+            [word] => command_named(word.as_slice()),
+            _ => None,
+        }
+    }
+}
+
+fn command_named(word: &[u8]) -> Option<Command>
+    ensures { option_map command_value result ≡ command_of (word.now ∷ []) }
+{
+    if b"list-hg".as_slice() == word {
+        return Some(Command::ListHg);
+    }
+    if b"list-git".as_slice() == word {
+        return Some(Command::ListGit);
+    }
+    None
+}

@@ -1,0 +1,13 @@
+//! Runs of the whole program, over objects in memory.
+#![tactic(auto)]
+
+#[cfg(test)]
+mod bundles;
+#[cfg(test)]
+mod outside;
+#[cfg(test)]
+mod run_over;
+#[cfg(test)]
+mod streams;
+#[cfg(test)]
+mod table;

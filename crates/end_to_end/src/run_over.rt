@@ -1,0 +1,111 @@
+// A run of the program over objects in memory.
+ghost use Rattle.std.specs.Prelude.{◌≡◌, ◌<◌};
+
+use bridge_cli::{Status, Words, run};
+use bridge_io::{MemSink, MemSlot, MemSource, Steps};
+use std::alloc::{AllocError, Global};
+use std::marker::Brand;
+use std::sync::ledger::{Blank, Ledger};
+
+/// How much an output takes, unless it is told otherwise.
+pub const ROOM: usize = 4096;
+
+/// What the outside of a run is.
+#[derive(Clone, Copy)]
+pub struct Outside<'a> {
+    pub input: &'a [u8],
+    /// The most bytes of one call of a source or a sink; 0 is no bound.
+    pub cut: usize,
+    /// The calls of the input and of the output that fail.
+    pub input_fails: &'a [u64],
+    pub output_fails: &'a [u64],
+    /// How many bytes the output takes in all.
+    pub room: usize,
+}
+
+impl<'a> Outside<'a> {
+    /// An input that comes in pieces, and an output with room.
+    pub fn of(input: &'a [u8], cut: usize) -> Outside<'a> {
+        Outside {
+            input,
+            cut,
+            input_fails: &[],
+            output_fails: &[],
+            room: ROOM,
+        }
+    }
+}
+
+/// What a run did: its status, its output and its line on the errors.
+#[derive(Drop)]
+pub struct Outcome {
+    pub status: Status,
+    pub output: Vec<u8>,
+    pub errors: Vec<u8>,
+}
+
+/// The words of a command line.
+pub fn words_of(alloc: Global, words: &[&[u8]]) -> Result<Words, AllocError> {
+    let mut list = Words::new(alloc);
+    for word in words {
+        if list.push(word).is_err() {
+            return Err(AllocError);
+        }
+    }
+    Ok(list)
+}
+
+/// Runs the command that the words ask for.
+pub fn run_over(
+    alloc: Global,
+    words: &[&[u8]],
+    outside: Outside<'_>,
+) -> Result<Outcome, AllocError> {
+    let words = words_of(alloc, words)?;
+    counted::<Brand>(alloc, &words, outside, Blank::new(1))
+}
+
+fn counted<L: Ledger>(
+    alloc: Global,
+    words: &Words,
+    outside: Outside<'_>,
+    blank: Blank,
+) -> Result<Outcome, AllocError>
+    requires name { blank.name ≡ L.name }
+    requires parts { blank.parts ≡ L.parts }
+    requires some { 0 < blank.parts }
+{
+    let mut steps = Steps::<L>::new(blank);
+    let mut input = MemSource::new(
+        outside.input.to_vec(alloc)?,
+        outside.cut,
+        outside.input_fails.to_vec(alloc)?,
+    );
+    let mut output = MemSink::new(
+        Vec::with_capacity(alloc, outside.room)?,
+        outside.room,
+        outside.cut,
+        outside.output_fails.to_vec(alloc)?,
+    );
+    let mut errors = MemSink::new(
+        Vec::with_capacity(alloc, ROOM)?,
+        ROOM,
+        outside.cut,
+        Vec::new(alloc),
+    );
+    let mut slot = MemSlot::new(None, Vec::new(alloc), 0, Vec::new(alloc));
+    let status = run(
+        alloc,
+        words,
+        &mut input,
+        &mut output,
+        &mut errors,
+        &mut slot,
+        &mut steps,
+    );
+    Ok(Outcome {
+        status,
+        output: output.bytes().to_vec(alloc)?,
+        errors: errors.bytes().to_vec(alloc)?,
+    })
+}
