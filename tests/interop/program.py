@@ -1,0 +1,85 @@
+"""Runs of the program, each in an empty folder of its own."""
+import os
+import subprocess
+import tempfile
+import threading
+from typing import List, NamedTuple
+
+SECONDS = 300
+
+
+class Answer(NamedTuple):
+    status: int
+    output: bytes
+    errors: bytes
+    left: List[str]
+
+
+def done(output=b''):
+    """The work was done."""
+    return Answer(0, output, b'', [])
+
+
+def refused(name, place, hex_id=b'0' * 40):
+    return Answer(1, b'', b'refused %s %s %d\n' % (name.encode(), hex_id, place), [])
+
+
+USAGE = Answer(2, b'', b'usage\n', [])
+READ_FAULT = Answer(3, b'', b'read fault\n', [])
+WRITE_FAULT = Answer(4, b'', b'write fault\n', [])
+
+
+class Program:
+    def __init__(self, path):
+        self.path = os.path.abspath(path)
+
+    def knows(self, word):
+        """The word is a command. An unknown one is answered as such before any input is read."""
+        return self.run([word]).status != USAGE.status
+
+    def run(self, words, data=b''):
+        """The answer to words and the bytes of an input."""
+        with tempfile.TemporaryDirectory() as folder:
+            run = subprocess.run([self.path, *words], input=data, capture_output=True, cwd=folder, timeout=SECONDS)
+            return Answer(run.returncode, run.stdout, run.stderr, os.listdir(folder))
+
+    def run_on(self, words, input=None, output=None, errors=None):
+        """The same over open files; without one the input is empty, and output and errors are taken."""
+        with tempfile.TemporaryDirectory() as folder:
+            run = subprocess.run(
+                [self.path, *words],
+                stdin=subprocess.DEVNULL if input is None else input,
+                stdout=subprocess.PIPE if output is None else output,
+                stderr=subprocess.PIPE if errors is None else errors,
+                cwd=folder, timeout=SECONDS)
+            return Answer(run.returncode, run.stdout or b'', run.stderr or b'', os.listdir(folder))
+
+    def run_without(self, words, closed, data):
+        """The same where the shell has closed one of the three standard streams first, as `1>&-`."""
+        with tempfile.TemporaryDirectory() as folder:
+            run = subprocess.run(
+                ['/bin/sh', '-c', f'exec "$0" "$@" {closed}', self.path, *words],
+                input=data, capture_output=True, cwd=folder, timeout=SECONDS)
+            return Answer(run.returncode, run.stdout, run.stderr, os.listdir(folder))
+
+    def run_stream(self, words, blocks):
+        """The same over blocks of bytes that come through a pipe and never stand in memory together."""
+        with tempfile.TemporaryDirectory() as folder:
+            run = subprocess.Popen([self.path, *words], stdin=subprocess.PIPE, stdout=subprocess.PIPE,
+                                   stderr=subprocess.PIPE, cwd=folder)
+            feeder = threading.Thread(target=_feed, args=(run.stdin, blocks))
+            feeder.start()
+            output, errors = run.stdout.read(), run.stderr.read()
+            feeder.join()
+            run.stdout.close()
+            run.stderr.close()
+            return Answer(run.wait(), output, errors, os.listdir(folder))
+
+
+def _feed(pipe, blocks):
+    try:
+        for block in blocks:
+            pipe.write(block)
+        pipe.close()
+    except BrokenPipeError:
+        pass

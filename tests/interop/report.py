@@ -1,0 +1,43 @@
+"""One line for each check, and their count."""
+
+
+class Report:
+    def __init__(self):
+        self.passed = 0
+        self.failed = 0
+
+    def check(self, name, got, wanted):
+        """Passes where both are equal."""
+        self.verdict(name, got == wanted, '' if got == wanted else _difference(got, wanted))
+
+    def verdict(self, name, holds, why=''):
+        if holds:
+            self.passed += 1
+            print(f'ok       {name}', flush=True)
+        else:
+            self.failed += 1
+            print(f'FAILED   {name}: {why}', flush=True)
+
+    def not_yet(self, name):
+        """The program has no such command yet."""
+        print(f'not yet  {name}', flush=True)
+
+    def skipped(self, name, why):
+        print(f'skipped  {name}: {why}', flush=True)
+
+    def finish(self):
+        """Prints the count and gives the exit status."""
+        print(f'{self.passed} passed, {self.failed} failed')
+        return 1 if self.failed else 0
+
+
+def _difference(got, wanted):
+    if isinstance(got, list) and isinstance(wanted, list) and len(got) == len(wanted):
+        place = next(i for i, pair in enumerate(zip(got, wanted)) if pair[0] != pair[1])
+        return f'at {place} {_difference(got[place], wanted[place])}'
+    return f'got {_short(got)}, wanted {_short(wanted)}'
+
+
+def _short(value):
+    text = repr(value)
+    return text if len(text) <= 400 else f'{text[:300]}.. ({len(text)} characters)'

@@ -1,0 +1,1 @@
+"""The formats of both sides, written plainly: for tests, benchmarks and examples."""

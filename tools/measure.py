@@ -1,0 +1,75 @@
+"""Measures commands beside each other: elapsed time, processor time and peak memory."""
+import multiprocessing
+import os
+import subprocess
+import time
+from typing import Dict, List, NamedTuple
+
+ROUNDS = 3
+MB = 1 << 20
+
+
+class Run(NamedTuple):
+    """Seconds, seconds of the processor, and bytes."""
+    elapsed: float
+    processor: float
+    peak: int
+
+
+def knows(program, word):
+    """The word is a command of the program."""
+    return subprocess.run([program, word], stdin=subprocess.DEVNULL, capture_output=True).returncode != 2
+
+
+def apart(work, *args):
+    """Does work in a process of its own, since a measured child starts with the peak memory of its parent."""
+    process = multiprocessing.get_context('fork').Process(target=work, args=args)
+    process.start()
+    process.join()
+    if process.exitcode:
+        raise RuntimeError(f'{work.__name__} failed')
+
+
+def run_once(words, path, output=os.devnull):
+    """Runs a command over a file as its input; it must end with status 0."""
+    with open(path, 'rb') as source, open(output, 'wb') as sink:
+        start = time.perf_counter()
+        child = subprocess.Popen(words, stdin=source, stdout=sink)
+        _, status, usage = os.wait4(child.pid, 0)
+        elapsed = time.perf_counter() - start
+    child.returncode = os.waitstatus_to_exitcode(status)
+    if child.returncode:
+        raise RuntimeError(f'{words} ended with {child.returncode}')
+    return Run(elapsed, usage.ru_utime + usage.ru_stime, usage.ru_maxrss * 1024)
+
+
+def best_runs(commands: Dict[str, List], rounds=ROUNDS) -> Dict[str, Run]:
+    """For each named pair of words and input file the best times of some runs; the commands take turns."""
+    runs = {name: [] for name in commands}
+    for _ in range(rounds):
+        for name, (words, path) in commands.items():
+            runs[name].append(run_once(words, path))
+    return {name: best_of(some) for name, some in runs.items()}
+
+
+def best_of(runs):
+    return Run(min(r.elapsed for r in runs), min(r.processor for r in runs), max(r.peak for r in runs))
+
+
+def print_table(title, size, runs):
+    """The runs over inputs of this many bytes; speed is by processor time, as the machine may be busy."""
+    print(title)
+    print(f'  {"":24}{"elapsed":>10}{"processor":>12}{"speed":>12}{"peak":>10}')
+    for name, run in runs.items():
+        speed = size / MB / max(run.processor, 0.001)
+        print(f'  {name:24}{run.elapsed:8.2f} s{run.processor:10.2f} s{speed:7.0f} MB/s{run.peak / MB:7.0f} MB')
+
+
+class Verdicts:
+    def __init__(self):
+        self.status = 0
+
+    def check(self, text, holds):
+        print(('ok       ' if holds else 'FAILED   ') + text, flush=True)
+        if not holds:
+            self.status = 1
