@@ -16,11 +16,6 @@ class Run(NamedTuple):
     peak: int
 
 
-def knows(program, word):
-    """The word is a command of the program."""
-    return subprocess.run([program, word], stdin=subprocess.DEVNULL, capture_output=True).returncode != 2
-
-
 def apart(work, *args):
     """Does work in a process of its own, since a measured child starts with the peak memory of its parent."""
     process = multiprocessing.get_context('fork').Process(target=work, args=args)

@@ -1,7 +1,7 @@
 """The commands by their words, what they come to, and what is printed of a run."""
 from antt.values import Con
-from checks import ONE, just, refusal
-from formats import hg
+from checks import NULL, ONE, just, refusal
+from formats import git, hg
 
 ZEROS = b'0' * 40
 
@@ -11,6 +11,9 @@ def check(checks):
     checks.table('history_model.Command.command_of', [
         ('no words list a bundle', ([],), listing),
         ('the word of the listing', ([b'list-hg'],), listing),
+        ('the check of a bundle', ([b'check-hg'],), just(Con('CheckHg'))),
+        ('the listing of a stream', ([b'list-git'],), just(Con('ListGit'))),
+        ('the check of a stream', ([b'check-git'],), just(Con('CheckGit'))),
         ('an unknown word', ([b'frob'],), None),
         ('an option', ([b'--help'],), None),
         ('a word in capitals', ([b'LIST-HG'],), None),
@@ -24,6 +27,7 @@ def check(checks):
         ('an entry is listed', (Con('ListHg'), hg.bundle([entry])), Con('Written', (line,))),
         ('an empty input is refused', (Con('ListHg'), b''), Con('Refused', (refusal('Truncated', 0),))),
     ])
+    check_counts(checks)
     checks.table('history_model.Run.report_line', [
         ('nothing is said where the work was done', (Con('Done'),), b''),
         ('a refusal', (Con('IsRefused', (refusal('Trailing', 18),)),), b'refused Trailing ' + ZEROS + b' 18\n'),
@@ -32,4 +36,23 @@ def check(checks):
         ('a failed read', (Con('ReadFault'),), b'read fault\n'),
         ('a failed write', (Con('WriteFault'),), b'write fault\n'),
         ('want of memory', (Con('Memory'),), b'no memory\n'),
+    ])
+
+
+def check_counts(checks):
+    text = b'0' * 40 + b'\nann\n0 0\n\none'
+    node, file = hg.node_id(NULL, NULL, text), hg.node_id(NULL, NULL, b'')
+    changeset = hg.entry(node, NULL, NULL, node, hg.whole_delta(0, text))
+    files = [(path, [hg.entry(file, NULL, NULL, node, b'')]) for path in (b'a', b'b')]
+    blob = git.stream_object(b'blob', b'hello\n')
+    wrong = hg.bundle([hg.entry(ONE, NULL, NULL, ONE, b'')])
+    checks.table('history_model.Command.outcome_of', [
+        ('the least bundle has no revisions', (Con('CheckHg'), hg.bundle()), Con('Written', (b'changesets 0\nmanifests 0\nfiles 0\n',))),
+        ('revisions are counted by their kinds', (Con('CheckHg'), hg.bundle([changeset], [], files)),
+         Con('Written', (b'changesets 1\nmanifests 0\nfiles 2\n',))),
+        ('a revision with another node is refused', (Con('CheckHg'), wrong), Con('Refused', (refusal('NodeWrong', 6, ONE),))),
+        ('an empty stream has no objects', (Con('CheckGit'), b''), Con('Written', (b'commits 0\ntrees 0\nblobs 0\ntags 0\n',))),
+        ('an object that comes twice is counted twice', (Con('CheckGit'), blob + blob + git.stream_object(b'tree', b'')),
+         Con('Written', (b'commits 0\ntrees 1\nblobs 2\ntags 0\n',))),
+        ('a missing object is refused', (Con('CheckGit'), blob + b'x missing\n'), Con('Refused', (refusal('Missing', len(blob)),))),
     ])

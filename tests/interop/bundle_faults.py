@@ -12,8 +12,6 @@ SUM_LIMIT = 1 << 30
 
 
 def check(report, program):
-    if not program.knows('check-hg'):
-        return report.not_yet('check-hg refuses what it has to')
     for name, data, answer in accepted() + bad_ancestry() + bad_hunks() + bad_texts() + collisions() + over_limits():
         report.check(f'check-hg: {name}', program.run(['check-hg'], data), answer)
 

@@ -4,7 +4,7 @@ import tempfile
 
 from formats import git as streams
 from formats import hg as bundles
-from program import done
+from program import done, refused
 from tools import git, hg, read, write
 
 EXAMPLES = os.path.join(os.path.dirname(os.path.abspath(__file__)), '..', '..', 'examples')
@@ -16,6 +16,12 @@ def check(report, program):
     report.check('examples: the bundle is that of the formats', bundle, example_bundle())
     report.check('examples: the stream is that of the formats', read(EXAMPLES, 'one-changeset.git'), example_stream())
     report.check('examples: the bundle is listed', program.run(['list-hg'], bundle), done(listing))
+    report.check('examples: the bundle is checked', program.run(['check-hg'], bundle), done(b'changesets 1\nmanifests 1\nfiles 1\n'))
+    report.check('examples: the stream is checked', program.run(['check-git'], example_stream()),
+                 done(b'commits 1\ntrees 1\nblobs 1\ntags 0\n'))
+    node = bundles.node_id(bundles.NULL, bundles.NULL, BODY).hex().encode()
+    report.check('examples: a changed body is another node', program.run(['check-hg'], bundle.replace(b'hello', b'hallo')),
+                 refused('NodeWrong', 317, node))
 
 
 def check_hg(report):

@@ -33,10 +33,6 @@ class Program:
     def __init__(self, path):
         self.path = os.path.abspath(path)
 
-    def knows(self, word):
-        """The word is a command. An unknown one is answered as such before any input is read."""
-        return self.run([word]).status != USAGE.status
-
     def run(self, words, data=b''):
         """The answer to words and the bytes of an input."""
         with tempfile.TemporaryDirectory() as folder:

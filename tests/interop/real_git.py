@@ -13,22 +13,14 @@ WORDS = ('list-git', 'check-git')
 
 
 def check(report, program):
-    for word in WORDS:
-        if not program.knows(word):
-            report.not_yet(f'{word} on a stream of the real git')
-    known = [word for word in WORDS if program.knows(word)]
-    if not known:
-        return
     with tempfile.TemporaryDirectory() as folder:
         make_repository(folder)
         check_shape(report, folder)
         ids = object_ids(folder)
         data = git(folder, 'cat-file', '--batch', data=ids)
-        if 'list-git' in known:
-            check_listing(report, program, folder, ids, data)
-        if 'check-git' in known:
-            check_contents(report, program, folder, ids, data)
-        for word in known:
+        check_listing(report, program, folder, ids, data)
+        check_contents(report, program, folder, ids, data)
+        for word in WORDS:
             check_missing(report, program, folder, word, data)
             check_cuts(report, program, word, data)
 

@@ -132,8 +132,6 @@ def check_types(report, program, folder):
 
 
 def check_contents(report, program, data):
-    if not program.knows('check-hg'):
-        return report.not_yet('check-hg on a bundle of the real hg')
     entries = bundles.entries_of(data)
     counts = b''.join(b'%s %d\n' % (plural, sum(e.group.split()[0] == kind for e in entries)) for kind, plural in
                       ((b'changeset', b'changesets'), (b'manifest', b'manifests'), (b'file', b'files')))

@@ -18,10 +18,6 @@ class Report:
             self.failed += 1
             print(f'FAILED   {name}: {why}', flush=True)
 
-    def not_yet(self, name):
-        """The program has no such command yet."""
-        print(f'not yet  {name}', flush=True)
-
     def skipped(self, name, why):
         print(f'skipped  {name}: {why}', flush=True)
 

@@ -3,7 +3,7 @@ use Rattle.std.specs.Prelude.{◌≡◌, List, Option, Some, IfSome, ⊤}
 use Rattle.std.specs.Io.KnownBytes.{Appends, IsAtEnd}
 use Rattle.text_model.specs.Text.{Bytes}
 use Rattle.bridge_io.specs.Sink.{AppendsPrefix}
-use Rattle.history_model.specs.Command.{Command, Outcome, Written, Refused, command_of, outcome_of}
+use Rattle.history_model.specs.Command.{Command, Written, Refused, command_of, outcome_of}
 use Rattle.history_model.specs.Run.{Report, Done, IsRefused, Usage, ReadFault, WriteFault, Memory}
 
 -- The report is what the command comes to over the input, where the input tells its bytes: an output that was taken whole with the input

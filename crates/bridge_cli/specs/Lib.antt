@@ -1,4 +1,7 @@
+pub mod Counts
 pub mod Ends
+pub mod Format
+pub mod Makes
 pub mod Outside
 pub mod Report
 pub mod Status

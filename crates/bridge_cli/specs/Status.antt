@@ -1,15 +1,17 @@
 -- The statuses and commands of the code, as those of the definitions.
-use Rattle.std.specs.Prelude.{◌≡◌, ℕ}
+use Rattle.std.specs.Prelude.{ℕ}
 use Rattle.history_model.specs.Command as command
 use Rattle.history_model.specs.Run as report
 use Rattle.bridge_cli.specs.declared.status.Status.{Status}
 use Rattle.bridge_cli.specs.declared.status.Status.TheVariants.{Done, Refused, Usage, ReadFault, WriteFault, SlotFault, StateBad, Memory, Mismatch}
 use Rattle.bridge_cli.specs.declared.words.Command.{Command}
-use Rattle.bridge_cli.specs.declared.words.Command.TheVariants.{ListHg, ListGit}
+use Rattle.bridge_cli.specs.declared.words.Command.TheVariants.{ListHg, CheckHg, ListGit, CheckGit}
 
 abbrev pub command_value : Command → command.Command
 command_value ListHg = command.ListHg
+command_value CheckHg = command.CheckHg
 command_value ListGit = command.ListGit
+command_value CheckGit = command.CheckGit
 
 -- the exit status of the program
 abbrev pub code_of : Status → ℕ

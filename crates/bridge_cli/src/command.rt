@@ -10,6 +10,7 @@ ghost use Rattle.bridge_cli.specs.Report.{report_value};
 ghost use Rattle.bridge_cli.specs.Status.{command_value, status_of};
 
 use crate::line::line_of;
+use crate::output::output_of;
 use crate::report::Report;
 use crate::status::Status;
 use crate::words::{Command, Words};
@@ -73,38 +74,9 @@ fn perform<I: Source, O: Sink>(
     ensures output { OutputCause (O.faults output.old) (O.faults output.new) (status_of (report_value result)) }
     ensures unwritten { result ≢ Report.Done → result ≢ Report.WriteFault → output.new ≡ output.old }
 {
-    match command {
-        Command::ListHg => list_hg(alloc, input, output),
-        Command::ListGit => list_git(alloc, input, output),
-    }
-}
-
-// Lists the entries of the bundle that the input is.
-fn list_hg<I: Source, O: Sink>(alloc: Global, input: &mut I, output: &mut O) -> Report
-    ensures ends { EndsBy model.ListHg (I.left input.old) (I.left input.new) (O.taken output.old) (O.taken output.new) (report_value result) }
-    ensures bundle { ListingEnds (I.left input.old) (O.taken output.old) (O.taken output.new) (status_of (report_value result)) }
-    ensures input { InputCause (I.faults input.old) (I.faults input.new) (status_of (report_value result)) }
-    ensures output { OutputCause (O.faults output.old) (O.faults output.new) (status_of (report_value result)) }
-    ensures unwritten { result ≢ Report.Done → result ≢ Report.WriteFault → output.new ≡ output.old }
-{
-    let mut lines = Vec::new(alloc);
-    match hg_bundle::list(alloc, input, &mut lines) {
-        Ok(()) => write_out(output, &lines),
-        Err(fault) => Report::from(fault),
-    }
-}
-
-// Lists the objects of the stream that the input is.
-fn list_git<I: Source, O: Sink>(alloc: Global, input: &mut I, output: &mut O) -> Report
-    ensures ends { EndsBy model.ListGit (I.left input.old) (I.left input.new) (O.taken output.old) (O.taken output.new) (report_value result) }
-    ensures input { InputCause (I.faults input.old) (I.faults input.new) (status_of (report_value result)) }
-    ensures output { OutputCause (O.faults output.old) (O.faults output.new) (status_of (report_value result)) }
-    ensures unwritten { result ≢ Report.Done → result ≢ Report.WriteFault → output.new ≡ output.old }
-{
-    let mut lines = Vec::new(alloc);
-    match git_batch::list(alloc, input, &mut lines) {
-        Ok(()) => write_out(output, &lines),
-        Err(fault) => Report::from(fault),
+    match output_of(alloc, command, input) {
+        Ok(bytes) => write_out(output, &bytes),
+        Err(report) => report,
     }
 }
 

@@ -2,7 +2,10 @@
 #![tactic(auto)]
 
 mod command;
+mod counts;
+mod law;
 mod line;
+mod output;
 mod report;
 mod status;
 #[cfg(test)]
@@ -10,5 +13,6 @@ mod tests;
 mod words;
 
 pub use command::run;
+pub use law::outcomes_of_streams;
 pub use status::Status;
 pub use words::Words;

@@ -12,8 +12,12 @@ use std::marker::Model;
 pub enum Command {
     /// List the entries of a bundle.
     ListHg,
+    /// Check a bundle and count its entries.
+    CheckHg,
     /// List the objects of a stream.
     ListGit,
+    /// Check a stream and count its objects.
+    CheckGit,
 }
 
 /// The words of a command line, after the program's name.
@@ -68,8 +72,14 @@ fn command_named(word: &[u8]) -> Option<Command>
     if b"list-hg".as_slice() == word {
         return Some(Command::ListHg);
     }
+    if b"check-hg".as_slice() == word {
+        return Some(Command::CheckHg);
+    }
     if b"list-git".as_slice() == word {
         return Some(Command::ListGit);
+    }
+    if b"check-git".as_slice() == word {
+        return Some(Command::CheckGit);
     }
     None
 }

@@ -1,9 +1,8 @@
-ghost use Rattle.std.specs.Prelude.{◌≡◌};
+ghost use Rattle.std.specs.Prelude.{◌≡◌, ◌<◌, true};
 ghost use Rattle.std.specs.List.{list_all};
-ghost use Rattle.text_model.specs.Id.{IsId, is_null, hex, is_hex_id, is_lower_digit, id_of_hex};
+ghost use Rattle.text_model.specs.Id.{IsId, is_null, hex, is_hex_id, is_lower_digit, digit_value, bytes_of_digits, id_of_hex};
 
 use crate::bytes::each_is_byte;
-use hex::FromHex;
 use std::marker::Model;
 
 /// The id of a Mercurial revision (its node) or of a Git object: the 20 bytes of a SHA-1.
@@ -66,12 +65,34 @@ impl Id {
     pub fn from_hex(text: &[u8]) -> Option<Id>
         ensures { result ≡ id_of_hex text.now }
     {
-        if !is_hex_id(text) {
-            return None;
+        if is_hex_id(text) {
+            Some(Id::new(bytes_of_digits(text)))
+        } else {
+            None
         }
-        let bytes = <[u8; 20] as FromHex>::from_hex(text).ok()?;
-        Some(Id::new(bytes))
     }
+}
+
+// The bytes that pairs of lower case digits name.
+fn bytes_of_digits(text: &[u8]) -> [u8; 20]
+    requires { is_hex_id text.now ≡ true }
+    ensures { result ≡ bytes_of_digits text.now }
+{
+    let mut bytes = [0; 20];
+    for i in 0..20 {
+        bytes[i] = digit_value(text[2 * i]) * 16 + digit_value(text[2 * i + 1]);
+    }
+    bytes
+}
+
+// The value of a lower case digit. It is computed without a branch: the digits of ids are random, and a branch that is
+// guessed wrong costs more than all else here.
+fn digit_value(digit: u8) -> u8
+    requires { is_lower_digit digit ≡ true }
+    ensures value { result ≡ digit_value digit }
+    ensures small { result < 16 }
+{
+    digit % 16 + 9 * (digit / 64)
 }
 
 fn is_hex_id(text: &[u8]) -> bool

@@ -1,37 +1,14 @@
-// The listing of bundles.
+// The listing and the checking of bundles.
+use crate::inputs::{
+    CHANGED_HUNKS, EMPTY_FILE, LEAST, MARKED_BODY, ODD_PATH, ONE_CHANGESET, ONE_ENTRY, ORPHANED,
+    SWAPPED_PARENTS,
+};
 use crate::table::{check, done, refused, usage};
 use std::test::Fail;
 
-// No entries: the magic and three empty chunks.
-const LEAST: &[u8] = b"HG10UN\0\0\0\0\0\0\0\0\0\0\0\0";
-
-// One changeset without a delta, whose node and link node are twenty bytes 0x11.
-const ONE_ENTRY: &[u8] = b"HG10UN\0\0\0T\
-    \x11\x11\x11\x11\x11\x11\x11\x11\x11\x11\x11\x11\x11\x11\x11\x11\x11\x11\x11\x11\
-    \0\0\0\0\0\0\0\0\0\0\0\0\0\0\0\0\0\0\0\0\0\0\0\0\0\0\0\0\0\0\0\0\0\0\0\0\0\0\0\0\
-    \x11\x11\x11\x11\x11\x11\x11\x11\x11\x11\x11\x11\x11\x11\x11\x11\x11\x11\x11\x11\
-    \0\0\0\0\0\0\0\0\0\0\0\0";
-
-// The same revision, as one of a file whose path has bytes that are escaped.
-const ODD_PATH: &[u8] = b"HG10UN\0\0\0\0\0\0\0\0\0\0\0\x09a b%\\\0\0\0T\
-    \x11\x11\x11\x11\x11\x11\x11\x11\x11\x11\x11\x11\x11\x11\x11\x11\x11\x11\x11\x11\
-    \0\0\0\0\0\0\0\0\0\0\0\0\0\0\0\0\0\0\0\0\0\0\0\0\0\0\0\0\0\0\0\0\0\0\0\0\0\0\0\0\
-    \x11\x11\x11\x11\x11\x11\x11\x11\x11\x11\x11\x11\x11\x11\x11\x11\x11\x11\x11\x11\
-    \0\0\0\0\0\0\0\0";
-
-// One changeset that adds the file `a` with one line.
-const ONE_CHANGESET: &[u8] =
-    b"HG10UN\0\0\0\x9f\xa4\xeaK\x98z&~\x07\xd9\xe0\xd3v&\xd8\xca\x85\x09\x81Kv\0\0\0\0\0\0\0\0\0\0\0\0\0\0\
-    \0\0\0\0\0\0\0\0\0\0\0\0\0\0\0\0\0\0\0\0\0\0\0\0\0\0\xa4\xeaK\x98z&~\x07\xd9\xe0\xd3v&\xd8\xca\x85\
-    \x09\x81Kv\0\0\0\0\0\0\0\0\0\0\0?d51f7835c8978f5a11f9a33e09d3852ff4979e7c\nAnn <ann@x>\n0 0\na\n\non\
-    e\0\0\0\0\0\0\0\x8b\xd5\x1fx5\xc8\x97\x8fZ\x11\xf9\xa3>\x09\xd3\x85/\xf4\x97\x9e|\0\0\0\0\0\0\0\0\0\
-    \0\0\0\0\0\0\0\0\0\0\0\0\0\0\0\0\0\0\0\0\0\0\0\0\0\0\0\0\0\0\0\xa4\xeaK\x98z&~\x07\xd9\xe0\xd3v&\xd8\
-    \xca\x85\x09\x81Kv\0\0\0\0\0\0\0\0\0\0\0+a\02c186c8c5bc0df5af5b951afe407d803f9e6b8c9\n\0\0\0\0\0\0\0\
-    \x05a\0\0\0f,\x18l\x8c[\xc0\xdfZ\xf5\xb9Q\xaf\xe4\x07\xd8\x03\xf9\xe6\xb8\xc9\0\0\0\0\0\0\0\0\0\0\0\
-    \0\0\0\0\0\0\0\0\0\0\0\0\0\0\0\0\0\0\0\0\0\0\0\0\0\0\0\0\0\xa4\xeaK\x98z&~\x07\xd9\xe0\xd3v&\xd8\xca\
-    \x85\x09\x81Kv\0\0\0\0\0\0\0\0\0\0\0\x06hello\n\0\0\0\0\0\0\0\0";
-
 const LIST_HG: &[&[u8]] = &[b"list-hg"];
+
+const CHECK_HG: &[&[u8]] = &[b"check-hg"];
 
 #[test]
 fn bundles_are_listed(rt: HostRuntime) -> Result<(), Fail> {
@@ -125,6 +102,56 @@ fn what_is_no_bundle_is_refused(rt: HostRuntime) -> Result<(), Fail> {
                 LIST_HG,
                 b"HG10UN\0\0\0\0\0\0\0\0\0\0\0\0\0",
                 b"refused Trailing 0000000000000000000000000000000000000000 18\n",
+            ),
+        ],
+    )
+}
+
+#[test]
+fn bundles_are_checked(rt: HostRuntime) -> Result<(), Fail> {
+    check(
+        &rt,
+        &[
+            done(CHECK_HG, LEAST, b"changesets 0\nmanifests 0\nfiles 0\n"),
+            done(
+                CHECK_HG,
+                ONE_CHANGESET,
+                b"changesets 1\nmanifests 1\nfiles 1\n",
+            ),
+            done(
+                CHECK_HG,
+                EMPTY_FILE,
+                b"changesets 1\nmanifests 1\nfiles 1\n",
+            ),
+            done(
+                CHECK_HG,
+                MARKED_BODY,
+                b"changesets 1\nmanifests 1\nfiles 1\n",
+            ),
+            refused(
+                CHECK_HG,
+                ONE_ENTRY,
+                b"refused NodeWrong 1111111111111111111111111111111111111111 6\n",
+            ),
+            refused(
+                CHECK_HG,
+                ODD_PATH,
+                b"refused LinkUnknown 1111111111111111111111111111111111111111 23\n",
+            ),
+            refused(
+                CHECK_HG,
+                ORPHANED,
+                b"refused ParentUnknown 9b71ae143605c7f3fecf53026620b693f053e1bd 6\n",
+            ),
+            refused(
+                CHECK_HG,
+                SWAPPED_PARENTS,
+                b"refused Collision aa789cf29dd7477773d8419cab97c44565deb434 475\n",
+            ),
+            refused(
+                CHECK_HG,
+                CHANGED_HUNKS,
+                b"refused HunkRange 5233c814c9a56ccc941e5f00f450e6b93a8eb484 517\n",
             ),
         ],
     )

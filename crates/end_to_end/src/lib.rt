@@ -4,6 +4,8 @@
 #[cfg(test)]
 mod bundles;
 #[cfg(test)]
+mod inputs;
+#[cfg(test)]
 mod outside;
 #[cfg(test)]
 mod run_over;

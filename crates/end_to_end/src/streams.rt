@@ -1,4 +1,4 @@
-// The listing of streams.
+// The listing and the checking of streams.
 use crate::table::{check, done, refused};
 use std::test::Fail;
 
@@ -10,6 +10,8 @@ const ONE_COMMIT: &[u8] =
     hor Ann <ann@x> 0 +0000\ncommitter Ann <ann@x> 0 +0000\n\none\n\n";
 
 const LIST_GIT: &[&[u8]] = &[b"list-git"];
+
+const CHECK_GIT: &[&[u8]] = &[b"check-git"];
 
 #[test]
 fn streams_are_listed(rt: HostRuntime) -> Result<(), Fail> {
@@ -72,6 +74,73 @@ fn what_is_no_stream_is_refused(rt: HostRuntime) -> Result<(), Fail> {
                 LIST_GIT,
                 b"ce013625030ba8dba906f756967f9e9ca394464a blob 6\nhello\n!",
                 b"refused Line 0000000000000000000000000000000000000000 54\n",
+            ),
+        ],
+    )
+}
+
+#[test]
+fn streams_are_checked(rt: HostRuntime) -> Result<(), Fail> {
+    check(
+        &rt,
+        &[
+            done(CHECK_GIT, b"", b"commits 0\ntrees 0\nblobs 0\ntags 0\n"),
+            done(
+                CHECK_GIT,
+                ONE_COMMIT,
+                b"commits 1\ntrees 1\nblobs 1\ntags 0\n",
+            ),
+            refused(
+                CHECK_GIT,
+                b"x missing\n",
+                b"refused Missing 0000000000000000000000000000000000000000 0\n",
+            ),
+            refused(
+                CHECK_GIT,
+                b"c1b0730e0133447badcfd47fd144e254807b06e1 blob 06\nxxxxxx\n",
+                b"refused Line 0000000000000000000000000000000000000000 0\n",
+            ),
+            refused(
+                CHECK_GIT,
+                b"c1b0730e0133447badcfd47fd144e254807b06e1 blub 1\nx\n",
+                b"refused KindUnknown c1b0730e0133447badcfd47fd144e254807b06e1 0\n",
+            ),
+            refused(
+                CHECK_GIT,
+                b"e25f1814e51579d5f55c0f1fe0135ddb28a47f4a blob 1\ny\nc1b0730e0133447badcfd47fd144\
+                e254807b06e1 blob 1\nz\n",
+                b"refused IdWrong c1b0730e0133447badcfd47fd144e254807b06e1 50\n",
+            ),
+            refused(
+                CHECK_GIT,
+                b"ae1263c55e9a6f6ec1d88c495426aa7c3b9da37e tree 31\n160000 lib\0\"\"\"\"\"\"\"\"\"\
+                \"\"\"\"\"\"\"\"\"\"\"\n",
+                b"refused ModeOut ae1263c55e9a6f6ec1d88c495426aa7c3b9da37e 0\n",
+            ),
+            refused(
+                CHECK_GIT,
+                b"6ffd96c0e54255f1418482b2158270c314f2ab0f tree 88\n100644 a\0\"\"\"\"\"\"\"\"\"\"\
+                \"\"\"\"\"\"\"\"\"\"100644 a.b\0\"\"\"\"\"\"\"\"\"\"\"\"\"\"\"\"\"\"\"\"40000 a\
+                \0\"\"\"\"\"\"\"\"\"\"\"\"\"\"\"\"\"\"\"\"\n",
+                b"refused ObjectShape 6ffd96c0e54255f1418482b2158270c314f2ab0f 0\n",
+            ),
+            refused(
+                CHECK_GIT,
+                b"9cbdb63bb9a2bad06898a06c69052fa5a389a490 tree 32\n100644 .git\0\"\"\"\"\"\"\"\"\
+                \"\"\"\"\"\"\"\"\"\"\"\"\n",
+                b"refused NameUnfit 9cbdb63bb9a2bad06898a06c69052fa5a389a490 0\n",
+            ),
+            refused(
+                CHECK_GIT,
+                b"f0abe8ab57437183b2f0ddebb1a34c38bdcde346 commit 67\ntree 0976950c1fdbcb52435a433\
+                913017bf044b3a58f\nauthor x\ncommitter y\n\n",
+                b"refused ObjectShape f0abe8ab57437183b2f0ddebb1a34c38bdcde346 0\n",
+            ),
+            refused(
+                CHECK_GIT,
+                b"d4cd71476e8a8c921894effd14ee8af3d849db28 tag 96\nobject fb8491d27293299d60032656\
+                7e91d35289f99b8d\ntype blub\ntag v1\ntagger Ann <ann@x> 0 +0000\n\nv1\n\n",
+                b"refused ObjectShape d4cd71476e8a8c921894effd14ee8af3d849db28 0\n",
             ),
         ],
     )

@@ -1,11 +1,11 @@
 -- How far a listing has come.
-use Rattle.std.proofs.Common.{◌≡◌, ℕ, zero, suc, ◌+◌, ◌≤◌, List, [], ◌∷◌, ◌++◌, length, Option, None, Some, IfSome, refl, sym, ap, ◌∙◌, subst, arith, append_assoc, append-nil, length-append, decimal}
+use Rattle.std.proofs.Common.{◌≡◌, ℕ, zero, suc, ◌+◌, ◌≤◌, [], ◌∷◌, ◌++◌, length, Option, None, Some, IfSome, refl, sym, ap, ◌∙◌, subst, arith, append_assoc, append-nil, length-append, decimal}
 use Rattle.std.specs.Io.KnownBytes.{Consumes}
 use Rattle.text_model.specs.Text.{Bytes, line, spaced}
 use Rattle.text_model.specs.Id.{hex, kind_word}
 use Rattle.text_model.specs.Fault.{Refusal}
 use Rattle.git_model.specs.Object.{Object}
-use Rattle.git_model.specs.Stream.{object_text, Placed, StreamFraming, object_reading, ObjectReading, NoObject, Found, BadObject, stream_from, stream_framing, stream_listing, object_line, put_placed}
+use Rattle.git_model.specs.Stream.{object_text, StreamFraming, object_reading, ObjectReading, NoObject, Found, BadObject, stream_from, stream_framing, stream_listing, object_line}
 use Rattle.git_model.proofs.StreamLemmas.{stream_refused, stream_item, stream_end}
 use Rattle.git_batch.specs.declared.fault.BatchFault.{BatchFault}
 use Rattle.git_batch.specs.declared.fault.BatchFault.TheVariants as batch

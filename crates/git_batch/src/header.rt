@@ -16,6 +16,7 @@ use bridge_text::{Id, Kind, cut_at, decimal_of};
 pub struct Header {
     /// The id that it names.
     pub id: Id,
+    /// The kind that it names.
     pub kind: Kind,
     /// How many bytes the content has.
     pub size: usize,

@@ -1,21 +1,18 @@
 -- The content of a commit, line by line.
-use Rattle.std.proofs.Common.{◌≡◌, ◌≢◌, ◌<◌, ◌≤◌, ◌+◌, ◌-◌, ◌==◌, ℕ, true, false, List, [], ◌∷◌, ◌++◌, length, take, drop, Option, Some, None, codes, refl, sym, ap, subst, ◌∙◌, arith, append_assoc, append-nil, length-append}
-use Rattle.std.specs.Prelude.{if◌then◌else◌}
+use Rattle.std.proofs.Common.{◌≡◌, ◌≢◌, ℕ, false, List, [], ◌∷◌, ◌++◌, length, take, drop, None, codes, refl, ap, subst, ◌∙◌, arith, append_assoc}
 use Rattle.std.specs.List.{flat_map}
-use Rattle.std.proofs.lemmas.List.{take_at, drop_at}
+use Rattle.std.proofs.lemmas.List.{take_at}
 use Rattle.text_model.specs.Lists.{Each}
 use Rattle.text_model.specs.Text.{Bytes, IsBytes, lf, line, has_byte, whole_lines}
 use Rattle.text_model.specs.Id.{Id, IsId, hex, bytes_of_digits}
-use Rattle.text_model.specs.Cuts.{Lacks, cut_of}
+use Rattle.text_model.specs.Cuts.{Lacks}
 use Rattle.text_model.proofs.TestLemmas.{differs}
-use Rattle.text_model.proofs.CutLemmas.{cut_of-at}
 use Rattle.text_model.proofs.LackLemmas.{Lacks-by_test, Lacks-append}
-use Rattle.text_model.proofs.HexLemmas.{length-hex, hex-injective, hex-lacks}
+use Rattle.text_model.proofs.HexLemmas.{length-hex, hex-lacks}
 use Rattle.text_model.proofs.LineLemmas.{whole_lines-line}
-use Rattle.git_model.specs.Commit.{Commit, commit_text, parent_line, AreHeaders, IsCommit, IsCommitText, begins, next_place, commit_fault, leading_parents, parent_ids}
-use Rattle.git_model.proofs.OptionLemmas.{some_is}
+use Rattle.git_model.specs.Commit.{Commit, commit_text, parent_line, AreHeaders, IsCommitText, next_place, commit_fault, leading_parents, parent_ids}
 use Rattle.git_model.proofs.PlaceLemmas.{Reached, reached_start, reached_line, reached_end}
-use Rattle.git_model.proofs.WordLemmas.{begins-word, is_id_line-hex, bytes_of_digits-hex}
+use Rattle.git_model.proofs.WordLemmas.{is_id_line-hex, bytes_of_digits-hex}
 
 -- what the definition says of the content is what it says of the rest at this place
 abbrev pub At : Bytes → ℕ → Bytes → Type 0

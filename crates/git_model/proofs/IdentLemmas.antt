@@ -1,20 +1,17 @@
 -- A line has an ident exactly where it is the line of one.
-use Rattle.std.proofs.Common.{◌≡◌, ◌≢◌, ◌<◌, ◌≤◌, ◌+◌, ◌-◌, ◌^◌, ◌==◌, ℕ, Bool, true, false, not, List, [], ◌∷◌, ◌++◌, length, take, drop, Option, Some, None, decimal, refl, sym, ap, subst, ◌∙◌, arith, append_assoc, eqb, eqb-true, eq-eqb, true≢false, take-append-drop}
-use Rattle.std.specs.Prelude.{◌&&◌, ◌||◌, if◌then◌else◌, nat_le}
+use Rattle.std.proofs.Common.{◌≡◌, ◌≢◌, ◌<◌, ◌≤◌, ◌+◌, ◌-◌, ◌^◌, ◌==◌, ℕ, Bool, true, false, not, [], ◌∷◌, ◌++◌, length, take, drop, Option, Some, None, decimal, refl, sym, ap, subst, ◌∙◌, arith, append_assoc, eqb-true, eq-eqb, true≢false, take-append-drop}
+use Rattle.std.specs.Prelude.{◌&&◌, ◌||◌}
 use Rattle.std.specs.List.{list_all, ends_with}
-use Rattle.std.specs.Option.{option_and_then}
 use Rattle.std.specs.Cmp.Lexicographic.{pointwise}
-use Rattle.std.proofs.lemmas.Bool.Decides.{nat_tests}
 use Rattle.std.proofs.lemmas.List.{take_at, drop_at, length-append}
-use Rattle.text_model.specs.Lists.{Each}
-use Rattle.text_model.specs.Text.{Bytes, has_byte, is_digit, is_decimal, decimal_below}
+use Rattle.text_model.specs.Text.{Bytes, has_byte, is_digit, decimal_below}
 use Rattle.text_model.specs.Cuts.{Lacks, cut_of}
 use Rattle.text_model.proofs.EachLemmas.{Each-append, Each-front}
 use Rattle.text_model.proofs.CutLemmas.{cut_of-at, cut_of-takes}
 use Rattle.text_model.proofs.LackLemmas.{Lacks-by_test, has_byte-lacks}
 use Rattle.text_model.proofs.DecimalLemmas.{is_decimal-decimal, digits-is_decimal, decimal_below-decimal, decimal_below-takes}
 use Rattle.text_model.proofs.TestLemmas.{both}
-use Rattle.git_model.specs.Commit.{Ident, ident_text, is_zone, has_angle, IsIdent, IsIdentLine, name_before_space, seconds_and_zone, behind_space, ident_by, ident_of}
+use Rattle.git_model.specs.Commit.{Ident, ident_text, is_zone, IsIdent, IsIdentLine, name_before_space, seconds_and_zone, behind_space, ident_by, ident_of}
 use Rattle.git_model.proofs.OptionLemmas.{none_some, some_is, and_then-some, if-some}
 
 or_false : (a b : Bool) → (a || b) ≡ false → (a ≡ false) × (b ≡ false)

@@ -1,6 +1,5 @@
 -- The order of names, where one may begin with the other.
-use Rattle.std.proofs.Common.{◌≡◌, ◌==◌, ℕ, Bool, true, false, List, [], ◌∷◌, ◌++◌, length, take, drop, refl, sym, ap, ◌∙◌, Ordering, Less, Equal, Greater, nat_cmp, is_lt, true≢false, eq-eqb, eqb-true, take-append-drop}
-use Rattle.std.specs.Prelude.{◌&&◌}
+use Rattle.std.proofs.Common.{◌≡◌, ◌==◌, Bool, true, false, [], ◌∷◌, ◌++◌, length, take, drop, refl, sym, ap, ◌∙◌, Ordering, Less, Equal, Greater, nat_cmp, is_lt, true≢false, eq-eqb, eqb-true, take-append-drop}
 use Rattle.std.specs.Ordering.{ordering_then}
 use Rattle.std.specs.Cmp.Lexicographic.{slice_cmp, pointwise}
 use Rattle.std.proofs.lemmas.Cmp.{nat_cmp_total, tied_itself, ranked}

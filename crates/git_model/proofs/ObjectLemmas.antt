@@ -1,6 +1,6 @@
 -- The trees among objects.
-use Rattle.std.proofs.Common.{◌≡◌, Bool, true, false, List, [], ◌∷◌, Option, Some, None, refl, sym, subst, ◌∙◌, bytes_eq}
-use Rattle.std.specs.Prelude.{if◌then◌else◌, IsTrue}
+use Rattle.std.proofs.Common.{◌≡◌, Bool, true, false, List, [], ◌∷◌, Some, refl, sym, subst, ◌∙◌, bytes_eq}
+use Rattle.std.specs.Prelude.{IsTrue}
 use Rattle.text_model.specs.Lists.{Each}
 use Rattle.text_model.specs.Id.{Id, tree, same_kind}
 use Rattle.git_model.specs.Tree.{TreeEntry, IsTree, IsTreeText, tree_entries}

@@ -1,24 +1,24 @@
 -- What is read as an object is what is written of it.
-use Rattle.std.proofs.Common.{◌≡◌, ◌<◌, ◌≤◌, ◌+◌, ◌-◌, ◌^◌, ℕ, zero, suc, Bool, true, false, ◌&&◌, ◌==◌, List, [], ◌∷◌, ◌++◌, length, map, take, drop, Option, None, Some, decimal, refl, sym, ap, ◌∙◌, subst, arith, append_assoc, append-nil, length-append, length-take, take-append-drop, ltb-true, ltb-false, eqb-true}
+use Rattle.std.proofs.Common.{◌≡◌, ◌<◌, ◌≤◌, ◌+◌, ◌^◌, ℕ, zero, suc, Bool, true, false, ◌==◌, List, [], ◌∷◌, ◌++◌, length, map, take, drop, Option, None, Some, decimal, refl, sym, ap, ◌∙◌, subst, arith, append_assoc, append-nil, length-append, length-take, take-append-drop, ltb-true, ltb-false, eqb-true}
 use Rattle.std.specs.Prelude.{nat_lt, slice_index}
 use Rattle.std.specs.List.{join_with_byte}
-use Rattle.std.proofs.lemmas.Bool.Decides.{nat_tests}
 use Rattle.std.proofs.lemmas.List.Splits.{join_with_byte-slice_split}
 use Rattle.std.proofs.lemmas.List.{length-take-le}
 use Rattle.std.proofs.Math.Seq.{drop-cons}
+use Rattle.text_model.specs.Lists.{Each}
 use Rattle.text_model.specs.Text.{Bytes, lf, sp, line, spaced, first_line, is_decimal, number_of}
-use Rattle.text_model.specs.Cuts.{Lacks, cut_of}
-use Rattle.text_model.specs.Id.{Id, IsId, hex, is_hex_id, bytes_of_digits, id_of_hex, ObjectKind, kind_word}
+use Rattle.text_model.specs.Cuts.{Lacks}
+use Rattle.text_model.specs.Id.{Id, IsId, hex, is_hex_id, bytes_of_digits, ObjectKind, kind_word}
 use Rattle.text_model.specs.Fault.{Refusal, refusal_at, reach, input_limit}
 use Rattle.text_model.specs.Fault as fault
-use Rattle.text_model.proofs.TestLemmas.{both}
 use Rattle.text_model.proofs.LineLemmas.{first_line-is_cut}
 use Rattle.text_model.proofs.CutLemmas.{cut_of-takes}
 use Rattle.text_model.proofs.HexLemmas.{id_of_hex-takes, id_of_hex-some}
 use Rattle.text_model.proofs.DecimalLemmas.{decimal-number_of}
 use Rattle.git_model.specs.Object.{Object}
-use Rattle.git_model.specs.Stream.{object_text, LineReading, NoLine, Header, BadLine, header_by, header_of, is_kind_word, kind_of, size_limit, is_missing, size_by, line_size, unless_bad, line_by, line_reading, or_line, body_fault, ObjectReading, NoObject, Found, BadObject, with_content, object_behind, object_reading, IsFit}
+use Rattle.git_model.specs.Stream.{object_text, LineReading, NoLine, Header, BadLine, header_by, header_of, is_kind_word, kind_of, size_limit, is_missing, line_size, unless_bad, line_by, line_reading, or_line, body_fault, ObjectReading, NoObject, Found, BadObject, with_content, object_behind, object_reading, IsFit, IsFitStream, StreamFraming, put_placed, stream_text, stream_from, stream_framing}
 use Rattle.git_model.proofs.StreamWords.{words, kind_of-takes}
+use Rattle.git_model.proofs.StreamLemmas.{stream_item, stream_end, stream_refused}
 use Rattle.git_model.proofs.StreamLine.{object_behind_line}
 use Rattle.git_model.proofs.StreamAgain.{header_line, size_limit-small, length-object}
 
@@ -27,6 +27,9 @@ bad_header why id kind size e = cc
 
 no_header : (id : Id) (kind : ObjectKind) (size : ℕ) → NoLine ≡ Header id kind size → ⊥
 no_header id kind size e = cc
+
+bad_line : (why : Refusal) → BadLine why ≡ NoLine → ⊥
+bad_line why e = cc
 
 -- where nothing is refused the end is there and within the limit
 within_reach : (total end : ℕ) → reach total end ≡ None → (end ≤ total) × (end ≤ input_limit)
@@ -227,3 +230,109 @@ object_takes at bytes o e = by (line_reading at bytes) refl
         let both = of_content id kind (take size l.rest) (body_fault (at + length l.text + 1) size l.rest) o (sym there ∙ sym (ap (object_reading at) l.is) ∙ e) in
         subst (λ (b : Bytes). Takes at b o) (sym l.is)
         (found_at at l.text l.rest id kind size o (header_takes at l.text id kind size l.says) (body_takes (at + length l.text + 1) size l.rest both.0) both.1)
+
+-- ---- where nothing is read there is nothing
+
+by_kind-some : (at : ℕ) (id : Id) (n : ℕ) (k : Option ObjectKind) → header_by at id n k ≡ NoLine → ⊥
+by_kind-some at id n None e = bad_line _ e
+by_kind-some at id n (Some k) e = by (nat_lt (size_limit k) n) refl
+  where
+    by : (t : Bool) → nat_lt (size_limit k) n ≡ t → ⊥
+    by true t = bad_line (refusal_at fault.Limit at) (sym (rw t refl) ∙ e)
+    by false t = no_header id k n (sym e ∙ rw t refl)
+
+header-some : (at : ℕ) (parts : List Bytes) → header_of at parts ≡ NoLine → ⊥
+header-some at [] e = bad_line _ e
+header-some at (a ∷ []) e = bad_line _ e
+header-some at (a ∷ b ∷ []) e = bad_line _ e
+header-some at (a ∷ b ∷ c ∷ d ∷ parts) e = bad_line _ e
+header-some at (a ∷ b ∷ c ∷ []) e = by (is_hex_id a) (is_kind_word b) (is_decimal c) refl refl refl
+  where
+    by : (h k d : Bool) → is_hex_id a ≡ h → is_kind_word b ≡ k → is_decimal c ≡ d → ⊥
+    by false k d x y z = bad_line (refusal_at fault.Line at) (sym (rw x refl) ∙ e)
+    by true false d x y z = bad_line (refusal_at fault.Line at) (sym (rw (x, y) refl) ∙ e)
+    by true true false x y z = bad_line (refusal_at fault.Line at) (sym (rw (x, y, z) refl) ∙ e)
+    by true true true x y z = by_kind-some at (bytes_of_digits a) (number_of c) (kind_of b) (sym (rw (x, y, z) refl) ∙ e)
+
+line-some : (at : ℕ) (piece : Bytes) (cut : Option (Bytes × Bytes)) → line_by at piece cut ≡ NoLine → ⊥
+line-some at piece None e = by (is_missing piece) refl
+  where
+    by : (t : Bool) → is_missing piece ≡ t → ⊥
+    by true t = bad_line (refusal_at fault.Missing at) (sym (rw t refl) ∙ e)
+    by false t = bad_line (refusal_at fault.Line at) (sym (rw t refl) ∙ e)
+line-some at piece (Some p) e = by (is_missing p.0) refl
+  where
+    by : (t : Bool) → is_missing p.0 ≡ t → ⊥
+    by true t = bad_line (refusal_at fault.Missing at) (sym (rw t refl) ∙ e)
+    by false t = header-some at (words p.0) (sym (rw t refl) ∙ e)
+
+unless-some : (why : Option Refusal) (reading : LineReading) → (reading ≡ NoLine → ⊥) → unless_bad why reading ≡ NoLine → ⊥
+unless-some None reading some e = some e
+unless-some (Some why) reading some e = bad_line why e
+
+no_line-end : (at : ℕ) (bytes : Bytes) → line_reading at bytes ≡ NoLine → bytes ≡ []
+unfolding line_reading
+no_line-end at [] e = refl
+no_line-end at (b ∷ bytes) e = absurd (unless-some _ _ (line-some at (take 4096 (b ∷ bytes)) (first_line (take 4096 (b ∷ bytes)))) e)
+
+content-some : (id : Id) (kind : ObjectKind) (content : Bytes) (why : Option Refusal) → with_content id kind content why ≡ NoObject → ⊥
+content-some id kind content None e = cc
+content-some id kind content (Some why) e = cc
+
+pub object_reading-end : (at : ℕ) (bytes : Bytes) → object_reading at bytes ≡ NoObject → bytes ≡ []
+object_reading-end at bytes e = by (line_reading at bytes) refl
+  where
+    bad_none : (why : Refusal) → BadObject why ≡ NoObject → ⊥
+    bad_none why e = cc
+
+    by : (reading : LineReading) → line_reading at bytes ≡ reading → bytes ≡ []
+    by NoLine r = no_line-end at bytes r
+    by (BadLine why) r = absurd (bad_none why (sym (behind_line at bytes (BadLine why) r) ∙ e))
+    by (Header id kind size) r = absurd (content-some id kind _ _ (sym (behind_line at bytes (Header id kind size) r) ∙ e))
+
+-- ---- a stream
+
+abbrev objects_of : StreamFraming → List Object
+objects_of f = map (λ p. p.object) f.objects
+
+-- the bytes are the stream of objects that are fit, in an input within its limit
+record TakesAll (at : ℕ) (bytes : Bytes) (objects : List Object) : Type 0 where
+  pub is : bytes ≡ stream_text objects
+  pub fit : Each IsFit objects
+  pub fits : at + length bytes ≤ input_limit
+
+takes_from : (n at : ℕ) (bytes : Bytes) → at ≤ input_limit → length bytes < n → (stream_from n at bytes).bad ≡ None → TakesAll at bytes (objects_of (stream_from n at bytes))
+unfolding stream_text
+takes_from zero at bytes begins enough all = absurd (omega (arith, enough))
+takes_from (suc n) at bytes begins enough all = by (object_reading at bytes) refl (takes_from n)
+  where
+    none_some : (why : Refusal) → Some why ≡ None → ⊥
+    none_some why e = cc
+
+    by : (reading : ObjectReading) → object_reading at bytes ≡ reading
+        → ((place : ℕ) (rest : Bytes) → place ≤ input_limit → length rest < n → (stream_from n place rest).bad ≡ None → TakesAll place rest (objects_of (stream_from n place rest)))
+        → TakesAll at bytes (objects_of (stream_from (suc n) at bytes))
+    by NoObject r others =
+        let end = object_reading-end at bytes r in
+        let step = stream_end n at bytes r in
+        subst (λ (f : StreamFraming). TakesAll at bytes (objects_of f)) (sym step)
+        (record { is = end; fit = tt; fits = omega (arith, begins, ap (λ (l : Bytes). length l) end) })
+    by (BadObject why) r others = absurd (none_some why (sym (ap (λ (f : StreamFraming). f.bad) (stream_refused n at bytes why r)) ∙ all))
+    by (Found o) r others =
+        let it = object_takes at bytes o r in
+        let size : length bytes ≡ length (object_text o) + length it.rest = ap (λ (l : Bytes). length l) it.is ∙ length-append (object_text o) it.rest in
+        let step : stream_from (suc n) at bytes ≡ put_placed (record { object = o; at = at }) (stream_from n (at + length (object_text o)) it.rest) =
+        ap (stream_from (suc n) at) it.is ∙ stream_item n at it.rest o (sym (ap (object_reading at) it.is) ∙ r) in
+        let next = others (at + length (object_text o)) it.rest it.fits (omega (arith, size, length-object o, enough)) (sym (ap (λ (f : StreamFraming). f.bad) step) ∙ all) in
+        subst (λ (f : StreamFraming). TakesAll at bytes (objects_of f)) (sym step)
+        (record {
+          is = it.is ∙ ap (λ (l : Bytes). object_text o ++ l) next.is;
+          fit = (it.fit, next.fit);
+          fits = omega (arith, size, next.fits);
+        })
+
+-- where all bytes are read they are the stream of the objects
+pub stream_takes : (bytes : Bytes) → (stream_framing bytes).bad ≡ None → IsFitStream bytes (map (λ p. p.object) (stream_framing bytes).objects)
+unfolding stream_framing
+stream_takes bytes all =
+    let t = takes_from (suc (length bytes)) 0 bytes (omega arith) (omega arith) all in record { is = t.is; fit = t.fit; fits = omega (arith, t.fits) }

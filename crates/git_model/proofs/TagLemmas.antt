@@ -1,9 +1,9 @@
 -- The content of a tag, line by line.
-use Rattle.std.proofs.Common.{◌≡◌, ◌≢◌, ◌<◌, ◌+◌, ◌==◌, ℕ, Bool, true, false, List, [], ◌∷◌, ◌++◌, length, take, drop, Option, Some, None, codes, refl, sym, ap, subst, ◌∙◌, arith, append_assoc, length-append}
+use Rattle.std.proofs.Common.{◌≡◌, ◌==◌, ℕ, true, [], ◌∷◌, ◌++◌, length, drop, None, codes, refl, sym, ap, subst, ◌∙◌, arith, append_assoc, length-append}
 use Rattle.std.specs.Prelude.{slice_index}
 use Rattle.std.specs.List.{starts_with}
 use Rattle.std.proofs.lemmas.List.{take_at, drop_at}
-use Rattle.text_model.specs.Text.{Bytes, lf, line, has_byte}
+use Rattle.text_model.specs.Text.{Bytes, lf, line}
 use Rattle.text_model.specs.Id.{Id, IsId, hex, bytes_of_digits, ObjectKind, blob, tree, commit, tag, kind_word}
 use Rattle.text_model.specs.Cuts.{Lacks}
 use Rattle.text_model.proofs.LackLemmas.{Lacks-by_test}

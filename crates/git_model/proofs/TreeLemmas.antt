@@ -1,26 +1,15 @@
 -- The content of a tree, entry by entry.
-use Rattle.std.proofs.Common.{◌≡◌, ◌≢◌, ◌<◌, ◌≤◌, ◌+◌, ◌-◌, ◌&&◌, ◌==◌, ℕ, zero, suc, Bool, true, false, not, List, [], ◌∷◌, ◌++◌, length, map, take, drop, Option, Some, None, Result, Ok, Err, codes, refl, sym, ap, subst, ◌∙◌, arith, append_assoc, append-nil, length-append, length-take, bytes_eq, true≢false, nat_lt, take-append-drop, lt-ltb, ltb-true, ltb-false}
-use Rattle.std.specs.Prelude.{◌||◌, if◌then◌else◌, slice_get, IsTrue}
-use Rattle.std.specs.Option.{option_and_then}
-use Rattle.std.specs.List.{list_any, flat_map}
-use Rattle.std.proofs.lemmas.List.{take_at, drop_at}
-use Rattle.std.proofs.lemmas.List.Concat.{flat_map-append}
-use Rattle.std.proofs.lemmas.Slice.Eq.{bytes_eq-Decides}
-use Rattle.text_model.specs.Lists.{Each, rises}
-use Rattle.text_model.specs.Text.{Bytes, IsBytes, sp, nul, is_below, has_byte}
-use Rattle.text_model.specs.Id.{Id, IsId}
-use Rattle.text_model.specs.Cuts.{Lacks, cut_of}
-use Rattle.text_model.specs.Path.{is_fit_path, is_fit_name}
+use Rattle.std.proofs.Common.{◌≡◌, ◌≤◌, ◌+◌, ◌&&◌, Bool, true, false, not, List, ◌∷◌, ◌++◌, length, take, drop, Option, Some, Ok, Err, refl, sym, ap, ◌∙◌, arith, length-append, length-take, true≢false, nat_lt, take-append-drop, ltb-false}
+use Rattle.std.specs.Prelude.{if◌then◌else◌}
+use Rattle.text_model.specs.Text.{Bytes, sp, nul}
+use Rattle.text_model.specs.Cuts.{cut_of}
+use Rattle.text_model.specs.Path.{is_fit_name}
 use Rattle.text_model.specs.Fault.{FaultName}
 use Rattle.text_model.specs.Fault as fault
-use Rattle.text_model.proofs.ByteLemmas.{IsBytes-front, IsBytes-rest}
-use Rattle.text_model.proofs.EachLemmas.{Each-push, Each-front, Each-rest}
-use Rattle.text_model.proofs.TestLemmas.{both, or_true}
-use Rattle.text_model.proofs.CutLemmas.{cut_of-at, cut_of-takes, cut_of-none}
-use Rattle.text_model.proofs.LackLemmas.{Lacks-by_test}
-use Rattle.git_model.specs.Tree.{Mode, File, Exec, Link, Directory, is_directory, mode_text, modes, find_mode, mode_of, TreeEntry, tree_entry_text, tree_text, is_entry_below, has_distinct, IsTree, IsTreeText, RawEntry, raw_size, entry_and_rest, first_entry, is_octal, is_directory_text, raw_sort_name, rises_behind, has_name, judged_name, judged, TreeFault, entries_fault, tree_fault, tree_entries_from, tree_entries, sort_name}
-use Rattle.git_model.proofs.OptionLemmas.{none_some, some_is, and_then-some, if-some}
-use Rattle.git_model.proofs.TreeOrderLemmas.{last_of_more}
+use Rattle.text_model.proofs.TestLemmas.{both}
+use Rattle.text_model.proofs.CutLemmas.{cut_of-takes}
+use Rattle.git_model.specs.Tree.{Mode, mode_of, TreeEntry, RawEntry, raw_size, entry_and_rest, first_entry, is_octal, rises_behind, has_name, judged_name, judged}
+use Rattle.git_model.proofs.OptionLemmas.{none_some, some_is, and_then-some}
 
 -- ---- the entry at the beginning
 

@@ -1,6 +1,6 @@
 -- Entries of a tree in their order: what one knows of a name that comes twice.
-use Rattle.std.proofs.Common.{◌≡◌, ◌≢◌, ◌<◌, ◌≤◌, ◌+◌, ◌-◌, ◌&&◌, ℕ, zero, suc, Bool, true, false, not, List, [], ◌∷◌, ◌++◌, length, map, Option, Some, None, get_or, refl, sym, ap, subst, ◌∙◌, arith, bytes_eq, true≢false, ◌⊎◌, inl, inr}
-use Rattle.std.specs.Prelude.{◌||◌, if◌then◌else◌, slice_get, IsTrue}
+use Rattle.std.proofs.Common.{◌≡◌, ◌≢◌, ◌<◌, ◌≤◌, ◌-◌, ◌&&◌, ℕ, zero, suc, Bool, true, false, not, List, [], ◌∷◌, ◌++◌, length, Some, None, get_or, refl, sym, ap, subst, ◌∙◌, arith, bytes_eq, true≢false, ◌⊎◌, inl, inr}
+use Rattle.std.specs.Prelude.{◌||◌, slice_get}
 use Rattle.std.specs.List.{list_any}
 use Rattle.std.proofs.lemmas.Bool.{cases_lt}
 use Rattle.std.proofs.lemmas.Slice.Eq.{bytes_eq-Decides}
@@ -9,7 +9,7 @@ use Rattle.text_model.specs.Text.{Bytes, is_below}
 use Rattle.text_model.proofs.EachLemmas.{Each-weaker}
 use Rattle.text_model.proofs.TestLemmas.{both, or_true}
 use Rattle.text_model.proofs.OrderLemmas.{is_below-chain, is_below-irreflexive, is_below-one_way}
-use Rattle.git_model.specs.Tree.{Mode, File, Exec, Link, Directory, is_directory, mode_text, TreeEntry, RawEntry, order_name, sort_name, raw_sort_name, is_directory_text, is_entry_below, rises_behind, has_name, is_file_named}
+use Rattle.git_model.specs.Tree.{is_directory, TreeEntry, RawEntry, order_name, sort_name, raw_sort_name, is_directory_text, is_entry_below, rises_behind, has_name, is_file_named}
 use Rattle.git_model.proofs.NameOrderLemmas.{below-front}
 
 -- the name as it counts in the order

@@ -1,10 +1,10 @@
 -- How far the reading of a tree has come.
-use Rattle.std.proofs.Common.{◌≡◌, ◌≢◌, ◌<◌, ◌≤◌, ◌+◌, ◌-◌, ◌&&◌, ◌==◌, ℕ, zero, suc, Bool, true, false, not, List, [], ◌∷◌, ◌++◌, length, map, Option, Some, None, Result, Ok, Err, codes, refl, sym, ap, subst, ◌∙◌, arith, append_assoc, append-nil, length-append, bytes_eq, true≢false, eqb-true}
-use Rattle.std.specs.Prelude.{◌||◌, if◌then◌else◌, IsTrue}
+use Rattle.std.proofs.Common.{◌≡◌, ◌≤◌, ◌+◌, ◌-◌, ◌==◌, ℕ, zero, suc, Bool, true, false, not, List, [], ◌∷◌, ◌++◌, length, map, Option, Some, None, Result, Ok, Err, refl, sym, ap, subst, ◌∙◌, arith, append_assoc, append-nil, bytes_eq, true≢false, eqb-true}
+use Rattle.std.specs.Prelude.{◌||◌, IsTrue}
 use Rattle.std.specs.List.{list_any, flat_map}
 use Rattle.std.proofs.lemmas.List.Concat.{flat_map-append}
 use Rattle.std.proofs.lemmas.Slice.Eq.{bytes_eq-Decides}
-use Rattle.text_model.specs.Lists.{Each, rises}
+use Rattle.text_model.specs.Lists.{rises}
 use Rattle.text_model.specs.Text.{Bytes, IsBytes, sp, nul, is_below}
 use Rattle.text_model.specs.Id.{IsId}
 use Rattle.text_model.specs.Cuts.{cut_of}
@@ -14,7 +14,7 @@ use Rattle.text_model.specs.Fault as fault
 use Rattle.text_model.proofs.ByteLemmas.{IsBytes-front, IsBytes-rest}
 use Rattle.text_model.proofs.EachLemmas.{Each-push}
 use Rattle.text_model.proofs.TestLemmas.{both}
-use Rattle.git_model.specs.Tree.{Mode, File, Exec, Link, Directory, is_directory, mode_text, modes, find_mode, mode_of, TreeEntry, tree_entry_text, tree_text, is_entry_below, has_distinct, IsTree, IsTreeText, RawEntry, raw_size, first_entry, is_octal, is_directory_text, raw_sort_name, order_name, sort_name, rises_behind, has_name, judged_name, judged, TreeFault, entries_fault, tree_fault, tree_entries_from, tree_entries}
+use Rattle.git_model.specs.Tree.{Mode, File, Exec, Link, Directory, is_directory, mode_text, modes, find_mode, mode_of, TreeEntry, tree_entry_text, tree_text, is_entry_below, has_distinct, IsTree, IsTreeText, RawEntry, raw_size, first_entry, is_octal, is_directory_text, raw_sort_name, order_name, sort_name, rises_behind, has_name, judged_name, judged, entries_fault, tree_fault, tree_entries_from, tree_entries}
 use Rattle.git_model.proofs.OptionLemmas.{none_some, some_is}
 use Rattle.git_model.proofs.TreeOrderLemmas.{last_of_more}
 use Rattle.git_model.proofs.TreeLemmas.{HasEntry, first_entry-takes}

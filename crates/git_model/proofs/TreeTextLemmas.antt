@@ -1,14 +1,13 @@
 -- The content of a tree fits, and is that of one tree.
-use Rattle.std.proofs.Common.{◌≡◌, ◌≢◌, ◌<◌, ◌≤◌, ◌+◌, ◌&&◌, ◌==◌, ℕ, Bool, true, false, not, List, [], ◌∷◌, ◌++◌, length, map, Option, Some, None, Ok, refl, sym, ap, subst, ◌∙◌, arith, append_assoc, append-nil, length-append, bytes_eq, true≢false, nat_lt}
-use Rattle.std.specs.Prelude.{◌||◌, if◌then◌else◌, IsTrue}
-use Rattle.std.specs.List.{list_any, flat_map}
+use Rattle.std.proofs.Common.{◌≡◌, ◌≤◌, ◌&&◌, ℕ, Bool, true, false, not, List, [], ◌∷◌, ◌++◌, length, Some, None, Ok, refl, sym, ap, subst, ◌∙◌, arith, append_assoc, append-nil, length-append, bytes_eq, true≢false, nat_lt}
+use Rattle.std.specs.Prelude.{◌||◌, IsTrue}
+use Rattle.std.specs.List.{list_any}
 use Rattle.std.proofs.lemmas.Bool.Decides.{nat_tests}
 use Rattle.std.proofs.lemmas.List.{take_at, drop_at}
-use Rattle.std.proofs.lemmas.Slice.Eq.{bytes_eq-Decides}
-use Rattle.text_model.specs.Lists.{Each, rises}
+use Rattle.text_model.specs.Lists.{rises}
 use Rattle.text_model.specs.Text.{Bytes, IsBytes, sp, nul, has_byte, is_below}
 use Rattle.text_model.specs.Id.{IsId}
-use Rattle.text_model.specs.Cuts.{Lacks, cut_of}
+use Rattle.text_model.specs.Cuts.{Lacks}
 use Rattle.text_model.specs.Path.{is_fit_path, is_fit_name}
 use Rattle.text_model.proofs.EachLemmas.{Each-rest}
 use Rattle.text_model.proofs.TestLemmas.{both}

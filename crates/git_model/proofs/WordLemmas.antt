@@ -1,10 +1,9 @@
 -- Lines that begin with a word, alone and before an id.
-use Rattle.std.proofs.Common.{◌≡◌, ◌==◌, ◌≤◌, ◌+◌, ℕ, Bool, true, false, List, [], ◌∷◌, ◌++◌, length, take, drop, refl, sym, ap, ◌∙◌, arith, take-append-drop, eqb-true, eq-eqb, Some}
-use Rattle.std.specs.Prelude.{◌&&◌}
+use Rattle.std.proofs.Common.{◌≡◌, ◌==◌, true, [], ◌∷◌, ◌++◌, length, take, drop, refl, sym, ap, ◌∙◌, take-append-drop, eqb-true, eq-eqb}
 use Rattle.std.specs.Cmp.Lexicographic.{pointwise}
 use Rattle.std.proofs.lemmas.List.{take_at, drop_at}
 use Rattle.text_model.specs.Text.{Bytes}
-use Rattle.text_model.specs.Id.{Id, IsId, hex, is_hex_id, bytes_of_digits}
+use Rattle.text_model.specs.Id.{Id, IsId, hex, bytes_of_digits}
 use Rattle.text_model.proofs.TestLemmas.{both}
 use Rattle.text_model.proofs.HexLemmas.{is_hex_id-hex, id_of_hex-some, id_of_hex-hex}
 use Rattle.git_model.specs.Commit.{begins, is_id_line}

@@ -4,7 +4,7 @@ use Rattle.std.specs.List.{flat_map, list_all, slice_split, ends_with}
 use Rattle.text_model.specs.Lists.{Each}
 use Rattle.text_model.specs.Text.{Bytes, IsBytes, lf, sp, line, spaced, first_line, is_decimal, number_of}
 use Rattle.text_model.specs.Id.{Id, IsId, hex, is_hex_id, bytes_of_digits, ObjectKind, blob, tree, commit, tag, kind_word, same_kind, object_id}
-use Rattle.text_model.specs.Fault.{Refusal, refusal, refusal_at, reach}
+use Rattle.text_model.specs.Fault.{Refusal, refusal, refusal_at, reach, input_limit}
 use Rattle.text_model.specs.Fault as fault
 use Rattle.git_model.specs.Object.{Object, object_fault, objects_after}
 
@@ -149,6 +149,12 @@ stream_framing bytes = stream_from (suc (length bytes)) 0 bytes
 -- an object that a stream may have
 abbrev pub IsFit : Object → Type 0
 IsFit o = IsId o.id × (length o.content ≤ size_limit o.kind)
+
+-- the bytes are the stream of these objects, all within their limits
+pub record IsFitStream (bytes : Bytes) (objects : List Object) : Type 0 where
+  pub is : bytes ≡ stream_text objects
+  pub fit : Each IsFit objects
+  pub fits : length bytes ≤ input_limit
 
 -- these objects were read, and then the end
 pub record ReadsAll (f : StreamFraming) (objects : List Object) : Type 0 where

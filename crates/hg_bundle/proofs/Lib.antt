@@ -2,3 +2,8 @@ pub mod LineLemmas
 pub mod Progress
 pub mod ReadBytes
 pub mod BundleLaws
+pub mod EntryLemmas
+pub mod Reading
+pub mod Taken
+pub mod Groups
+pub mod Unreadable

@@ -1,11 +1,13 @@
 // Why a bundle is refused.
 ghost use Rattle.std.specs.Prelude.{◌≡◌};
 ghost use Rattle.text_model.specs.Fault.{fault_word};
-ghost use Rattle.hg_bundle.specs.Faults.{bundle_fault, refusal_name};
+ghost use Rattle.hg_bundle.specs.Faults.{bundle_fault, addition_fault_at, refusal_name};
 ghost use Rattle.hg_bundle.specs.declared.fault.BundleFault.TheVariants.{Memory};
 
 use bridge_text::{Id, NoMemory};
 use hg_chunk::{ChunkFault, INPUT_LIMIT};
+use hg_store::AddFault;
+use std::alloc::AllocError;
 
 /// What is wrong with the bytes of a bundle. Each name is also the word that is printed.
 #[derive(Clone, Copy, Debug, PartialEq, Eq)]
@@ -26,6 +28,28 @@ pub enum HgByteFault {
     InputLimit,
     /// The payload of a delta chunk is shorter than four ids.
     HeaderShort,
+    /// A changeset has a null first parent and another second one, or equal parents that aren't null.
+    ParentOrder,
+    /// A parent that isn't null is no known revision of the same kind and path.
+    ParentUnknown,
+    /// The link of a changeset isn't the changeset itself, or that of another revision is no known changeset.
+    LinkUnknown,
+    /// A delta ends inside a hunk.
+    HunkShape,
+    /// A hunk starts before the end of the one before it, ends before its start, or ends past the base.
+    HunkRange,
+    /// The node isn't that of the parents and the text.
+    NodeWrong,
+    /// The text is that of no changeset.
+    ChangesetShape,
+    /// A line of a manifest has another form, or its path doesn't rise.
+    ManifestShape,
+    /// A path isn't fit: that of a file, or that of the first line of a manifest that isn't right.
+    PathUnfit,
+    /// The metadata of a file revision have no end.
+    FileShape,
+    /// The node is known with another text or other parents, or it is the null id.
+    Collision,
 }
 
 impl HgByteFault {
@@ -43,6 +67,17 @@ impl HgByteFault {
             HgByteFault::OtherBundle => b"OtherBundle",
             HgByteFault::InputLimit => b"InputLimit",
             HgByteFault::HeaderShort => b"HeaderShort",
+            HgByteFault::ParentOrder => b"ParentOrder",
+            HgByteFault::ParentUnknown => b"ParentUnknown",
+            HgByteFault::LinkUnknown => b"LinkUnknown",
+            HgByteFault::HunkShape => b"HunkShape",
+            HgByteFault::HunkRange => b"HunkRange",
+            HgByteFault::NodeWrong => b"NodeWrong",
+            HgByteFault::ChangesetShape => b"ChangesetShape",
+            HgByteFault::ManifestShape => b"ManifestShape",
+            HgByteFault::PathUnfit => b"PathUnfit",
+            HgByteFault::FileShape => b"FileShape",
+            HgByteFault::Collision => b"Collision",
         }
     }
 }
@@ -73,6 +108,14 @@ impl From<NoMemory> for BundleFault {
     }
 }
 
+impl From<AllocError> for BundleFault {
+    ghost from_gives = { λ _ e. e ≡ Memory };
+
+    fn from(_: AllocError) -> BundleFault {
+        BundleFault::Memory
+    }
+}
+
 impl From<ChunkFault> for BundleFault {
     ghost from_gives = { λ fault e. e ≡ bundle_fault fault };
 
@@ -93,5 +136,24 @@ impl From<ChunkFault> for BundleFault {
             ChunkFault::InputLimit => bad(HgByteFault::InputLimit, INPUT_LIMIT),
             ChunkFault::Memory => BundleFault::Memory,
         }
+    }
+}
+
+/// The fault of an entry that can't be added to a store.
+pub fn addition_fault(fault: AddFault, id: Id, at: u64) -> BundleFault
+    ensures { result ≡ addition_fault_at fault id at }
+{
+    let bad = |why| BundleFault::Bad { why, id, at };
+    match fault {
+        AddFault::ParentOrder => bad(HgByteFault::ParentOrder),
+        AddFault::ParentUnknown => bad(HgByteFault::ParentUnknown),
+        AddFault::LinkUnknown => bad(HgByteFault::LinkUnknown),
+        AddFault::NodeWrong => bad(HgByteFault::NodeWrong),
+        AddFault::ChangesetShape => bad(HgByteFault::ChangesetShape),
+        AddFault::ManifestShape => bad(HgByteFault::ManifestShape),
+        AddFault::PathUnfit => bad(HgByteFault::PathUnfit),
+        AddFault::FileShape => bad(HgByteFault::FileShape),
+        AddFault::Collision => bad(HgByteFault::Collision),
+        AddFault::Memory => BundleFault::Memory,
     }
 }

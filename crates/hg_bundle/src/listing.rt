@@ -21,7 +21,8 @@ use std::alloc::Global;
 /// many bytes the delta has.
 ///
 /// A bundle is that of Mercurial's help topics `internals.bundles` and `internals.changegroups` (HG10UN, changegroup
-/// version 1). Only its framing is checked. After a fault `out` is as it was.
+/// version 1). Only its framing is checked: `Ok` says that the bytes are a bundle within the limits, and `Bad` that
+/// they are none, with the first fault and its offset. After a fault `out` is as it was.
 pub fn list<S: Source>(alloc: Global, src: &mut S, out: &mut Vec<u8>) -> Result<(), BundleFault>
     ensures bundle { OnOk result (IfSome (S.left src.old) (λ bytes. ListsBundle bytes out.old.items out.new.items)) }
     ensures no_bundle { IfErr result (λ e. IfSome (S.left src.old) (TellsNoBundle e)) }

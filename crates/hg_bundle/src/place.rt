@@ -1,7 +1,9 @@
 // Where a chunk stands in a bundle.
 ghost use Rattle.std.specs.Prelude.{◌≡◌, Some, None, List, ℕ, option_map};
 
-use bridge_text::Bytes;
+use crate::arrival::RevKind;
+use bridge_text::{Bytes, NoMemory};
+use std::alloc::Global;
 
 /// What a group of a bundle holds.
 #[derive(Debug, Drop)]
@@ -10,6 +12,56 @@ pub enum Group {
     Manifests,
     /// The revisions of the file at a path.
     File(Bytes),
+}
+
+impl Group {
+    ghost use Rattle.std.specs.Prelude.{IfOk};
+    ghost use Rattle.hg_model.specs.Reading.{text_limit};
+    ghost use Rattle.hg_store.specs.Groups as store;
+    ghost use Rattle.hg_bundle.specs.Place.{group_value};
+    ghost use Rattle.hg_bundle.specs.Arrivals.{kind_of, path_of};
+
+    /// The group of a store whose revisions these are.
+    pub fn of_store(&self) -> hg_store::Group<'_>
+        ensures { store.group_value result ≡ group_value self.now }
+    {
+        match self {
+            Group::Changesets => hg_store::Group::Changesets,
+            Group::Manifests => hg_store::Group::Manifests,
+            Group::File(path) => hg_store::Group::FilesAt(path.as_slice()),
+        }
+    }
+
+    /// How many bytes a text has at most.
+    pub fn text_limit(&self) -> usize
+        ensures { result ≡ text_limit (group_value self.now) }
+    {
+        match self {
+            Group::Changesets => 1 << 24,
+            Group::Manifests | Group::File(_) => 1 << 26,
+        }
+    }
+
+    /// The kind of the revisions.
+    pub fn kind(&self) -> RevKind
+        ensures { result ≡ kind_of (group_value self.now) }
+    {
+        match self {
+            Group::Changesets => RevKind::Changeset,
+            Group::Manifests => RevKind::Manifest,
+            Group::File(_) => RevKind::File,
+        }
+    }
+
+    /// A copy of the path of the file; no bytes where the revisions are of none.
+    pub fn path(&self, alloc: Global) -> Result<Bytes, NoMemory>
+        ensures { IfOk result (λ path. path ≡ path_of (group_value self.now)) }
+    {
+        match self {
+            Group::Changesets | Group::Manifests => Ok(Bytes::new(alloc)),
+            Group::File(path) => Bytes::of(alloc, path.as_slice()),
+        }
+    }
 }
 
 /// Where the next chunk stands.

@@ -115,6 +115,7 @@ fn each_fault_has_its_place(rt: HostRuntime) -> Result<(), Fail> {
             assert_eq!(rt; out.as_slice(), b"left".as_slice());
         }
     }
+    assert_eq!(rt; HgByteFault::HeaderShort.name(), b"HeaderShort".as_slice());
     let mut out = b"left".to_vec(alloc)?;
     let got = listed(alloc, &short, 0, &[3], &mut out)?;
     assert_eq!(rt; got, Err(BundleFault::Read));

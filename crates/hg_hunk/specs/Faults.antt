@@ -1,5 +1,5 @@
 -- What a delta is against a base: a text of at most some size, or why there is none. From Mercurial's help topic `internals.bundles`.
-use Rattle.std.specs.Prelude.{◌≡◌, ℕ, ◌<◌, List, length, ⊤}
+use Rattle.std.specs.Prelude.{◌≡◌, ℕ, ◌<◌, ◌≤◌, List, length, ⊤}
 use Rattle.text_model.specs.Text.{Bytes}
 use Rattle.hg_model.specs.Delta.{Hunk, Hunks, Cut, Outside, delta_reading, patched_text, patched_size}
 use Rattle.hg_hunk.specs.declared.fault.HunkFault.{HunkFault}
@@ -24,3 +24,10 @@ IsFault base_size delta most Memory = ⊥
 abbrev pub IsFaultOrMemory : ℕ → Bytes → ℕ → HunkFault → Type 0
 IsFaultOrMemory base_size delta most Memory = ⊤
 IsFaultOrMemory base_size delta most fault = IsFault base_size delta most fault
+
+-- the place of a fault is one of the delta
+abbrev pub HasPlaceIn : Bytes → HunkFault → Type 0
+HasPlaceIn delta (Shape place) = place ≤ length delta
+HasPlaceIn delta (Range place) = place ≤ length delta
+HasPlaceIn delta Limit = ⊤
+HasPlaceIn delta Memory = ⊤

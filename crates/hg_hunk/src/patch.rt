@@ -1,7 +1,7 @@
 ghost use Rattle.std.specs.Prelude.{◌≡◌, ◌≤◌, [], List, ℕ, Ok, length, IfOk, IfErr, OnOk, vec_capacity};
 ghost use Rattle.text_model.specs.Text.{Bytes, IsBytes};
 ghost use Rattle.hg_model.specs.Delta.{Hunk, Hunks, Patches, hunks_of, delta_reading, patched_size, patched_text};
-ghost use Rattle.hg_hunk.specs.Faults.{HasPatchedSize, HasPatchedText, IsFault, IsFaultOrMemory};
+ghost use Rattle.hg_hunk.specs.Faults.{HasPatchedSize, HasPatchedText, HasPlaceIn, IsFault, IsFaultOrMemory};
 
 use crate::fault::HunkFault;
 use crate::hunk::next_hunk;
@@ -12,6 +12,7 @@ use std::alloc::Global;
 fn check_shapes(delta: &[u8]) -> Result<(), HunkFault>
     ensures whole { OnOk result ((hs : List Hunk) × (hunks_of delta.now ≡ Ok hs)) }
     ensures cut { IfErr result (λ e. (base_size most : ℕ) → IsFault base_size delta.now most e) }
+    ensures place { IfErr result (HasPlaceIn delta.now) }
 {
     let mut rest = delta;
     while let Some((_, after)) = next_hunk(rest) {
@@ -33,6 +34,7 @@ pub fn patched_len(base_len: usize, delta: &[u8], most: usize) -> Result<usize, 
     ensures size { IfOk result (HasPatchedSize base_len delta.now) }
     ensures most { IfOk result (λ n. n ≤ most) }
     ensures fault { IfErr result (IsFault base_len delta.now most) }
+    ensures place { IfErr result (HasPlaceIn delta.now) }
 {
     check_shapes(delta)?;
     let mut rest = delta;

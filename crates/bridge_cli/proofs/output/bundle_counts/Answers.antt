@@ -1,0 +1,6 @@
+use Rattle.bridge_cli.proofs.CountLemmas.{bundle_told}
+use Rattle.bridge_cli.proofs.output.bundle_counts.Goals as goal
+
+pub returns-in-Ok-clause-makes : goal.returns-in-Ok-clause-makes
+returns-in-Ok-clause-makes g c =
+    (c.in-Ok.ensures.end, bundle_told _ _ _ _ c.new.ensures c.in-Ok.ensures.reads c.in_ok-revision_counts-in-Ok.ensures)

@@ -1,0 +1,78 @@
+// The output of each command.
+ghost use Rattle.std.specs.Prelude.{◌≡◌};
+ghost use Rattle.history_model.specs.Command as model;
+ghost use Rattle.bridge_cli.specs.Makes.{LeavesCount, ListsTheBundle, Makes};
+ghost use Rattle.bridge_cli.specs.Status.{command_value};
+
+use crate::counts::{object_counts, revision_counts};
+use crate::report::Report;
+use crate::words::Command;
+use bridge_io::Source;
+use git_store::GitStore;
+use hg_store::HgStore;
+use std::alloc::Global;
+
+/// The output of a command over an input, which is read to its end; or how the run ends without one.
+pub fn output_of<I: Source>(
+    alloc: Global,
+    command: Command,
+    input: &mut I,
+) -> Result<Vec<u8>, Report>
+    ensures makes { Makes (command_value command) (I.left input.old) (I.left input.new) result }
+    ensures bundle { command_value command ≡ model.ListHg → ListsTheBundle (I.left input.old) result }
+    ensures input { LeavesCount (I.faults input.old) (I.faults input.new) result }
+{
+    match command {
+        Command::ListHg => bundle_lines(alloc, input),
+        Command::CheckHg => bundle_counts(alloc, input),
+        Command::ListGit => stream_lines(alloc, input),
+        Command::CheckGit => stream_counts(alloc, input),
+    }
+}
+
+// A line for each entry of a bundle.
+fn bundle_lines<I: Source>(alloc: Global, input: &mut I) -> Result<Vec<u8>, Report>
+    ensures makes { Makes model.ListHg (I.left input.old) (I.left input.new) result }
+    ensures bundle { ListsTheBundle (I.left input.old) result }
+    ensures input { LeavesCount (I.faults input.old) (I.faults input.new) result }
+{
+    let mut lines = Vec::new(alloc);
+    match hg_bundle::list(alloc, input, &mut lines) {
+        Ok(()) => Ok(lines),
+        Err(fault) => Err(Report::from(fault)),
+    }
+}
+
+// How many entries of each kind a bundle brings to no revisions.
+fn bundle_counts<I: Source>(alloc: Global, input: &mut I) -> Result<Vec<u8>, Report>
+    ensures makes { Makes model.CheckHg (I.left input.old) (I.left input.new) result }
+    ensures input { LeavesCount (I.faults input.old) (I.faults input.new) result }
+{
+    match hg_bundle::read_into(alloc, input, HgStore::new(alloc)) {
+        Ok((_, arrivals)) => Ok(revision_counts(alloc, &arrivals)?),
+        Err(fault) => Err(Report::from(fault)),
+    }
+}
+
+// A line for each object of a stream.
+fn stream_lines<I: Source>(alloc: Global, input: &mut I) -> Result<Vec<u8>, Report>
+    ensures makes { Makes model.ListGit (I.left input.old) (I.left input.new) result }
+    ensures input { LeavesCount (I.faults input.old) (I.faults input.new) result }
+{
+    let mut lines = Vec::new(alloc);
+    match git_batch::list(alloc, input, &mut lines) {
+        Ok(()) => Ok(lines),
+        Err(fault) => Err(Report::from(fault)),
+    }
+}
+
+// How many objects of each kind a stream brings to no objects.
+fn stream_counts<I: Source>(alloc: Global, input: &mut I) -> Result<Vec<u8>, Report>
+    ensures makes { Makes model.CheckGit (I.left input.old) (I.left input.new) result }
+    ensures input { LeavesCount (I.faults input.old) (I.faults input.new) result }
+{
+    match git_stream::read_into(alloc, input, GitStore::new(alloc)) {
+        Ok((_, arrivals)) => Ok(object_counts(alloc, &arrivals)?),
+        Err(fault) => Err(Report::from(fault)),
+    }
+}

@@ -1,0 +1,3 @@
+pub mod AddLemmas
+pub mod Reading
+pub mod StreamLaws

@@ -1,0 +1,244 @@
+// What was read of a bundle so far, and how an entry adds to it.
+ghost use Rattle.std.specs.Prelude.{◌≡◌, ◌≤◌, ◌<◌, ◌^◌, [], None, Some, true, if◌then◌else◌, IfOk, IfErr, OnOk, option_map, length};
+ghost use Rattle.std.specs.Option.{option_copied};
+ghost use Rattle.text_model.specs.Path.{is_fit_path};
+ghost use Rattle.text_model.specs.Fault.{refusal_at};
+ghost use Rattle.text_model.specs.Fault as fault;
+ghost use Rattle.hg_model.specs.Revision.{FilesAt};
+ghost use Rattle.hg_model.specs.Reading.{hunk_place, sum_limit};
+ghost use Rattle.hg_store.specs.Known.{HasFitPath};
+ghost use Rattle.hg_bundle.specs.declared.fault.BundleFault.TheVariants.{Bad};
+ghost use Rattle.hg_bundle.specs.Entry.{entry_value, base_for, fault_for, HasLast, HasText, Patches};
+ghost use Rattle.hg_bundle.specs.Faults.{IsJudgement};
+ghost use Rattle.hg_bundle.specs.Listing.{next_place};
+ghost use Rattle.hg_bundle.specs.Place.{place_value, group_value};
+ghost use Rattle.hg_bundle.specs.Steps.{Adds, HasFitPlace, HasLastAt, Steps, step_refusal};
+
+use crate::arrival::{Arrival, Arrivals};
+use crate::entry::Entry;
+use crate::fault::{BundleFault, HgByteFault, addition_fault};
+use crate::line::HEADER;
+use crate::place::{Group, Place};
+use bridge_text::{Added, Bytes, Id, fit_path};
+use hg_hunk::{HunkFault, fill, patched_len};
+use hg_store::HgStore;
+use std::alloc::Global;
+
+/// How many bytes the texts of a bundle have at most, summed.
+const SUM_LIMIT: usize = 1 << 30;
+
+/// How many bytes stand before the delta of an entry: its length field and four ids.
+const BEFORE_DELTA: u64 = 84;
+
+/// What was read of a bundle so far.
+#[derive(Drop)]
+pub struct Gathered {
+    pub store: HgStore,
+    pub arrivals: Arrivals,
+    /// The node of the entry before in the same group; none where the group begins.
+    pub last: Option<Id>,
+    /// How many bytes the texts have, summed.
+    pub sum: usize,
+}
+
+/// What an entry's delta makes of its base.
+pub enum Patched {
+    Text(Vec<u8>),
+    /// It makes no text. This is told where the parents and the link are right.
+    Refused(BundleFault),
+}
+
+impl Gathered {
+    /// Nothing was read: the store is as it was.
+    pub fn new(alloc: Global, store: HgStore) -> Gathered
+        ensures { result ≡ record { store = store; arrivals = []; last = None; sum = 0 } }
+    {
+        Gathered {
+            store,
+            arrivals: Arrivals::new(alloc),
+            last: None,
+            sum: 0,
+        }
+    }
+
+    /// Takes the chunk that stood at a place, and says where the next one stands.
+    pub fn take(
+        &mut self,
+        alloc: Global,
+        place: Place,
+        at: u64,
+        payload: &[u8],
+    ) -> Result<Option<Place>, BundleFault>
+        requires sum { self.old.sum ≤ sum_limit }
+        requires at { at ≤ 2 ^ 29 }
+        requires small { length payload.now < 2 ^ 31 }
+        requires fit { HasFitPlace (Some (place_value place)) }
+        requires last { HasLastAt self.old.store self.old.last (Some (place_value place)) }
+        ensures next { IfOk result (λ next. option_map place_value next ≡ next_place (place_value place) payload.now) }
+        ensures fit { IfOk result (λ next. HasFitPlace (option_map place_value next)) }
+        ensures last { IfOk result (λ next. HasLastAt self.new.store self.new.last (option_map place_value next)) }
+        ensures sum { OnOk result (self.new.sum ≤ sum_limit) }
+        ensures steps { OnOk result (Steps (place_value place) at payload.now self.old self.new) }
+        ensures fault { IfErr result (IsJudgement (step_refusal (place_value place) at payload.now self.old)) }
+    {
+        if payload.is_empty() {
+            self.last = None;
+            return Ok(place.after_empty());
+        }
+        match place {
+            Place::AtPath => {
+                self.last = None;
+                Ok(Some(Place::In(file_group(alloc, at, payload)?)))
+            }
+            Place::In(group) => {
+                if payload.len() < HEADER {
+                    return Err(bad(HgByteFault::HeaderShort, Id::NULL, at));
+                }
+                self.add(alloc, &group, at, &Entry::of(payload))?;
+                Ok(Some(Place::In(group)))
+            }
+        }
+    }
+
+    // Adds the revision of an entry.
+    fn add(
+        &mut self,
+        alloc: Global,
+        group: &Group,
+        at: u64,
+        entry: &Entry<'_>,
+    ) -> Result<(), BundleFault>
+        requires sum { self.old.sum ≤ sum_limit }
+        requires at { at ≤ 2 ^ 29 }
+        requires small { length entry.now.delta.now < 2 ^ 31 }
+        requires fit { HasFitPath (group_value group.now) }
+        requires last { HasLast self.old.store (group_value group.now) self.old.last }
+        ensures sum { OnOk result (self.new.sum ≤ sum_limit) }
+        ensures adds { OnOk result (Adds (group_value group.now) at (entry_value entry.now) self.old self.new) }
+        ensures fault { IfErr result (IsJudgement (fault_for self.old.store self.old.sum (group_value group.now) self.old.last at (entry_value entry.now))) }
+    {
+        let path = group.path(alloc)?;
+        let text = self.text(alloc, group, at, entry)?;
+        let len = text.len();
+        let fresh = match self.store.add(entry.with_text(group, text)) {
+            Ok(added) => added == Added::New,
+            Err(fault) => return Err(addition_fault(fault, entry.node, at)),
+        };
+        let arrival = Arrival {
+            kind: group.kind(),
+            path,
+            node: entry.node,
+            at,
+            fresh,
+        };
+        self.arrivals.push(arrival)?;
+        self.last = Some(entry.node);
+        self.sum += len;
+        Ok(())
+    }
+
+    // The text of an entry. Where its delta makes none, a fault of its parents or its link comes first.
+    fn text(
+        &self,
+        alloc: Global,
+        group: &Group,
+        at: u64,
+        entry: &Entry<'_>,
+    ) -> Result<Vec<u8>, BundleFault>
+        requires sum { self.now.sum ≤ sum_limit }
+        requires at { at ≤ 2 ^ 29 }
+        requires small { length entry.now.delta.now < 2 ^ 31 }
+        requires last { HasLast self.now.store (group_value group.now) self.now.last }
+        ensures text { IfOk result (λ text. HasText self.now.store self.now.sum (group_value group.now) self.now.last (entry_value entry.now) text.items) }
+        ensures fault { IfErr result (IsJudgement (fault_for self.now.store self.now.sum (group_value group.now) self.now.last at (entry_value entry.now))) }
+    {
+        match self.patched(alloc, group, at, entry)? {
+            Patched::Text(text) => Ok(text),
+            Patched::Refused(refused) => {
+                let empty = entry.with_text(group, Vec::new(alloc));
+                match self.store.check_ancestry(&empty) {
+                    Ok(()) => Err(refused),
+                    Err(fault) => Err(addition_fault(fault, entry.node, at)),
+                }
+            }
+        }
+    }
+
+    // What the delta of an entry makes of its base. The limits come first.
+    fn patched(
+        &self,
+        alloc: Global,
+        group: &Group,
+        at: u64,
+        entry: &Entry<'_>,
+    ) -> Result<Patched, BundleFault>
+        requires sum { self.now.sum ≤ sum_limit }
+        requires at { at ≤ 2 ^ 29 }
+        requires small { length entry.now.delta.now < 2 ^ 31 }
+        requires last { HasLast self.now.store (group_value group.now) self.now.last }
+        ensures patched { IfOk result (Patches self.now.store self.now.sum (group_value group.now) self.now.last at (entry_value entry.now)) }
+        ensures fault { IfErr result (IsJudgement (fault_for self.now.store self.now.sum (group_value group.now) self.now.last at (entry_value entry.now))) }
+    {
+        let Some(base) = self.base(group, &entry.p) else {
+            let fault = bad(HgByteFault::ParentUnknown, entry.node, at);
+            return Ok(Patched::Refused(fault));
+        };
+        let len = match patched_len(base.len(), entry.delta, SUM_LIMIT - self.sum) {
+            Ok(len) => len,
+            Err(HunkFault::Shape(place)) => {
+                let fault = bad(HgByteFault::HunkShape, entry.node, hunk_place(at, place));
+                return Ok(Patched::Refused(fault));
+            }
+            Err(HunkFault::Range(place)) => {
+                let fault = bad(HgByteFault::HunkRange, entry.node, hunk_place(at, place));
+                return Ok(Patched::Refused(fault));
+            }
+            Err(HunkFault::Limit) => return Err(bad(HgByteFault::InputLimit, Id::NULL, at)),
+            Err(HunkFault::Memory) => return Err(BundleFault::Memory),
+        };
+        if len > group.text_limit() {
+            return Err(bad(HgByteFault::Limit, entry.node, at));
+        }
+        let mut text = Vec::with_capacity(alloc, len)?;
+        fill(&mut text, base, entry.delta);
+        Ok(Patched::Text(text))
+    }
+
+    // The base of an entry: the text of the entry before, or at the beginning of a group that of the first parent.
+    fn base(&self, group: &Group, parent: &Id) -> Option<&[u8]>
+        ensures { option_map (λ base. base.now) result ≡ base_for self.now.store (group_value group.now) self.now.last parent.now }
+    {
+        match &self.last {
+            Some(node) => self.store.revision_text(group.of_store(), node),
+            None if parent.is_null() => Some(b""),
+            None => self.store.revision_text(group.of_store(), parent),
+        }
+    }
+}
+
+// The group of the file at a path, which is fit.
+fn file_group(alloc: Global, at: u64, path: &[u8]) -> Result<Group, BundleFault>
+    ensures group { IfOk result (λ group. group_value group ≡ FilesAt path.now) }
+    ensures fit { OnOk result (is_fit_path path.now ≡ true) }
+    ensures fault { IfErr result (IsJudgement (if is_fit_path path.now then None else Some (refusal_at fault.PathUnfit at))) }
+{
+    if !fit_path(path) {
+        return Err(bad(HgByteFault::PathUnfit, Id::NULL, at));
+    }
+    Ok(Group::File(Bytes::of(alloc, path)?))
+}
+
+// The offset in the input of a hunk at a place of a delta, whose entry stands at an offset.
+fn hunk_place(at: u64, place: usize) -> u64
+    requires at { at ≤ 2 ^ 29 }
+    requires place { place < 2 ^ 31 }
+    ensures { result ≡ hunk_place at place }
+{
+    at + BEFORE_DELTA + place as u64
+}
+
+fn bad(why: HgByteFault, id: Id, at: u64) -> BundleFault
+    ensures { result ≡ Bad why id at }
+{
+    BundleFault::Bad { why, id, at }
+}

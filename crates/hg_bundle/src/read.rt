@@ -1,0 +1,55 @@
+// A bundle, read into a store.
+ghost use Rattle.std.specs.Prelude.{◌≡◌, IfSome, IfOk, IfErr, OnOk};
+ghost use Rattle.std.specs.Io.KnownBytes.{IsAtEnd};
+ghost use Rattle.hg_bundle.specs.Arrivals.{Reads};
+ghost use Rattle.hg_bundle.specs.Brought.{BringsBundle, TellsUnreadable};
+ghost use Rattle.hg_bundle.specs.Faults.{AnswerCause};
+
+use crate::arrival::Arrivals;
+use crate::fault::BundleFault;
+use crate::gather::Gathered;
+use crate::place::{Group, Place};
+use bridge_io::Source;
+use bridge_text::each_is_byte;
+use hg_chunk::ChunkReader;
+use hg_store::HgStore;
+use std::alloc::Global;
+
+/// Reads a bundle to the end of its source into a store, and lists its entries, in the order of the bundle. The texts are
+/// made of the deltas, and each revision is checked and added as it comes.
+///
+/// A bundle is that of Mercurial's help topics `internals.bundles` and `internals.changegroups` (HG10UN, changegroup
+/// version 1). The delta of the first entry of a group is against its first parent's text, empty for the null id, and each
+/// later one against the text before it. A text of a changeset has at most 2^24 bytes, another at most 2^26, and all of
+/// them together at most 2^30.
+///
+/// `Ok` says that the bytes are a bundle within the limits, of which each revision can be added to those before it, and
+/// `Bad` that they are none. Its fault is the first of the input. Of one entry these come in this order: `InputLimit` and
+/// `Limit`, the faults of its parents and its link, those of its hunks, those of its node and its text, and `Collision`.
+pub fn read_into<S: Source>(
+    alloc: Global,
+    src: &mut S,
+    store: HgStore,
+) -> Result<(HgStore, Arrivals), BundleFault>
+    // what the bytes are, by the relations of the format
+    ensures bundle { IfOk result (λ read. IfSome (S.left src.old) (λ bytes. BringsBundle store bytes read.0 read.1)) }
+    ensures no_bundle { IfErr result (λ e. IfSome (S.left src.old) (TellsUnreadable store e)) }
+    // exactly what was listed, and why the bytes are refused
+    ensures reads { IfSome (S.left src.old) (λ bytes. Reads store bytes result) }
+    ensures end { OnOk result (IsAtEnd (S.left src.new)) }
+    ensures cause { AnswerCause (S.faults src.old) (S.faults src.new) result }
+{
+    let mut reader = ChunkReader::new();
+    reader.magic(src)?;
+    let mut gathered = Gathered::new(alloc, store);
+    let mut next = Some(Place::In(Group::Changesets));
+    let mut payload = Vec::new(alloc);
+    'chunks: while let Some(place) = next {
+        let at = reader.offset();
+        reader.next(src, place.most(), &mut payload)?;
+        each_is_byte(&payload);
+        next = gathered.take(alloc, place, at, &payload)?;
+    }
+    reader.finish(src)?;
+    Ok((gathered.store, gathered.arrivals))
+}

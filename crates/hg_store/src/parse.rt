@@ -1,0 +1,67 @@
+ghost use Rattle.std.specs.Prelude.{◌≡◌, false, None, OnOk, IfOk, IfErr};
+ghost use Rattle.text_model.specs.Fault as name;
+ghost use Rattle.hg_model.specs.FileText.{lacks_second_mark};
+ghost use Rattle.hg_model.specs.Revision.{Changesets, Manifests, named_if, shape_fault};
+ghost use Rattle.hg_store.specs.Groups.{group_value, HasValue};
+ghost use Rattle.hg_store.specs.Known.{HasBlob};
+ghost use Rattle.hg_store.specs.Faults.{IsFault};
+
+use crate::fault::AddFault;
+use crate::group::Group;
+use crate::held::Parsed;
+use bridge_text::{Id, Kind, object_id};
+use hg_changeset::{Changeset, ChangesetFault};
+use hg_filelog::split;
+use hg_manifest::{Manifest, ManifestFault, reads_exactly};
+use std::alloc::Global;
+
+// What a text of a group says.
+pub fn parse(alloc: Global, group: Group<'_>, text: &[u8]) -> Result<Parsed, AddFault>
+    ensures shape { OnOk result (shape_fault (group_value group.entry) text.now ≡ None) }
+    ensures value { IfOk result (HasValue (group_value group.entry) text.now) }
+    ensures fault { IfErr result (IsFault (shape_fault (group_value group.entry) text.now)) }
+{
+    match group {
+        Group::Changesets => parse_changeset(alloc, text),
+        Group::Manifests => parse_manifest(alloc, text),
+        Group::FilesAt(_) => Ok(Parsed::File(body_blob(text)?)),
+    }
+}
+
+fn parse_changeset(alloc: Global, text: &[u8]) -> Result<Parsed, AddFault>
+    ensures shape { OnOk result (shape_fault Changesets text.now ≡ None) }
+    ensures value { IfOk result (HasValue Changesets text.now) }
+    ensures fault { IfErr result (IsFault (shape_fault Changesets text.now)) }
+{
+    match Changeset::read(alloc, text) {
+        Ok(changeset) => Ok(Parsed::Changeset(changeset)),
+        Err(ChangesetFault::Shape(_)) => Err(AddFault::ChangesetShape),
+        Err(ChangesetFault::Memory) => Err(AddFault::Memory),
+    }
+}
+
+fn parse_manifest(alloc: Global, text: &[u8]) -> Result<Parsed, AddFault>
+    ensures shape { OnOk result (shape_fault Manifests text.now ≡ None) }
+    ensures value { IfOk result (HasValue Manifests text.now) }
+    ensures fault { IfErr result (IsFault (shape_fault Manifests text.now)) }
+{
+    reads_exactly();
+    match Manifest::read(alloc, text) {
+        Ok(manifest) => Ok(Parsed::Manifest(manifest)),
+        Err(ManifestFault::Shape(_)) => Err(AddFault::ManifestShape),
+        Err(ManifestFault::PathUnfit(_)) => Err(AddFault::PathUnfit),
+        Err(ManifestFault::Memory) => Err(AddFault::Memory),
+    }
+}
+
+// The id that the body of the text of a file revision has as a Git blob.
+fn body_blob(text: &[u8]) -> Result<Id, AddFault>
+    ensures shape { OnOk result (lacks_second_mark text.now ≡ false) }
+    ensures blob { IfOk result (HasBlob text.now) }
+    ensures fault { IfErr result (IsFault (named_if (lacks_second_mark text.now) name.FileShape)) }
+{
+    match split(text) {
+        Ok((_, body)) => Ok(object_id(Kind::Blob, body)),
+        Err(_) => Err(AddFault::FileShape),
+    }
+}

@@ -1,0 +1,100 @@
+ghost use Rattle.std.specs.Prelude.{◌≡◌, None, false, option_map, MatchResult, MatchOption};
+ghost use Rattle.std.specs.Option.{option_copied};
+ghost use Rattle.hg_model.specs.Revision.{Changesets, knows};
+ghost use Rattle.hg_changeset.specs.Values.{changeset_value};
+ghost use Rattle.hg_store.specs.Known.{manifest_text_of};
+ghost use Rattle.hg_store.specs.Views.{IsView, IsViewFault, IsChangesetOf, IsManifestOf, first_unknown};
+
+use crate::fault::ViewFault;
+use crate::group::Group;
+use crate::held::Parsed;
+use crate::store::HgStore;
+use bridge_text::Id;
+use hg_changeset::Changeset;
+use hg_manifest::Manifest;
+
+/// A changeset with its manifest, lent from a store.
+#[derive(Drop)]
+pub struct View<'a> {
+    /// The first parent, or the null id.
+    pub p1: Id,
+    /// The second parent, or the null id.
+    pub p2: Id,
+    pub changeset: &'a Changeset,
+    /// The node of the manifest; the null id where there is none.
+    pub manifest_node: Id,
+    /// The manifest, whose file revisions are all in the store; the null id has the empty one.
+    pub manifest: &'a Manifest,
+}
+
+impl HgStore {
+    /// The changeset of a node with the manifest that it names, lent from the store. ChangesetUnknown comes exactly where no
+    /// changeset has the node, ManifestUnknown where its manifest isn't null and unknown, and FileUnknown where a line of this
+    /// names a file revision that is unknown, with the first such line.
+    pub fn view_of(&self, node: &Id) -> Result<View<'_>, ViewFault>
+        ensures { MatchResult result (IsView self.now node.now) (IsViewFault self.now node.now) }
+    {
+        let Some((p1, p2, changeset)) = self.changeset(node) else {
+            return Err(ViewFault::ChangesetUnknown);
+        };
+        let Some(manifest) = self.manifest(&changeset.manifest) else {
+            return Err(ViewFault::ManifestUnknown);
+        };
+        match self.first_unknown(manifest) {
+            Some(line) => Err(ViewFault::FileUnknown(line)),
+            None => Ok(View {
+                p1,
+                p2,
+                changeset,
+                manifest_node: changeset.manifest,
+                manifest,
+            }),
+        }
+    }
+
+    // The parents and the fields of a changeset.
+    fn changeset(&self, node: &Id) -> Option<(Id, Id, &Changeset)>
+        ensures { MatchOption result (knows self.now Changesets node.now ≡ false)
+            (λ found. IsChangesetOf self.now node.now found.0 found.1 (changeset_value found.2.now)) }
+    {
+        let Some(held) = self.get(Group::Changesets, node) else {
+            return None;
+        };
+        match &held.parsed {
+            Parsed::Changeset(changeset) => Some((held.p, held.q, changeset)),
+            Parsed::Manifest(_) => None,
+            Parsed::File(_) => None,
+        }
+    }
+
+    // The manifest of a node, the empty one for the null id.
+    fn manifest(&self, node: &Id) -> Option<&Manifest>
+        ensures { MatchOption result (manifest_text_of self.now node.now ≡ None)
+            (λ found. IsManifestOf self.now node.now found.now) }
+    {
+        if node.is_null() {
+            return Some(self.null_manifest());
+        }
+        let Some(held) = self.get(Group::Manifests, node) else {
+            return None;
+        };
+        match &held.parsed {
+            Parsed::Manifest(manifest) => Some(manifest),
+            Parsed::Changeset(_) => None,
+            Parsed::File(_) => None,
+        }
+    }
+
+    // The first line of a manifest whose file revision is unknown.
+    fn first_unknown(&self, manifest: &Manifest) -> Option<usize>
+        ensures { result ≡ first_unknown self.now manifest.now }
+    {
+        for line in 0..manifest.len() {
+            let entry = manifest.at(line);
+            if !self.knows(Group::FilesAt(entry.path.as_slice()), &entry.node) {
+                return Some(line);
+            }
+        }
+        None
+    }
+}

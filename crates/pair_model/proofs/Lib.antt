@@ -1,0 +1,5 @@
+pub mod EndLemmas
+pub mod AddressLemmas
+pub mod ZoneLemmas
+pub mod UserLemmas
+pub mod MessageLemmas
