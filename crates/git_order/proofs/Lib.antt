@@ -1,0 +1,4 @@
+pub mod FindLemmas
+pub mod OnceLemmas
+pub mod PlacingLemmas
+pub mod SeatLemmas

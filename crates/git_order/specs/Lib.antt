@@ -1,0 +1,4 @@
+pub mod Ancestry
+pub mod Faults
+pub mod Waiting
+pub mod Stage
