@@ -1,1 +1,5 @@
 pub mod User
+pub mod MarkList
+pub mod Block
+pub mod Rule
+pub mod Octopus
