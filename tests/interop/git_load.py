@@ -1,0 +1,120 @@
+"""tools/git-load: what it loads is what the stream holds, and nothing is loaded where something is wrong."""
+import os
+import subprocess
+import tempfile
+from typing import NamedTuple
+
+import real_git
+from formats import git as streams
+from tools import ENVIRONMENT, git
+
+TOOL = os.path.join(os.path.dirname(os.path.dirname(os.path.dirname(os.path.abspath(__file__)))), 'tools', 'git-load')
+NO_ID = b'12' * 20
+
+
+class Source(NamedTuple):
+    """A repository, its objects as a stream, and its refs as a refs text."""
+    folder: str
+    data: bytes
+    refs: bytes
+
+
+def check(report):
+    with tempfile.TemporaryDirectory() as folder:
+        source = source_in(folder)
+        check_whole(report, source)
+        check_parts(report, source)
+        check_faults_of_new(report, source)
+        check_faults_of_old(report, source)
+
+
+def source_in(folder):
+    real_git.make_repository(folder)
+    data = git(folder, 'cat-file', '--batch', data=real_git.object_ids(folder))
+    return Source(folder, data, git(folder, 'for-each-ref', '--format=%(objectname) %(refname)'))
+
+
+def load(folder, data, refs=None, name='loaded.git'):
+    """The status of the tool, run in a folder."""
+    words = [TOOL, name]
+    if refs is not None:
+        with open(os.path.join(folder, 'refs'), 'wb') as file:
+            file.write(refs)
+        words += ['--refs', 'refs']
+    run = subprocess.run(words, cwd=folder, env=ENVIRONMENT, input=data, capture_output=True)
+    if folder_has(folder, 'refs'):
+        os.remove(os.path.join(folder, 'refs'))
+    return run.returncode
+
+
+def folder_has(folder, name):
+    return os.path.exists(os.path.join(folder, name))
+
+
+def shown(repository):
+    """What a repository holds: its refs, and all that they lead to."""
+    return git(repository, 'for-each-ref'), sorted(real_git.object_ids(repository).split())
+
+
+def files_of(folder):
+    """Every file below a folder with its bytes."""
+    found = {}
+    for path, _, names in os.walk(folder):
+        for name in names:
+            with open(os.path.join(path, name), 'rb') as file:
+                found[os.path.join(path, name)] = file.read()
+    return found
+
+
+def check_whole(report, source):
+    with tempfile.TemporaryDirectory() as folder:
+        status = load(folder, source.data, source.refs)
+        made = os.path.join(folder, 'loaded.git')
+        report.check('git-load: a whole repository is loaded with its refs', (status, shown(made)), (0, shown(source.folder)))
+        report.check('git-load: git fsck finds nothing in it', git(made, 'fsck', '--strict', '--no-dangling'), b'')
+        report.check('git-load: HEAD names a branch that is there', git(made, 'symbolic-ref', 'HEAD'), b'refs/heads/main\n')
+        before = files_of(made)
+        report.check('git-load: the same again changes nothing', (load(folder, source.data, source.refs), files_of(made)), (0, before))
+        report.check('git-load: nothing else is left beside it', os.listdir(folder), ['loaded.git'])
+
+
+def check_parts(report, source):
+    """A commit with what it leads to, and then all that is left, in the opposite order."""
+    early = git(source.folder, 'rev-list', '--objects', 'main~15').splitlines()
+    first = {line.split(b' ')[0] for line in early}
+    objects = [o for o in streams.objects_of(source.data)]
+    texts = [b''.join(source.data[o.at:o.content_at + len(o.content) + 1] for o in objects if (o.id in first) == is_first) for is_first in (True, False)]
+    with tempfile.TemporaryDirectory() as folder:
+        answers = [load(folder, texts[0]), load(folder, texts[1], source.refs)]
+        report.check('git-load: a repository is loaded in two parts', (answers, shown(os.path.join(folder, 'loaded.git'))), ([0, 0], shown(source.folder)))
+
+
+def faults_of(source):
+    """Streams and refs texts of which nothing may be loaded."""
+    commit = next(o for o in streams.objects_of(source.data) if o.kind == b'commit')
+    blob = next(o for o in streams.objects_of(source.data) if o.kind == b'blob' and o.content)
+    flipped = source.data[:blob.content_at] + bytes([source.data[blob.content_at] ^ 1]) + source.data[blob.content_at + 1:]
+    alone = source.data[commit.at:commit.content_at + len(commit.content) + 1]
+    yield 'a cut stream', source.data[:-10], None
+    yield 'a missing object', source.data + NO_ID + b' missing\n', None
+    yield 'a flipped byte', flipped, None
+    yield 'a line with another size', source.data.replace(b' blob %d\n' % len(blob.content), b' blob 0%d\n' % len(blob.content), 1), None
+    yield 'a commit without its tree', alone, None
+    yield 'a ref to no object', source.data, source.refs + NO_ID + b' refs/heads/none\n'
+    yield 'a line of another form among the refs', source.data, source.refs + b'main\n'
+    yield 'a ref that stands twice', source.data, source.refs + source.refs
+    yield 'a branch of a tag', source.data, source.refs + git(source.folder, 'rev-parse', 'v1').strip() + b' refs/heads/of-a-tag\n'
+
+
+def check_faults_of_new(report, source):
+    for name, data, refs in faults_of(source):
+        with tempfile.TemporaryDirectory() as folder:
+            report.check(f'git-load: {name}: no repository is made', (load(folder, data, refs), os.listdir(folder)), (1, []))
+
+
+def check_faults_of_old(report, source):
+    with tempfile.TemporaryDirectory() as folder:
+        load(folder, b'')
+        before = files_of(folder)
+        for name, data, refs in faults_of(source):
+            report.check(f'git-load: {name}: the repository is as it was', (load(folder, data, refs), files_of(folder)), (1, before))
