@@ -114,6 +114,11 @@ FUNCTIONS = {
     'option_map': lambda f, o: some(apply(f, [o.args[0]])) if o.name == 'Some' else NONE,
     'option_and_then': lambda f, o: apply(f, [o.args[0]]) if o.name == 'Some' else NONE,
     'is_some': lambda o: o.name == 'Some',
+    'unwrap_or': lambda o, x: o.args[0] if o.name == 'Some' else x,
+    'option_or': lambda o, p: o if o.name == 'Some' else p,
+    'last_or': lambda o, xs: some(xs[-1]) if xs else o,
+    'unsigned_abs': lambda z: z.args[0] + (z.name == 'negsuc'),
+    'sum_by': lambda f, xs: sum(apply(f, [x]) for x in xs),
     # crates
     'sha1': lambda xs: tuple(hashlib.sha1(bytes(xs)).digest()),
     'encode_lower': lambda xs: tuple(bytes(xs).hex().encode()),
