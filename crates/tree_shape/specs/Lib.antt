@@ -1,0 +1,6 @@
+pub mod Clashes
+pub mod Faults
+pub mod Walks
+pub mod Shapes
+pub mod Sets
+pub mod Laws

@@ -1,0 +1,49 @@
+ghost use Rattle.std.specs.Prelude.{◌≡◌};
+ghost use Rattle.git_object.specs.Values.{mode_value};
+
+use bridge_text::{Bytes, Id};
+use git_object::Mode;
+use std::marker::Model;
+
+/// A file of a tree.
+#[derive(Debug, Drop)]
+pub struct FileRow {
+    /// Its path from the root, with slashes between the names.
+    pub path: Bytes,
+    /// What it is.
+    pub mode: Mode,
+    /// The id of its blob.
+    pub blob: Id,
+}
+
+impl Model for FileRow {
+    ghost use Rattle.git_model.specs.Unfold as model;
+    ghost use Rattle.git_object.specs.Values.{mode_value};
+
+    ghost Value = { model.FileRow };
+
+    ghost view = { λ r. record { path = r.path; mode = mode_value r.mode; id = r.blob } };
+}
+
+impl FileRow {
+    /// Its path.
+    pub fn path(&self) -> &[u8]
+        ensures { result.now ≡ self.now.path }
+    {
+        self.path.as_slice()
+    }
+
+    /// What it is.
+    pub fn mode(&self) -> Mode
+        ensures { mode_value result ≡ self.now.mode }
+    {
+        self.mode
+    }
+
+    /// The id of its blob.
+    pub fn blob(&self) -> &Id
+        ensures { result.now ≡ self.now.id }
+    {
+        &self.blob
+    }
+}

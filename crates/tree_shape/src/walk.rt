@@ -1,0 +1,180 @@
+// The walk through a tree, depth first, an entry before what lies below it.
+ghost use Rattle.std.specs.Prelude.{◌≡◌, ◌≤◌, ◌+◌, ◌&&◌, [], ◌∷◌, true, false, nat_lt, nat_le, length, OnOk, IfOk, IfErr, MatchOption};
+ghost use Rattle.text_model.specs.Id.{blob};
+ghost use Rattle.text_model.specs.Path.{is_fit_path};
+ghost use Rattle.git_model.specs.Tree.{is_directory};
+ghost use Rattle.git_model.specs.Unfold.{is_kind_there, joined_path, rows_limit, first_visit_fault};
+ghost use Rattle.git_model.specs.Object.{object_at, tree_at};
+ghost use Rattle.tree_shape.specs.Faults.{IsTreeFault, IsSubtree, IsSubtreeFault};
+ghost use Rattle.tree_shape.specs.Walks.{row_at, refused, entries_visits, IsFront, Walked};
+
+use crate::fault::TreeFault;
+use crate::file_row::FileRow;
+use bridge_text::{Bytes, Id, Kind, NoMemory};
+use git_object::{Objects, Tree, TreeEntry};
+use std::alloc::Global;
+
+/// The most names of a fit path.
+pub const MOST_NAMES: usize = 256;
+
+/// The most bytes of a fit path.
+const MOST_BYTES: usize = 4096;
+
+/// The most that the sizes of the rows may be together.
+const LIMIT: usize = 1 << 26;
+
+/// What a walk has come to.
+#[derive(Drop)]
+pub struct Walk {
+    /// The path of the directory or the entry at which it stands.
+    path: Vec<u8>,
+    /// The sizes of the rows together, each its path's bytes and 42.
+    size: usize,
+    /// The rows of the files that it has met.
+    rows: Vec<FileRow>,
+}
+
+impl Walk {
+    /// A walk that begins at a root.
+    pub fn new(alloc: Global) -> Walk
+        ensures path { result.path.items ≡ [] }
+        ensures size { result.size ≡ 0 }
+        ensures rows { result.rows.items ≡ [] }
+    {
+        Walk {
+            path: Vec::new(alloc),
+            size: 0,
+            rows: Vec::new(alloc),
+        }
+    }
+
+    /// The rows.
+    pub fn into_rows(self) -> Vec<FileRow>
+        ensures { result.items ≡ self.rows.items }
+    {
+        self.rows
+    }
+
+    /// Appends the row of a file, at whose path the walk stands.
+    fn put_file<G: Objects>(
+        &mut self,
+        alloc: Global,
+        store: &G,
+        entry: &TreeEntry,
+    ) -> Result<(), TreeFault>
+        requires within { self.old.size ≤ rows_limit }
+        requires fit { is_fit_path self.old.path.items ≡ true }
+        requires file { is_directory entry.now.mode ≡ false }
+        ensures ok { OnOk result (Walked (G.objects store.now) self.old.size self.new.size self.old.rows.items self.new.rows.items (row_at self.old.path.items entry.now ∷ [])) }
+        ensures path { OnOk result (self.new.path.items ≡ self.old.path.items) }
+        ensures fault { IfErr result (IsTreeFault (refused (G.objects store.now) self.old.size (row_at self.old.path.items entry.now))) }
+    {
+        if !has_blob(store, entry.id()) {
+            return Err(TreeFault::ObjectUnknown(*entry.id()));
+        }
+        let Some(size) = grown(self.size, self.path.len()) else {
+            return Err(TreeFault::Limit);
+        };
+        let path = Bytes::of(alloc, self.path.as_slice())?;
+        self.rows.push(FileRow {
+            path,
+            mode: entry.mode(),
+            blob: *entry.id(),
+        })?;
+        self.size = size;
+        Ok(())
+    }
+}
+
+/// Turns the path of a directory into that of an entry.
+fn push_name(path: &mut Vec<u8>, name: &[u8]) -> Result<(), NoMemory>
+    ensures { OnOk result (path.new.items ≡ joined_path path.old.items name.now) }
+{
+    if path.is_empty() {
+        Ok(path.extend_from_slice(name)?)
+    } else {
+        path.push(b'/')?;
+        Ok(path.extend_from_slice(name)?)
+    }
+}
+
+/// Whether a blob is there.
+fn has_blob<G: Objects>(store: &G, id: &Id) -> bool
+    ensures { result ≡ is_kind_there blob (object_at (G.objects store.now) id.now) }
+{
+    match store.content(id) {
+        Some((Kind::Blob, _)) => true,
+        Some((Kind::Tree | Kind::Commit | Kind::Tag, _)) => false,
+        None => false,
+    }
+}
+
+/// The subtree, which has entries.
+fn subtree_at<'a, G: Objects>(store: &'a G, id: &Id) -> Result<&'a Tree, TreeFault>
+    ensures ok { IfOk result (λ subtree. IsSubtree (tree_at (G.objects store.entry.now) id.now) subtree.now) }
+    ensures fault { IfErr result (IsSubtreeFault (tree_at (G.objects store.entry.now) id.now) id.now) }
+{
+    match store.tree(id) {
+        None => Err(TreeFault::ObjectUnknown(*id)),
+        Some(subtree) => {
+            if subtree.is_empty() {
+                Err(TreeFault::EmptySubtree(*id))
+            } else {
+                Ok(subtree)
+            }
+        }
+    }
+}
+
+/// The size of the rows with one more, if it is within the limit.
+fn grown(size: usize, path_len: usize) -> Option<usize>
+    requires { size ≤ rows_limit }
+    ensures { MatchOption result (nat_lt rows_limit (size + (path_len + 42)) ≡ true)
+        (λ n. (nat_lt rows_limit (size + (path_len + 42)) ≡ false) × (n ≡ size + (path_len + 42))) }
+{
+    let room = LIMIT - size;
+    if path_len > room || room - path_len < 42 {
+        None
+    } else {
+        Some(size + path_len + 42)
+    }
+}
+
+/// Whether a path is fit, whose names are, where so many of them may stand at its end.
+fn is_short(levels: usize, path: &[u8]) -> bool
+    ensures { result ≡ (nat_lt 0 levels && nat_le (length path.now) 4096) }
+{
+    levels > 0 && path.len() <= MOST_BYTES
+}
+
+/// Walks through a tree, below which so many levels of names may stand, and appends its rows.
+pub fn visit_tree<G: Objects>(
+    alloc: Global,
+    store: &G,
+    tree: &Tree,
+    levels: usize,
+    walk: &mut Walk,
+) -> Result<(), TreeFault>
+    requires within { walk.old.size ≤ rows_limit }
+    requires front { IsFront levels walk.old.path.items }
+    ensures ok { OnOk result (Walked (G.objects store.now) walk.old.size walk.new.size walk.old.rows.items walk.new.rows.items (entries_visits (G.objects store.now) levels walk.old.path.items tree.now)) }
+    ensures path { OnOk result (walk.new.path.items ≡ walk.old.path.items) }
+    ensures fault { IfErr result (IsTreeFault (first_visit_fault (G.objects store.now) walk.old.size (entries_visits (G.objects store.now) levels walk.old.path.items tree.now))) }
+{
+    let entries = tree.entries();
+    let front = walk.path.len();
+    'entries: for entry in entries {
+        push_name(&mut walk.path, entry.name())?;
+        if !is_short(levels, walk.path.as_slice()) {
+            return Err(TreeFault::PathUnfit);
+        }
+        if entry.mode().is_directory() {
+            let subtree = subtree_at(store, entry.id())?;
+            visit_tree(alloc, store, subtree, levels - 1, walk)?;
+        } else {
+            walk.put_file(alloc, store, entry)?;
+        }
+        walk.path.truncate(front);
+    }
+    Ok(())
+}
