@@ -1,0 +1,310 @@
+-- The extras of a changeset's marks, as they are read and as they are put.
+use Rattle.std.proofs.Common.{◌≡◌, ◌≤◌, ◌<◌, ◌+◌, ◌^◌, ◌&&◌, ℕ, zero, suc, Bool, true, false, List, [], ◌∷◌, ◌++◌, length, drop, length-drop, Option, Some, None, option_map, refl, sym, ap, subst, ◌∙◌, append_assoc, arith, add-one, leb-true, Result, Ok, Err}
+use Rattle.std.specs.Prelude.{codes, decimal, bytes_eq, nat_le, not, IfOk, MatchOption, if◌then◌else◌, slice_get}
+use Rattle.std.proofs.lemmas.Bool.{not-true, not-false}
+use Rattle.std.specs.Option.{option_and_then}
+use Rattle.std.proofs.lemmas.Slice.Eq.{bytes_eq-Decides}
+use Rattle.std.proofs.lemmas.Bool.Decides.{nat_tests}
+use Rattle.text_model.specs.Text.{Bytes, is_below, decimal_below}
+use Rattle.text_model.proofs.DecimalLemmas.{decimal_below-decimal, decimal_below-takes}
+use Rattle.text_model.proofs.TestLemmas.{both}
+use Rattle.text_model.proofs.EachLemmas.{Each-append}
+use Rattle.hg_model.specs.Changeset.{Extra, extra_at, key_rises, last_key}
+use Rattle.pair_model.specs.MarkList.{ChangesetMarks, extra_of, parents_extra, extras_of, IsPart, IsParentCount, AreChangesetMarks, AreExtrasOf}
+use Rattle.mark_code.specs.Reading.{raw_of, part_at, count_of, count_at, marks_in_extras, AreBelow}
+use Rattle.mark_code.specs.Values.{changeset_marks}
+use Rattle.mark_code.specs.declared.changeset_marks.ChangesetMarks as declared
+use Rattle.mark_code.proofs.RawLemmas.{raw_of-escape, raw_of-takes}
+
+none_some : {X : Type 0} (x : X) → None ≡ Some x → ⊥
+none_some x h = cc
+
+some_is : {X : Type 0} (x y : X) → Some x ≡ Some y → x ≡ y
+some_is x y h = cc
+
+same_key : (key : Bytes) → bytes_eq key key ≡ true
+same_key key = (bytes_eq-Decides key key).1 refl
+
+-- ---- one part
+
+-- where no item has the key, the part is missing
+part_at-none : (key : Bytes) (es : List Extra) → extra_at key es ≡ None → part_at key es ≡ Some (None, es)
+part_at-none key [] h = refl
+part_at-none key (e ∷ es) h = by (bytes_eq e.key key) refl
+  where
+    by : (t : Bool) → bytes_eq e.key key ≡ t → part_at key (e ∷ es) ≡ Some (None, e ∷ es)
+    by true t = absurd (none_some e.value (sym h ∙ rw t refl))
+    by false t = rw t refl
+
+part_at-again : (key : Bytes) (part : Option Bytes) (es : List Extra) → IsPart part → extra_at key es ≡ None → part_at key (extra_of key part ++ es) ≡ Some (part, es)
+part_at-again key None es is h = part_at-none key es h
+part_at-again key (Some part) es is h = rw (same_key key, raw_of-escape part is) refl
+
+part_at-takes : (key : Bytes) (es : List Extra) (part : Option Bytes) (rest : List Extra) → part_at key es ≡ Some (part, rest) → IsPart part × (es ≡ extra_of key part ++ rest)
+part_at-takes key [] part rest h =
+    let same : (None, []) ≡ (part, rest) = some_is {X = Option Bytes × List Extra} (None, []) (part, rest) h in
+    subst (λ (p : Option Bytes × List Extra). IsPart p.0 × ([] ≡ extra_of key p.0 ++ p.1)) same (tt, refl)
+part_at-takes key (e ∷ es) part rest h = by (bytes_eq e.key key) refl (raw_of e.value) refl
+  where
+    Given : Option Bytes × List Extra → Type 0
+    Given p = IsPart p.0 × (e ∷ es ≡ extra_of key p.0 ++ p.1)
+
+    by : (t : Bool) → bytes_eq e.key key ≡ t → (r : Option Bytes) → raw_of e.value ≡ r → IsPart part × (e ∷ es ≡ extra_of key part ++ rest)
+    by false t r q =
+        let same : (None, e ∷ es) ≡ (part, rest) = some_is {X = Option Bytes × List Extra} (None, e ∷ es) (part, rest) (sym (rw t refl) ∙ h) in
+        subst (λ (p : Option Bytes × List Extra). IsPart p.0 × (e ∷ es ≡ extra_of key p.0 ++ p.1)) same (tt, refl)
+    by true t None q = absurd (none_some {X = Option Bytes × List Extra} (part, rest) (sym (rw (t, q) refl) ∙ h))
+    by true t (Some raw) q =
+        let same : (Some raw, es) ≡ (part, rest) = some_is {X = Option Bytes × List Extra} (Some raw, es) (part, rest) (sym (rw (t, q) refl) ∙ h) in
+        let read = raw_of-takes e.value raw q in
+        let key_is : e.key ≡ key = (bytes_eq-Decides e.key key).0 t in
+        subst (λ (p : Option Bytes × List Extra). IsPart p.0 × (e ∷ es ≡ extra_of key p.0 ++ p.1)) same (read.0, (λ i. record { key = key_is i; value = read.1 i } ∷ es))
+
+-- ---- the number of parents
+
+count_of-decimal : (n : ℕ) → 3 ≤ n → n ≤ 64 → count_of (decimal n) ≡ Some n
+count_of-decimal n low high = rw (decimal_below-decimal (2 ^ 64) n (omega arith) (omega arith)) (test n low high)
+  where
+    test : (n : ℕ) → 3 ≤ n → n ≤ 64 → (if nat_le 3 n && nat_le n 64 then Some n else None) ≡ Some n
+    test n low high = grind (arith, nat_tests)
+
+count_of-takes : (text : Bytes) (n : ℕ) → count_of text ≡ Some n → (text ≡ decimal n) × (3 ≤ n) × (n ≤ 64)
+count_of-takes text n h = by (decimal_below (2 ^ 64) text) refl
+  where
+    by : (r : Option ℕ) → decimal_below (2 ^ 64) text ≡ r → (text ≡ decimal n) × (3 ≤ n) × (n ≤ 64)
+    by None r = absurd (none_some n (sym (ap (option_and_then (λ n. if nat_le 3 n && nat_le n 64 then Some n else None)) r) ∙ h))
+    by (Some m) r = within (nat_le 3 m && nat_le m 64) refl
+      where
+        whole : (if nat_le 3 m && nat_le m 64 then Some m else None) ≡ Some n
+        whole = sym (ap (option_and_then (λ n. if nat_le 3 n && nat_le n 64 then Some n else None)) r) ∙ h
+
+        within : (t : Bool) → (nat_le 3 m && nat_le m 64) ≡ t → (text ≡ decimal n) × (3 ≤ n) × (n ≤ 64)
+        within false t = absurd (none_some n (sym (rw t refl) ∙ whole))
+        within true t =
+            let same : m ≡ n = some_is m n (sym (rw t refl) ∙ whole) in
+            let p = both (nat_le 3 m) (nat_le m 64) t in
+            let d = decimal_below-takes (2 ^ 64) text m (omega arith) r in
+            subst (λ (k : ℕ). (text ≡ decimal k) × (3 ≤ k) × (k ≤ 64)) same (d.0, leb-true 3 m p.0, leb-true m 64 p.1)
+
+count_at-again : (parents : Option ℕ) → IsParentCount parents → count_at (parents_extra parents) ≡ Some parents
+count_at-again None h = refl
+count_at-again (Some n) h = ap (option_map (λ (m : ℕ). Some m)) (count_of-decimal n h.0 h.1)
+
+count_at-takes : (es : List Extra) (parents : Option ℕ) → count_at es ≡ Some parents → IsParentCount parents × (es ≡ parents_extra parents)
+count_at-takes [] parents h = subst (λ (p : Option ℕ). IsParentCount p × ([] ≡ parents_extra p)) (some_is None parents h) (tt, refl)
+count_at-takes (e ∷ f ∷ es) parents h = absurd (none_some parents h)
+count_at-takes (e ∷ []) parents h = by (bytes_eq e.key (codes "hg-git-parents")) refl (count_of e.value) refl
+  where
+    by : (t : Bool) → bytes_eq e.key (codes "hg-git-parents") ≡ t → (r : Option ℕ) → count_of e.value ≡ r → IsParentCount parents × (e ∷ [] ≡ parents_extra parents)
+    by false t r q = absurd (none_some parents (sym (rw t refl) ∙ h))
+    by true t None q = absurd (none_some parents (sym (rw (t, q) refl) ∙ h))
+    by true t (Some n) q =
+        let same : Some n ≡ parents = some_is (Some n) parents (sym (rw (t, q) refl) ∙ h) in
+        let read = count_of-takes e.value n q in
+        let key_is : e.key ≡ codes "hg-git-parents" = (bytes_eq-Decides e.key (codes "hg-git-parents")).0 t in
+        subst (λ (p : Option ℕ). IsParentCount p × (e ∷ [] ≡ parents_extra p)) same ((read.1, read.2), (λ i. record { key = key_is i; value = read.0 i } ∷ []))
+
+-- ---- the whole
+
+-- a key that isn't the first is looked for behind it
+skip : (key other : Bytes) → bytes_eq other key ≡ false → (part : Option Bytes) (es : List Extra) → extra_at key (extra_of other part ++ es) ≡ extra_at key es
+skip key other apart None es = refl
+skip key other apart (Some part) es = rw apart refl
+
+no_count : (key : Bytes) → bytes_eq (codes "hg-git-parents") key ≡ false → (parents : Option ℕ) → extra_at key (parents_extra parents) ≡ None
+no_count key apart None = refl
+no_count key apart (Some n) = rw apart refl
+
+-- what is left behind the author, behind the committer, and behind the headers
+abbrev behind_author : ChangesetMarks → List Extra
+behind_author m = extra_of (codes "hg-git-committer") m.committer ++ (extra_of (codes "hg-git-headers") m.headers ++ (extra_of (codes "hg-git-message") m.message ++ parents_extra m.parents))
+
+abbrev behind_committer : ChangesetMarks → List Extra
+behind_committer m = extra_of (codes "hg-git-headers") m.headers ++ (extra_of (codes "hg-git-message") m.message ++ parents_extra m.parents)
+
+abbrev behind_headers : ChangesetMarks → List Extra
+behind_headers m = extra_of (codes "hg-git-message") m.message ++ parents_extra m.parents
+
+turned : (m : ChangesetMarks) → extras_of m ≡ extra_of (codes "hg-git-author") m.author ++ behind_author m
+unfolding extras_of
+turned m = simp append_assoc
+
+no_headers_key : (m : ChangesetMarks) → extra_at (codes "hg-git-headers") (behind_headers m) ≡ None
+no_headers_key m = skip (codes "hg-git-headers") (codes "hg-git-message") refl m.message (parents_extra m.parents) ∙ no_count (codes "hg-git-headers") refl m.parents
+
+no_committer_key : (m : ChangesetMarks) → extra_at (codes "hg-git-committer") (behind_committer m) ≡ None
+no_committer_key m =
+    skip (codes "hg-git-committer") (codes "hg-git-headers") refl m.headers (behind_headers m)
+    ∙ skip (codes "hg-git-committer") (codes "hg-git-message") refl m.message (parents_extra m.parents) ∙ no_count (codes "hg-git-committer") refl m.parents
+
+no_author_key : (m : ChangesetMarks) → extra_at (codes "hg-git-author") (behind_author m) ≡ None
+no_author_key m =
+    skip (codes "hg-git-author") (codes "hg-git-committer") refl m.committer (behind_committer m)
+    ∙ skip (codes "hg-git-author") (codes "hg-git-headers") refl m.headers (behind_headers m)
+    ∙ skip (codes "hg-git-author") (codes "hg-git-message") refl m.message (parents_extra m.parents) ∙ no_count (codes "hg-git-author") refl m.parents
+
+-- the extras of marks read as the marks
+pub marks_in_extras-again : (m : ChangesetMarks) → AreChangesetMarks m → marks_in_extras (extras_of m) ≡ Some m
+unfolding marks_in_extras
+marks_in_extras-again m is =
+    let author = part_at-again (codes "hg-git-author") m.author (behind_author m) is.author (no_author_key m) in
+    let committer = part_at-again (codes "hg-git-committer") m.committer (behind_committer m) is.committer (no_committer_key m) in
+    let headers = part_at-again (codes "hg-git-headers") m.headers (behind_headers m) is.headers (no_headers_key m) in
+    let message = part_at-again (codes "hg-git-message") m.message (parents_extra m.parents) is.message (no_count (codes "hg-git-message") refl m.parents) in
+    rw (turned m, author, committer, headers, message, count_at-again m.parents is.parents) refl
+
+-- what the extras read as has these extras
+pub marks_in_extras-takes : (extras : List Extra) (m : ChangesetMarks) → marks_in_extras extras ≡ Some m → AreExtrasOf extras m
+unfolding marks_in_extras
+marks_in_extras-takes extras m h = by_author (part_at (codes "hg-git-author") extras) refl
+  where
+    Read : Type 0
+    Read = Option Bytes × List Extra
+
+    by_author : (r : Option (Option Bytes × List Extra)) → part_at (codes "hg-git-author") extras ≡ r → AreExtrasOf extras m
+    by_author None r = absurd (none_some m (sym (rw r refl) ∙ h))
+    by_author (Some a) r = by_committer (part_at (codes "hg-git-committer") a.1) refl
+      where
+        by_committer : (s : Option (Option Bytes × List Extra)) → part_at (codes "hg-git-committer") a.1 ≡ s → AreExtrasOf extras m
+        by_committer None s = absurd (none_some m (sym (rw (r, s) refl) ∙ h))
+        by_committer (Some b) s = by_headers (part_at (codes "hg-git-headers") b.1) refl
+          where
+            by_headers : (t : Option (Option Bytes × List Extra)) → part_at (codes "hg-git-headers") b.1 ≡ t → AreExtrasOf extras m
+            by_headers None t = absurd (none_some m (sym (rw (r, s, t) refl) ∙ h))
+            by_headers (Some c) t = by_message (part_at (codes "hg-git-message") c.1) refl
+              where
+                by_message : (u : Option (Option Bytes × List Extra)) → part_at (codes "hg-git-message") c.1 ≡ u → AreExtrasOf extras m
+                by_message None u = absurd (none_some m (sym (rw (r, s, t, u) refl) ∙ h))
+                by_message (Some d) u = by_parents (count_at d.1) refl
+                  where
+                    by_parents : (v : Option (Option ℕ)) → count_at d.1 ≡ v → AreExtrasOf extras m
+                    by_parents None v = absurd (none_some m (sym (rw (r, s, t, u, v) refl) ∙ h))
+                    by_parents (Some n) v =
+                        let x : ChangesetMarks = record { author = a.0; committer = b.0; headers = c.0; message = d.0; parents = n } in
+                        let same : x ≡ m = some_is x m (sym (rw (r, s, t, u, v) refl) ∙ h) in
+                        let author = part_at-takes (codes "hg-git-author") extras a.0 a.1 r in
+                        let committer = part_at-takes (codes "hg-git-committer") a.1 b.0 b.1 s in
+                        let headers = part_at-takes (codes "hg-git-headers") b.1 c.0 c.1 t in
+                        let message = part_at-takes (codes "hg-git-message") c.1 d.0 d.1 u in
+                        let parents = count_at-takes d.1 n v in
+                        let whole : extras ≡ extra_of (codes "hg-git-author") a.0 ++ (extra_of (codes "hg-git-committer") b.0 ++ (extra_of (codes "hg-git-headers") c.0 ++ (extra_of (codes "hg-git-message") d.0 ++ parents_extra n))) =
+                        author.1 ∙ ap (λ (z : List Extra). extra_of (codes "hg-git-author") a.0 ++ z) (committer.1 ∙ ap (λ (z : List Extra). extra_of (codes "hg-git-committer") b.0 ++ z) (headers.1 ∙ ap (λ (z : List Extra). extra_of (codes "hg-git-headers") c.0 ++ z) (message.1 ∙ ap (λ (z : List Extra). extra_of (codes "hg-git-message") d.0 ++ z) parents.1))) in
+                        subst (AreExtrasOf extras) same (record { author = author.0; committer = committer.0; headers = headers.0; message = message.0; parents = parents.0 }, whole ∙ sym (turned x))
+
+-- so extras that read as nothing are those of no marks
+pub marks_in_extras-none : (extras : List Extra) → marks_in_extras extras ≡ None → (m : ChangesetMarks) → AreExtrasOf extras m → ⊥
+marks_in_extras-none extras none m is = none_some m (sym none ∙ ap marks_in_extras is.1 ∙ marks_in_extras-again m is.0)
+
+-- what reading them answers
+pub judged : {E : Type 0} (extras : List Extra) (r : Result (Option declared.ChangesetMarks) E) → IfOk r (λ marks. option_map changeset_marks marks ≡ marks_in_extras extras)
+    → IfOk r (λ marks. MatchOption marks ((m : ChangesetMarks) → ¬ (AreExtrasOf extras m)) (λ marks. AreExtrasOf extras (changeset_marks marks)))
+judged extras (Err e) h = tt
+judged extras (Ok None) h = marks_in_extras-none extras (sym h)
+judged extras (Ok (Some x)) h = marks_in_extras-takes extras (changeset_marks x) (sym h)
+
+-- ---- a place among the items
+
+drop_suc : (es : List Extra) (i : ℕ) (e : Extra) → i < length es → slice_get es i ≡ Some e → drop i es ≡ e ∷ drop (suc i) es
+drop_suc [] i e lt get = absurd (omega arith)
+drop_suc (x ∷ es) zero e lt get = cc
+drop_suc (x ∷ es) (suc i) e lt get = drop_suc es i e (omega arith) get
+
+drop_at : (es : List Extra) (i : ℕ) (e : Extra) → i < length es → slice_get es i ≡ Some e → drop i es ≡ e ∷ drop (i + 1) es
+drop_at es i e lt get = rw add-one (drop_suc es i e lt get)
+
+drop_end : (es : List Extra) (i : ℕ) → i ≡ length es → drop i es ≡ []
+drop_end [] i e = rw e refl
+drop_end (x ∷ es) zero e = absurd (omega arith)
+drop_end (x ∷ es) (suc i) e = drop_end es i (omega arith)
+
+-- an item stands behind this one
+pub count-more : (es : List Extra) (i : ℕ) (e : Extra) → i + 1 < length es → slice_get es i ≡ Some e → None ≡ count_at (drop i es)
+count-more es i e more get = sym (ap count_at (drop_at es i e (omega arith) get) ∙ by (drop (i + 1) es) (omega (arith, length-drop (i + 1) es)))
+  where
+    by : (rest : List Extra) → 0 < length rest → count_at (e ∷ rest) ≡ None
+    by [] h = absurd (omega arith)
+    by (f ∷ rest) h = refl
+
+module _ (es : List Extra) (i : ℕ) (e : Extra) (key value : Bytes) (lt : i < length es) (get : slice_get es i ≡ Some e) (e_is : record { key = key; value = value } ≡ e) where
+  here : drop i es ≡ record { key = key; value = value } ∷ drop (i + 1) es
+  here = drop_at es i e lt get ∙ (λ j. sym e_is j ∷ drop (i + 1) es)
+
+  -- its key is another
+  pub part-other : (wanted seen : Bytes) → seen ≡ key → true ≡ not (bytes_eq seen wanted) → Some (None, drop i es) ≡ part_at wanted (drop i es)
+  part-other wanted seen same other =
+      let apart : bytes_eq key wanted ≡ false = not-true (bytes_eq key wanted) (ap (λ (k : Bytes). not (bytes_eq k wanted)) (sym same) ∙ sym other) in
+      ap (λ (x : List Extra). Some (None, x)) here ∙ sym (ap (part_at wanted) here ∙ first apart)
+    where
+      first : bytes_eq key wanted ≡ false → part_at wanted (record { key = key; value = value } ∷ drop (i + 1) es) ≡ Some (None, record { key = key; value = value } ∷ drop (i + 1) es)
+      first apart = rw apart refl
+
+  -- its key is this one
+  pub part-read : (wanted seen text : Bytes) (r : Option Bytes) → seen ≡ key → false ≡ not (bytes_eq seen wanted) → text ≡ value → r ≡ raw_of text
+      → option_map (λ (part : Bytes). (Some part, drop (i + 1) es)) r ≡ part_at wanted (drop i es)
+  part-read wanted seen text r same is text_is read =
+      let found : bytes_eq key wanted ≡ true = not-false (bytes_eq key wanted) (ap (λ (k : Bytes). not (bytes_eq k wanted)) (sym same) ∙ sym is) in
+      ap (option_map (λ (part : Bytes). (Some part, drop (i + 1) es))) (read ∙ ap raw_of text_is) ∙ sym (ap (part_at wanted) here ∙ first found)
+    where
+      first : bytes_eq key wanted ≡ true → part_at wanted (record { key = key; value = value } ∷ drop (i + 1) es) ≡ option_map (λ (part : Bytes). (Some part, drop (i + 1) es)) (raw_of value)
+      first found = rw found refl
+
+  module _ (last : i + 1 ≡ length es) where
+    alone : drop i es ≡ record { key = key; value = value } ∷ []
+    alone = here ∙ ap (λ (rest : List Extra). record { key = key; value = value } ∷ rest) (drop_end es (i + 1) last)
+
+    pub count-other : (seen : Bytes) → seen ≡ key → true ≡ not (bytes_eq seen (codes "hg-git-parents")) → None ≡ count_at (drop i es)
+    count-other seen same other =
+        let apart : bytes_eq key (codes "hg-git-parents") ≡ false = not-true (bytes_eq key (codes "hg-git-parents")) (ap (λ (k : Bytes). not (bytes_eq k (codes "hg-git-parents"))) (sym same) ∙ sym other) in
+        sym (ap count_at alone ∙ first apart)
+      where
+        first : bytes_eq key (codes "hg-git-parents") ≡ false → count_at (record { key = key; value = value } ∷ []) ≡ None
+        first apart = rw apart refl
+
+    pub count-read : (seen text : Bytes) (r : Option ℕ) → seen ≡ key → false ≡ not (bytes_eq seen (codes "hg-git-parents")) → text ≡ value → r ≡ count_of text
+        → option_map (λ (n : ℕ). Some n) r ≡ count_at (drop i es)
+    count-read seen text r same is text_is read =
+        let found : bytes_eq key (codes "hg-git-parents") ≡ true = not-false (bytes_eq key (codes "hg-git-parents")) (ap (λ (k : Bytes). not (bytes_eq k (codes "hg-git-parents"))) (sym same) ∙ sym is) in
+        ap (option_map (λ (n : ℕ). Some n)) (read ∙ ap count_of text_is) ∙ sym (ap count_at alone ∙ first found)
+      where
+        first : bytes_eq key (codes "hg-git-parents") ≡ true → count_at (record { key = key; value = value } ∷ []) ≡ option_map (λ (n : ℕ). Some n) (count_of value)
+        first found = rw found refl
+
+-- ---- putting the items
+
+-- a key above each is above the last
+pub rises_above : (key : Bytes) (es : List Extra) → AreBelow key es → key_rises (last_key es) key ≡ true
+rises_above key [] h = refl
+rises_above key (e ∷ []) h = h.0
+rises_above key (e ∷ f ∷ es) h = rises_above key (f ∷ es) h.1
+
+-- the items that are put one after the other
+module _ (m : ChangesetMarks) (none first second third fourth : List Extra) (nothing : none ≡ [])
+    (author : first ≡ none ++ extra_of (codes "hg-git-author") m.author) (committer : second ≡ first ++ extra_of (codes "hg-git-committer") m.committer)
+    (headers : third ≡ second ++ extra_of (codes "hg-git-headers") m.headers) (message : fourth ≡ third ++ extra_of (codes "hg-git-message") m.message) where
+  put_first : first ≡ extra_of (codes "hg-git-author") m.author
+  put_first = author ∙ ap (λ (es : List Extra). es ++ extra_of (codes "hg-git-author") m.author) nothing
+
+  put_fourth : fourth ≡ extra_of (codes "hg-git-author") m.author ++ extra_of (codes "hg-git-committer") m.committer ++ extra_of (codes "hg-git-headers") m.headers ++ extra_of (codes "hg-git-message") m.message
+  put_fourth = message ∙ ap (λ (es : List Extra). es ++ extra_of (codes "hg-git-message") m.message) (headers ∙ ap (λ (es : List Extra). es ++ extra_of (codes "hg-git-headers") m.headers) (committer ∙ ap (λ (es : List Extra). es ++ extra_of (codes "hg-git-committer") m.committer) put_first))
+
+  below : (wanted key : Bytes) (part : Option Bytes) → is_below key wanted ≡ true → AreBelow wanted (extra_of key part)
+  below wanted key None h = tt
+  below wanted key (Some part) h = (h, tt)
+
+  pub all_below : AreBelow (codes "hg-git-parents") fourth
+  all_below =
+      let P : Extra → Type 0 = λ (e : Extra). is_below e.key (codes "hg-git-parents") ≡ true in
+      subst (AreBelow (codes "hg-git-parents")) (sym put_fourth)
+      (Each-append P (extra_of (codes "hg-git-author") m.author ++ extra_of (codes "hg-git-committer") m.committer ++ extra_of (codes "hg-git-headers") m.headers) (extra_of (codes "hg-git-message") m.message)
+      (Each-append P (extra_of (codes "hg-git-author") m.author ++ extra_of (codes "hg-git-committer") m.committer) (extra_of (codes "hg-git-headers") m.headers)
+      (Each-append P (extra_of (codes "hg-git-author") m.author) (extra_of (codes "hg-git-committer") m.committer)
+      (below (codes "hg-git-parents") (codes "hg-git-author") m.author refl) (below (codes "hg-git-parents") (codes "hg-git-committer") m.committer refl))
+      (below (codes "hg-git-parents") (codes "hg-git-headers") m.headers refl)) (below (codes "hg-git-parents") (codes "hg-git-message") m.message refl))
+
+  pub all_put : (fifth : List Extra) → fifth ≡ fourth ++ parents_extra m.parents → fifth ≡ extras_of m
+  unfolding extras_of
+  all_put fifth parents = parents ∙ ap (λ (es : List Extra). es ++ parents_extra m.parents) put_fourth
+
+-- extras are those of the marks of one commit at most
+pub one_marks : (extras : List Extra) (m n : ChangesetMarks) → AreExtrasOf extras m → AreExtrasOf extras n → m ≡ n
+one_marks extras m n h k = some_is m n (sym (ap marks_in_extras h.1 ∙ marks_in_extras-again m h.0) ∙ ap marks_in_extras k.1 ∙ marks_in_extras-again n k.0)

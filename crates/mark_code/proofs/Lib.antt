@@ -1,0 +1,6 @@
+pub mod ExtrasLemmas
+pub mod ListLemmas
+pub mod MarkLemmas
+pub mod PathsLemmas
+pub mod RawLemmas
+pub mod WordLemmas

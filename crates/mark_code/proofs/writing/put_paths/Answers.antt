@@ -1,0 +1,6 @@
+use Rattle.std.proofs.Transfers.{starts_with_of_append, starts_with_trans}
+use Rattle.mark_code.proofs.writing.put_paths.Goals as goal
+
+pub returns-in_err-put_escaped-clause-front : goal.returns-in_err-put_escaped-clause-front
+returns-in_err-put_escaped-clause-front c =
+    starts_with_trans _ _ _ c.put_escaped.ensures.front (starts_with_of_append _ _ _ c.loop-path.invariant)
