@@ -21,19 +21,19 @@ use Rattle.hg_bundle.specs.declared.fault.BundleFault.{BundleFault}
 use Rattle.hg_bundle.specs.declared.fault.BundleFault.TheVariants.{Bad, Read, Memory}
 use Rattle.hg_bundle.specs.Faults.{IsFault}
 use Rattle.hg_bundle.specs.declared.arrival.Arrival as listed
-use Rattle.hg_bundle.specs.Arrivals.{Reads, known_after_all, refused}
+use Rattle.hg_bundle.specs.Arrivals.{Reads, known_after_all, revisions_of, refused}
 use Rattle.hg_bundle.specs.Brought.{revisions_with, AreOfFiles, AreAdditions, AreOfBundle, IsUnreadable, TellsUnreadable}
 use Rattle.hg_bundle.proofs.EntryLemmas.{within_limits}
 use Rattle.hg_bundle.proofs.Progress.{is_small}
 use Rattle.hg_bundle.proofs.Reading.{arrivals_of, ends_Ok, none_some, reading_is, entry_item, path_item}
 use Rattle.hg_bundle.proofs.Groups.{AreTextsAt, framing_payload}
 
--- nothing is refused
-abbrev IsRead : List Revision → Bytes → ℕ → Framing → Type 0
-IsRead known previous sum f = (arrivals : List Arrival) × (arrivals_of known previous sum f ≡ Ok arrivals)
+-- nothing is refused, and these revisions arrive
+abbrev IsRead : List Revision → Bytes → ℕ → Framing → List Revision → Type 0
+IsRead known previous sum f rs = (arrivals : List Arrival) × (arrivals_of known previous sum f ≡ Ok arrivals) × (revisions_of arrivals ≡ rs)
 
-read_as : (known : List Revision) (previous : Bytes) (sum : ℕ) (f g : Framing) → f ≡ g → IsRead known previous sum g → IsRead known previous sum f
-read_as known previous sum f g is read = (read.0, ap (arrivals_of known previous sum) is ∙ read.1)
+read_as : (known : List Revision) (previous : Bytes) (sum : ℕ) (f g : Framing) (rs : List Revision) → f ≡ g → IsRead known previous sum g rs → IsRead known previous sum f rs
+read_as known previous sum f g rs is read = (read.0, ap (arrivals_of known previous sum) is ∙ read.1, read.2)
 
 within_sum : (known : List Revision) (sum : ℕ) (rs : List Revision) → AreAdditions known sum rs → sum ≤ sum_limit
 within_sum known sum [] are = are
@@ -55,31 +55,31 @@ pub record CanAdd (known : List Revision) (previous : Bytes) (sum : ℕ) (group 
 
 payload_read : (known : List Revision) (previous : Bytes) (sum : ℕ) (group : Group) (first : Bool) (at : ℕ) (payload : Bytes) (f : Framing) (text : Bytes)
     → is_short_at (InGroup group) payload ≡ false → CanAdd known previous sum group first (entry_of payload) text
-    → IsRead (known_after known (revision_by group (entry_of payload) text)) text (sum + length text) f
-    → IsRead known previous sum (put_item (record { place = InGroup group; first = first; at = at; payload = payload }) f)
-payload_read known previous sum group first at payload f text long can later =
+    → (rs : List Revision) → IsRead (known_after known (revision_by group (entry_of payload) text)) text (sum + length text) f rs
+    → IsRead known previous sum (put_item (record { place = InGroup group; first = first; at = at; payload = payload }) f) (revision_by group (entry_of payload) text ∷ rs)
+payload_read known previous sum group first at payload f text long can rs later =
     let e = entry_of payload in
     let is_text : entry_text (base_of known group first previous e.p) e.delta ≡ Is text =
     ap (λ (o : Option Bytes). entry_text o e.delta) can.is_base ∙ ap (text_by can.base) (delta_reading-Patches can.base e.delta text can.patches) ∙ ap Is (sym can.patches.result) in
     let none : entry_fault known sum group at e (Is text) ≡ None =
     within_limits known sum group at e text can.within can.short ∙ ap (option_map (with_place e.node at)) can.faultless in
     let a : Arrival = record { revision = revision_by group e text; at = at; fresh = not (knows known group e.node) } in
-    (a ∷ later.0, entry_item known previous sum group first at payload f (Is text) is_text long none ∙ ap (put_arrival a) later.1)
+    (a ∷ later.0, entry_item known previous sum group first at payload f (Is text) is_text long none ∙ ap (put_arrival a) later.1, ap (λ (l : List Revision). revision_by group e text ∷ l) later.2)
 
 entry_read : (fuel : ℕ) (known : List Revision) (previous : Bytes) (sum : ℕ) (group : Group) (first : Bool) (at : ℕ) (e : BundleEntry) (rest text : Bytes) → IsBundleEntry e
     → field_of (entry_payload e) ≤ delta_limit → at + length (chunk_text (entry_payload e) ++ rest) ≤ input_limit → CanAdd known previous sum group first e text
-    → IsRead (known_after known (revision_by group e text)) text (sum + length text) (framing_from fuel (InGroup group) false (at + (length (entry_payload e) + 4)) rest)
-    → IsRead known previous sum (framing_from (suc fuel) (InGroup group) first at (chunk_text (entry_payload e) ++ rest))
-entry_read fuel known previous sum group first at e rest text is fits within can later =
+    → (rs : List Revision) → IsRead (known_after known (revision_by group e text)) text (sum + length text) (framing_from fuel (InGroup group) false (at + (length (entry_payload e) + 4)) rest) rs
+    → IsRead known previous sum (framing_from (suc fuel) (InGroup group) first at (chunk_text (entry_payload e) ++ rest)) (revision_by group e text ∷ rs)
+entry_read fuel known previous sum group first at e rest text is fits within can rs later =
     let payload = entry_payload e in
     let size = length-payload e is in
     let behind = framing_from fuel (InGroup group) false (at + (length payload + 4)) rest in
     let framed = framing_payload fuel (InGroup group) first at payload rest (omega (arith, size)) (omega (arith, fits)) (chunk_none delta_limit at payload rest fits (omega arith) within) in
     let item = subst
-    (λ (x : BundleEntry). CanAdd known previous sum group first x text → IsRead (known_after known (revision_by group x text)) text (sum + length text) behind
-    → IsRead known previous sum (put_item (record { place = InGroup group; first = first; at = at; payload = payload }) behind))
-    (entry_of-payload e is) (payload_read known previous sum group first at payload behind text (long_enough group payload (omega (arith, size)))) in
-    read_as known previous sum _ _ framed (item can later)
+    (λ (x : BundleEntry). CanAdd known previous sum group first x text → IsRead (known_after known (revision_by group x text)) text (sum + length text) behind rs
+    → IsRead known previous sum (put_item (record { place = InGroup group; first = first; at = at; payload = payload }) behind) (revision_by group x text ∷ rs))
+    (entry_of-payload e is) (λ now before. payload_read known previous sum group first at payload behind text (long_enough group payload (omega (arith, size))) now rs before) in
+    read_as known previous sum _ _ _ framed (item can later)
 
 -- ---- a group
 
@@ -95,25 +95,25 @@ no_texts known group false previous e es made = made
 -- what stands behind a group is read
 abbrev GoesOn : List Revision → Option Place → Bytes → List Revision → Type 0
 GoesOn known next rest later =
-    (more at : ℕ) (previous : Bytes) (sum : ℕ) → length rest ≤ more → at + length rest ≤ input_limit → AreAdditions known sum later → IsRead known previous sum (framing_at (suc more) true at next rest)
+    (more at : ℕ) (previous : Bytes) (sum : ℕ) → length rest ≤ more → at + length rest ≤ input_limit → AreAdditions known sum later → IsRead known previous sum (framing_at (suc more) true at next rest) later
 
 group_end_read : (fuel : ℕ) (known : List Revision) (previous : Bytes) (sum : ℕ) (place : Place) (first : Bool) (at : ℕ) (rest : Bytes) (later : List Revision)
     → length (chunk_text [] ++ rest) ≤ fuel → at + length (chunk_text [] ++ rest) ≤ input_limit → AreAdditions known sum later → GoesOn known (place_after_empty place) rest later
-    → IsRead known previous sum (framing_from (suc fuel) place first at (chunk_text [] ++ rest))
+    → IsRead known previous sum (framing_from (suc fuel) place first at (chunk_text [] ++ rest)) later
 group_end_read zero known previous sum place first at rest later enough within are goes = absurd (omega (arith, length-append (chunk_text []) rest, length-chunk []))
 group_end_read (suc more) known previous sum place first at rest later enough within are goes =
     let size = length-append (chunk_text []) rest in
-    read_as known previous sum _ _ (framing_empty (suc more) place first at rest (chunk_none (length_limit place) at [] rest (omega arith) (is_small place (length_limit place) (omega arith)) within))
+    read_as known previous sum _ _ _ (framing_empty (suc more) place first at rest (chunk_none (length_limit place) at [] rest (omega arith) (is_small place (length_limit place) (omega arith)) within))
     (goes more (at + 4) previous sum (omega (arith, size, length-chunk [])) (omega (arith, size, length-chunk [])) are)
 
 group_read : (fuel : ℕ) (known : List Revision) (previous : Bytes) (sum : ℕ) (group : Group) (first : Bool) (at : ℕ) (es : List BundleEntry) (texts : List Bytes) (rest : Bytes) (later : List Revision)
     → AreTextsAt known group first previous es texts → Each (λ e. IsBundleEntry e × IsSize (entry_payload e)) es → AreShort es
     → length (group_text es ++ rest) ≤ fuel → at + length (group_text es ++ rest) ≤ input_limit
     → AreAdditions known sum (revisions_with group es texts ++ later) → GoesOn (known_after_all known (revisions_with group es texts)) (place_after_empty (InGroup group)) rest later
-    → IsRead known previous sum (framing_from (suc fuel) (InGroup group) first at (group_text es ++ rest))
+    → IsRead known previous sum (framing_from (suc fuel) (InGroup group) first at (group_text es ++ rest)) (revisions_with group es texts ++ later)
 group_read fuel known previous sum group first at [] texts rest later made are short enough within additions goes =
     let text : group_text [] ++ rest ≡ chunk_text [] ++ rest = ap (λ (l : Bytes). l ++ rest) group_text-nil in
-    read_as known previous sum _ _ (ap (framing_from (suc fuel) (InGroup group) first at) text)
+    read_as known previous sum _ _ _ (ap (framing_from (suc fuel) (InGroup group) first at) text)
     (group_end_read fuel known previous sum (InGroup group) first at rest later (rw text at enough) (rw text at within) additions goes)
 group_read fuel known previous sum group first at (e ∷ es) [] rest later made are short enough within additions goes = absurd (no_texts known group first previous e es made)
 group_read zero known previous sum group first at (e ∷ es) (t ∷ ts) rest later made are short enough within additions goes =
@@ -135,8 +135,8 @@ group_read (suc fuel) known previous sum group first at (e ∷ es) (t ∷ ts) re
       short = additions.1;
       within = within_sum (known_after known r) (sum + length t) (revisions_with group es ts ++ later) additions.2;
     } in
-    read_as known previous sum _ _ (ap (framing_from (suc (suc fuel)) (InGroup group) first at) text)
-    (entry_read (suc fuel) known previous sum group first at e tail t are.0.0 short.0 (omega (arith, longer, within)) can
+    read_as known previous sum _ _ _ (ap (framing_from (suc (suc fuel)) (InGroup group) first at) text)
+    (entry_read (suc fuel) known previous sum group first at e tail t are.0.0 short.0 (omega (arith, longer, within)) can (revisions_with group es ts ++ later)
     (group_read fuel (known_after known r) t (sum + length t) group false (at + (length payload + 4)) es ts rest later m.3 are.1 short.1
     (omega (arith, longer, size, chunk, enough)) (omega (arith, longer, size, chunk, within)) additions.2 goes))
 
@@ -146,11 +146,11 @@ files_read : (fuel : ℕ) (known : List Revision) (previous : Bytes) (sum at : �
     → Each (λ f. (f.path ≢ []) × IsSize f.path × Each (λ e. IsBundleEntry e × IsSize (entry_payload e)) f.entries) fs
     → Each (λ f. (field_of f.path ≤ path_limit) × AreShort f.entries) fs
     → length (files_text fs) ≤ fuel → at + length (files_text fs) ≤ input_limit → AreAdditions known sum revisions
-    → IsRead known previous sum (framing_from (suc fuel) AtPath true at (files_text fs))
+    → IsRead known previous sum (framing_from (suc fuel) AtPath true at (files_text fs)) revisions
 files_read fuel known previous sum at [] revisions of are short enough within additions =
     let text : files_text [] ≡ chunk_text [] ++ [] = sym (append-nil (chunk_text [])) in
-    read_as known previous sum _ _ (ap (framing_from (suc fuel) AtPath true at) text)
-    (group_end_read fuel known previous sum AtPath true at [] revisions (rw text at enough) (rw text at within) additions (λ more next before total room fits all. ([], ends_Ok known before total)))
+    read_as known previous sum _ _ _ (ap (framing_from (suc fuel) AtPath true at) text)
+    (group_end_read fuel known previous sum AtPath true at [] revisions (rw text at enough) (rw text at within) additions (λ more next before total room fits all. ([], ends_Ok known before total, sym of)))
 files_read zero known previous sum at (f ∷ fs) revisions of are short enough within additions =
     absurd (omega (arith, ap length (files_text-cons f fs), length-append (chunk_text f.path) (group_text f.entries ++ files_text fs), length-chunk f.path))
 files_read (suc fuel) known previous sum at (f ∷ fs) revisions of are short enough within additions =
@@ -169,8 +169,8 @@ files_read (suc fuel) known previous sum at (f ∷ fs) revisions of are short en
     let read = group_read fuel known [] sum (FilesAt f.path) true (at + (length f.path + 4)) f.entries group.texts (files_text fs) of.1 group.made are.0.2 short.0.1
     (omega (arith, longer, size, chunk, enough)) (omega (arith, longer, size, chunk, within)) all
     (λ more next before total room fits later. files_read more (known_after_all known front) before total next fs of.1 others are.1 short.1 room fits later) in
-    read_as known previous sum _ _ (ap (framing_from (suc (suc fuel)) AtPath true at) text ∙ framed)
-    (read.0, path_item known previous sum true at f.path behind of.3 ∙ read.1)
+    read_as known previous sum _ _ _ (ap (framing_from (suc (suc fuel)) AtPath true at) text ∙ framed)
+    (read.0, path_item known previous sum true at f.path behind of.3 ∙ read.1, read.2 ∙ sym (of.2 ∙ ap (λ (l : List Revision). l ++ of.1) group.are))
   where
     some : (path : Bytes) → path ≢ [] → 0 < length path
     some [] is = absurd (is refl)
@@ -180,7 +180,7 @@ files_read (suc fuel) known previous sum at (f ∷ fs) revisions of are short en
 
 groups_read : (known : List Revision) (b : Bundle) (rest : Bytes) (revisions : List Revision) → IsBundle (bundle_text b) b → IsWithinLimits (bundle_text b) b → AreOfBundle known b revisions
     → rest ≡ group_text b.changesets ++ (group_text b.manifests ++ files_text b.files) → 6 + length rest ≤ input_limit
-    → IsRead known [] 0 (framing_from (suc (suc (suc (suc (suc (suc (length rest))))))) (InGroup Changesets) true 6 rest)
+    → IsRead known [] 0 (framing_from (suc (suc (suc (suc (suc (suc (length rest))))))) (InGroup Changesets) true 6 rest) revisions
 groups_read known b rest revisions is within of text size =
     let behind = group_text b.manifests ++ files_text b.files in
     let longer = ap length text in
@@ -193,23 +193,23 @@ groups_read known b rest revisions is within of text size =
     let files : AreOfFiles (known_after_all after second) b.files of.files =
     subst (λ (l : List Revision). AreOfFiles (known_after_all after l) b.files of.files) of.are_manifests.are
     (subst (λ (l : List Revision). AreOfFiles (known_after_all (known_after_all known l) of.manifests) b.files of.files) of.are_changesets.are of.are_files) in
-    let all : AreAdditions known 0 (first ++ (second ++ of.files)) =
-    subst (λ (l : List Revision). AreAdditions known 0 l)
-    (of.all ∙ (λ i. of.are_changesets.are i ++ (of.are_manifests.are i ++ of.files))) of.additions in
-    read_as known [] 0 _ _ (ap (framing_from (suc fuel) (InGroup Changesets) true 6) text)
+    let whole : revisions ≡ first ++ (second ++ of.files) = of.all ∙ (λ i. of.are_changesets.are i ++ (of.are_manifests.are i ++ of.files)) in
+    let all : AreAdditions known 0 (first ++ (second ++ of.files)) = subst (λ (l : List Revision). AreAdditions known 0 l) whole of.additions in
+    subst (λ (l : List Revision). IsRead known [] 0 (framing_from (suc fuel) (InGroup Changesets) true 6 rest) l) (sym whole)
+    (read_as known [] 0 _ _ _ (ap (framing_from (suc fuel) (InGroup Changesets) true 6) text)
     (group_read fuel known [] 0 Changesets true 6 b.changesets of.are_changesets.texts behind (second ++ of.files) of.are_changesets.made is.changesets within.changesets
     (omega (arith, longer)) (omega (arith, longer, size)) all
     (λ more at before total room fits later. group_read more after before total Manifests true at b.manifests of.are_manifests.texts (files_text b.files) of.files made is.manifests within.manifests room fits later
-    (λ left next before_files total_files space within_files last. files_read left (known_after_all after second) before_files total_files next b.files of.files files is.files within.files space within_files last)))
+    (λ left next before_files total_files space within_files last. files_read left (known_after_all after second) before_files total_files next b.files of.files files is.files within.files space within_files last))))
 
 -- what a bundle brings is read
-bundle_read : (known : List Revision) (bytes : Bytes) (b : Bundle) (revisions : List Revision) → IsBundle bytes b → IsWithinLimits bytes b → AreOfBundle known b revisions
-    → (arrivals : List Arrival) × (bundle_reading known bytes ≡ Ok arrivals)
+pub bundle_read : (known : List Revision) (bytes : Bytes) (b : Bundle) (revisions : List Revision) → IsBundle bytes b → IsWithinLimits bytes b → AreOfBundle known b revisions
+    → (arrivals : List Arrival) × (bundle_reading known bytes ≡ Ok arrivals) × (revisions_of arrivals ≡ revisions)
 bundle_read known bytes b revisions is within of =
     by (group_text b.changesets ++ (group_text b.manifests ++ files_text b.files)) refl (magic_fault bytes) refl
   where
     by : (rest : Bytes) → rest ≡ group_text b.changesets ++ (group_text b.manifests ++ files_text b.files) → (why : Option Refusal) → magic_fault bytes ≡ why
-        → (arrivals : List Arrival) × (bundle_reading known bytes ≡ Ok arrivals)
+        → (arrivals : List Arrival) × (bundle_reading known bytes ≡ Ok arrivals) × (revisions_of arrivals ≡ revisions)
     by rest text (Some why) refused = absurd (none_some (sym (bundle_listed bytes b is within).0 ∙ framing.magic_refused bytes why refused))
     by rest text None fits =
         let whole : bytes ≡ magic_text ++ rest = is.spells ∙ bundle_text-parts b ∙ ap (λ (l : Bytes). magic_text ++ l) (sym text) in
@@ -217,7 +217,7 @@ bundle_read known bytes b revisions is within of =
         ap bundle_framing whole ∙ framing_behind_magic rest (subst (λ (l : Bytes). magic_fault l ≡ None) whole fits) in
         let read = groups_read known b rest revisions (subst (λ (l : Bytes). IsBundle l b) is.spells is) (subst (λ (l : Bytes). IsWithinLimits l b) is.spells within) of text
         (omega (arith, ap length whole, within.input)) in
-        (read.0, reading_is known bytes ∙ ap (arrivals_of known [] 0) all ∙ read.1)
+        (read.0, reading_is known bytes ∙ ap (arrivals_of known [] 0) all ∙ read.1, read.2)
 
 unreadable : (known : List Revision) (bytes : Bytes) (why : Refusal) → refused (bundle_reading known bytes) ≡ Some why → IsUnreadable known bytes
 unreadable known bytes why is_refused b revisions is within of =

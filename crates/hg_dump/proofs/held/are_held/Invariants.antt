@@ -1,0 +1,7 @@
+use Rattle.std.proofs.Common.{List, take}
+use Rattle.view_model.specs.View.{ChangesetView}
+use Rattle.view_model.specs.Held.{AreChangesetsHeld}
+use Rattle.hg_dump.proofs.held.are_held.Given as goal
+
+abbrev pub invariant-loop-node : goal.invariant-loop-node
+invariant-loop-node l = (hs : List ChangesetView) × AreChangesetsHeld l.store (take l.node-index l.order) hs

@@ -1,0 +1,4 @@
+pub mod Marks
+pub mod Referred
+pub mod Written
+pub mod State

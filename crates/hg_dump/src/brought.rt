@@ -1,0 +1,224 @@
+// What changesets refer to.
+ghost use Rattle.std.specs.Prelude.{◌≡◌, ◌∷◌, [], false, Bool, List, map, take, drop, length, ◌≤◌, IfOk, OnOk, if◌then◌else◌, ℕ, bytes_eq};
+ghost use Rattle.std.specs.Bool.{OnTrue};
+ghost use Rattle.hg_model.specs.Revision as model;
+ghost use Rattle.hg_store.specs.Groups.{group_value};
+ghost use Rattle.view_model.specs.View.{ChangesetView};
+ghost use Rattle.hg_manifest.specs.Values.{manifest_entry};
+ghost use Rattle.view_model.specs.Held.{AreChangesetsHeld};
+ghost use Rattle.hg_dump.specs.Referred.{referred, nothing};
+ghost use Rattle.hg_dump.specs.Marks.{file_mark, manifest_marks, view_marks, marks_in, IsMet, Met, meet};
+ghost use Rattle.hg_dump.specs.State.{files_at, referred_in, met_of, Steps, StepsAfter, IsLineMet, HasLine};
+
+use crate::references::{Reference, References};
+use bridge_text::{Id, NoMemory};
+use hg_manifest::{Entry, Manifest};
+use hg_store::{Group, HgStore};
+use std::alloc::Global;
+use std::collections::BTreeMap;
+
+/// The revisions to which changesets refer, group by group.
+#[derive(Drop)]
+pub struct Brought {
+    alloc: Global,
+    pub changesets: References,
+    pub manifests: References,
+    /// By the paths of the files.
+    pub files: BTreeMap<Vec<u8>, References>,
+}
+
+impl Brought {
+    fn new(alloc: Global) -> Brought
+        ensures { (group : model.Group) → referred_in result group ≡ nothing }
+    {
+        Brought {
+            alloc,
+            changesets: References::new(alloc),
+            manifests: References::new(alloc),
+            files: BTreeMap::new(alloc),
+        }
+    }
+
+    /// What the changesets of these nodes refer to. Those from place `from` on are new.
+    pub fn collect(
+        alloc: Global,
+        store: &HgStore,
+        nodes: &[Id],
+        from: usize,
+    ) -> Result<Brought, NoMemory>
+        requires from { from ≤ length nodes.now }
+        requires held { (hs : List ChangesetView) × AreChangesetsHeld store.now nodes.now hs }
+        ensures { IfOk result (λ brought. (hs : List ChangesetView) → AreChangesetsHeld store.now nodes.now hs
+            → IsMet (met_of (take from hs) (drop from hs)) (referred_in brought)) }
+    {
+        let mut brought = Brought::new(alloc);
+        let empty = Manifest::new(alloc);
+        brought.refer_all(store, &nodes[..from], &empty, false)?;
+        brought.refer_all(store, &nodes[from..], &empty, true)?;
+        Ok(brought)
+    }
+
+    // Adds what changesets refer to, in their order. It is written only if they are new.
+    fn refer_all<'a>(
+        &mut self,
+        store: &'a HgStore,
+        nodes: &[Id],
+        mut previous: &'a Manifest,
+        is_new: bool,
+    ) -> Result<(), NoMemory>
+        requires previous { previous.now ≡ [] }
+        requires held { (hs : List ChangesetView) × AreChangesetsHeld store.now nodes.now hs }
+        ensures { OnOk result ((hs : List ChangesetView) → AreChangesetsHeld store.now nodes.now hs → Steps is_new (marks_in hs) self.old self.new) }
+    {
+        store.check();
+        for node in nodes {
+            match store.view_of(node) {
+                Ok(view) => {
+                    self.refer_view(node, &view.manifest_node, view.manifest, previous, is_new)?;
+                    previous = view.manifest;
+                }
+                Err(_) => return Ok(()),
+            }
+        }
+        Ok(())
+    }
+
+    // Adds what a changeset refers to: itself, its manifest and the file revisions that this names.
+    fn refer_view(
+        &mut self,
+        node: &Id,
+        manifest_node: &Id,
+        manifest: &Manifest,
+        previous: &Manifest,
+        is_new: bool,
+    ) -> Result<(), NoMemory>
+        ensures { OnOk result (StepsAfter previous.now is_new (view_marks node.now manifest_node.now manifest.now) self.old self.new) }
+    {
+        self.refer(Group::Changesets, node, node, is_new)?;
+        self.refer_manifest(manifest_node, node, is_new)?;
+        self.refer_files(manifest, previous, node, is_new)
+    }
+
+    // The null manifest is no revision.
+    fn refer_manifest(
+        &mut self,
+        manifest_node: &Id,
+        link: &Id,
+        is_new: bool,
+    ) -> Result<(), NoMemory>
+        ensures { OnOk result (Steps is_new (manifest_marks link.now manifest_node.now) self.old self.new) }
+    {
+        if manifest_node.is_null() {
+            return Ok(());
+        }
+        self.refer(Group::Manifests, manifest_node, link, is_new)
+    }
+
+    // A line that stands in the manifest before, whose lines were met, needs no look-up.
+    fn refer_files(
+        &mut self,
+        manifest: &Manifest,
+        previous: &Manifest,
+        link: &Id,
+        is_new: bool,
+    ) -> Result<(), NoMemory>
+        ensures { OnOk result (StepsAfter previous.now is_new (map (file_mark link.now) manifest.now) self.old self.new) }
+    {
+        let mut place = 0;
+        for line in 0..manifest.len() {
+            let entry = manifest.at(line);
+            place = place_of(previous, place, entry.path.as_slice());
+            self.refer_line(entry, stands_at(previous, place, entry), link, is_new)?;
+        }
+        Ok(())
+    }
+
+    // Adds the file revision that a line names, unless it was met.
+    fn refer_line(
+        &mut self,
+        entry: &Entry,
+        is_met: bool,
+        link: &Id,
+        is_new: bool,
+    ) -> Result<(), NoMemory>
+        ensures { OnOk result ((s : Met) → IsMet s (referred_in self.old) → OnTrue is_met (IsLineMet s (manifest_entry entry.now))
+            → IsMet (meet is_new s (file_mark link.now (manifest_entry entry.now))) (referred_in self.new)) }
+    {
+        if is_met {
+            return Ok(());
+        }
+        self.refer(
+            Group::FilesAt(entry.path.as_slice()),
+            &entry.node,
+            link,
+            is_new,
+        )
+    }
+
+    fn refer(
+        &mut self,
+        group: Group<'_>,
+        node: &Id,
+        link: &Id,
+        is_new: bool,
+    ) -> Result<(), NoMemory>
+        ensures { OnOk result (Steps is_new (record { group = group_value group.entry; node = node.now; link = link.now } ∷ []) self.old self.new) }
+    {
+        let reference = Reference {
+            node: *node,
+            link: *link,
+        };
+        match group {
+            Group::Changesets => self.changesets.refer(reference, is_new),
+            Group::Manifests => self.manifests.refer(reference, is_new),
+            Group::FilesAt(path) => refer_file(
+                &mut self.files,
+                self.alloc,
+                path,
+                reference,
+                is_new,
+            ),
+        }
+    }
+}
+
+// The first place from this one on where no path below the given one stands.
+fn place_of(manifest: &Manifest, from: usize, path: &[u8]) -> usize {
+    for place in from..manifest.len() {
+        if manifest.at(place).path.as_slice() >= path {
+            return place;
+        }
+    }
+    manifest.len()
+}
+
+// Whether a line with the path and the node of this one stands at a place of a manifest.
+fn stands_at(manifest: &Manifest, place: usize, entry: &Entry) -> bool
+    ensures { OnTrue result (HasLine manifest.now (manifest_entry entry.now)) }
+{
+    if place >= manifest.len() {
+        return false;
+    }
+    let other = manifest.at(place);
+    other.node == entry.node && other.path.as_slice() == entry.path.as_slice()
+}
+
+fn refer_file(
+    files: &mut BTreeMap<Vec<u8>, References>,
+    alloc: Global,
+    path: &[u8],
+    reference: Reference,
+    is_new: bool,
+) -> Result<(), NoMemory>
+    ensures { OnOk result ((other : List ℕ) → files_at files.new other ≡ (if bytes_eq path.now other then referred is_new reference (files_at files.old path.now) else files_at files.old other)) }
+{
+    match files.get_mut(path) {
+        Some(references) => references.refer(reference, is_new),
+        None => {
+            let mut references = References::new(alloc);
+            references.refer(reference, is_new)?;
+            files.insert(Vec::from_slice(alloc, path)?, references)?;
+            Ok(())
+        }
+    }
+}

@@ -1,0 +1,16 @@
+//! Bundles HG10UN of changesets that a store holds, without what earlier ones refer to (help topics `internals.bundles`
+//! and `internals.changegroups`). The order of the entries and the form of the deltas are this project's own.
+#![tactic(auto)]
+
+mod brought;
+mod bundle;
+mod entry;
+mod group;
+mod held;
+mod references;
+
+pub use bundle::write;
+pub use held::are_held;
+
+#[cfg(test)]
+mod tests;
