@@ -7,11 +7,11 @@ SOURCES := crates.txt $(shell find crates -name out -prune -o -type f \( -name '
 
 all: run-examples
 
-# A run proves and compiles the program where a source has changed.
-build/hggit: $(SOURCES)
-	cd crates/hggit && rt run < stdin > /dev/null
+# A run proves and compiles a program where a source has changed.
+build/hggit build/bundle_copy: build/%: $(SOURCES)
+	cd crates/$* && rt run < stdin > /dev/null
 	mkdir -p build
-	cp crates/hggit/out/hggit $@
+	cp crates/$*/out/$* $@
 
 run-examples: build/hggit
 	build/hggit list-hg < examples/one-changeset.hg > build/one-changeset.hg.list
@@ -21,8 +21,8 @@ run-examples: build/hggit
 test:
 	.ci/run
 
-bench: build/hggit
-	status=0; for script in bench/*; do echo "$$script"; "$$script" build/hggit || status=1; done; exit $$status
+bench: build/hggit build/bundle_copy
+	status=0; for script in bench/*; do echo "$$script"; "$$script" build/hggit build/bundle_copy || status=1; done; exit $$status
 
 install: build/hggit
 	install -d $(DESTDIR)$(PREFIX)/bin

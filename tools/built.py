@@ -1,4 +1,4 @@
-"""The built program."""
+"""The built programs."""
 import os
 import subprocess
 import sys
@@ -6,9 +6,9 @@ import sys
 TOP = os.path.dirname(os.path.dirname(os.path.abspath(__file__)))
 
 
-def program_path():
-    """The first argument of a script, or build/hggit, which is built where it is missing or older than its sources."""
-    if len(sys.argv) > 1:
-        return os.path.abspath(sys.argv[1])
-    subprocess.run(['make', '-s', '-C', TOP, 'build/hggit'], check=True)
-    return os.path.join(TOP, 'build', 'hggit')
+def program_path(name='hggit', argument=1):
+    """An argument of the script, or the program in build/, which is built where it is missing or older than its sources."""
+    if len(sys.argv) > argument:
+        return os.path.abspath(sys.argv[argument])
+    subprocess.run(['make', '-s', '-C', TOP, f'build/{name}'], check=True)
+    return os.path.join(TOP, 'build', name)

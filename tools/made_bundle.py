@@ -1,0 +1,80 @@
+"""A bundle of many changesets over many files, for benchmarks, and the texts that it stands for."""
+import random
+
+from formats import hg
+from formats.hg import NULL
+
+FILES = 200
+LINES = 100
+LINE = 80
+
+
+class Store:
+    """The revisions of one kind and path: the chunks so far, and the last node and text."""
+
+    def __init__(self, texts):
+        self.chunks = []
+        self.node, self.text = NULL, b''
+        self.texts = texts
+
+    def add(self, text, hunks):
+        """A node over the last one; its link, which isn't known yet, is put in by `chunks_linked`."""
+        node = hg.node_id(self.node, NULL, text)
+        self.chunks.append((node, self.node, b''.join(hunks)))
+        self.node, self.text = node, text
+        self.texts.write(text)
+        return node
+
+    def chunks_linked(self, links):
+        return [hg.entry(node, p, NULL, link, delta) for (node, p, delta), link in zip(self.chunks, links)]
+
+
+class File(Store):
+    """A text of lines of one length, of which each revision changes a few."""
+
+    def __init__(self, path, texts):
+        super().__init__(texts)
+        self.path = path
+        self.links = []
+
+    def revise(self, numbers):
+        if not self.text:
+            text = b''.join(new_line(numbers) for _ in range(LINES))
+            return self.add(text, [hg.hunk(0, 0, text)])
+        text, hunks = bytearray(self.text), []
+        for place in sorted(numbers.sample(range(LINES), 3)):
+            start, line = place * LINE, new_line(numbers)
+            text[start:start + LINE] = line
+            hunks.append(hg.hunk(start, start + LINE, line))
+        return self.add(bytes(text), hunks)
+
+
+def new_line(numbers):
+    return b'%0*d\n' % (LINE - 1, numbers.randrange(10**60))
+
+
+def write_bundle(count, path, texts_path):
+    """A bundle in which each changeset changes one file, and the texts of all its revisions."""
+    numbers = random.Random(count)
+    with open(texts_path, 'wb') as texts:
+        files = [File(b'folder%02d/file%03d' % (i // 20, i), texts) for i in range(FILES)]
+        changesets, manifests = Store(texts), Store(texts)
+        lines = [b''] * FILES
+        for number in range(count):
+            place = number if number < FILES else numbers.randrange(FILES)
+            commit(number, place, files, lines, manifests, changesets, numbers)
+    nodes = [node for node, _, _ in changesets.chunks]
+    with open(path, 'wb') as file:
+        file.write(hg.bundle(changesets.chunks_linked(nodes), manifests.chunks_linked(nodes),
+                             [(f.path, f.chunks_linked(f.links)) for f in files]))
+
+
+def commit(number, place, files, lines, manifests, changesets, numbers):
+    file = files[place]
+    line = hg.manifest_line(file.path, file.revise(numbers))
+    start = place * len(line)
+    hunk = hg.hunk(start, start + len(lines[place]), line)
+    lines[place] = line
+    manifest = manifests.add(b''.join(lines), [hunk])
+    text = b'%s\nAnn <ann@x>\n%d 0\n%s\n\nchangeset %d' % (manifest.hex().encode(), number, file.path, number)
+    file.links.append(changesets.add(text, [hg.hunk(0, len(changesets.text), text)]))
