@@ -1,0 +1,108 @@
+// The walk through the trees of commits.
+ghost use Rattle.std.specs.Prelude.{◌≡◌, List, [], false, OnOk};
+ghost use Rattle.view_model.specs.View.{CommitView, commit_objects};
+ghost use Rattle.git_dump.specs.Commits.{IsWalkableCommit, AreWalkableCommits};
+ghost use Rattle.git_dump.specs.Visits.{Visited};
+ghost use Rattle.git_dump.specs.Walks.{IsKnown, objects_at, walk_objects, IsWalkable, IsClosed};
+ghost use Rattle.view_model.specs.Dump.{objects_in};
+
+use crate::put::put_object;
+use bridge_text::{Id, IdSet, NoMemory};
+use git_object::Objects;
+use git_store::GitStore;
+use std::alloc::Global;
+
+/// How many trees lie on the way to a file of the root tree at most, the root among them: a path has at most 256 names.
+const TREE_DEPTH: usize = 257;
+
+/// The objects that a walk has met, and the stream of those that it writes.
+#[derive(Drop)]
+pub struct Walk {
+    /// The ids of the objects. With a tree all that it reaches is among them.
+    pub met: IdSet,
+    pub out: Vec<u8>,
+    /// Whether an object that is met for the first time is written.
+    pub writes: bool,
+}
+
+impl Walk {
+    /// A walk that has met nothing, and doesn't write.
+    pub fn new(alloc: Global) -> Walk
+        ensures met { result.met ≡ [] }
+        ensures out { result.out.items ≡ [] }
+        ensures writes { result.writes ≡ false }
+    {
+        Walk {
+            met: IdSet::new(alloc),
+            out: Vec::new(alloc),
+            writes: false,
+        }
+    }
+
+    /// Visits the objects of commits, one commit after the other: the blobs and trees of each, and then itself.
+    pub fn visit_commits(&mut self, store: &GitStore, ids: &[Id]) -> Result<(), NoMemory>
+        requires commits { (cs : List CommitView) × AreWalkableCommits store.now ids.now cs }
+        requires closed { IsClosed store.now self.old.met }
+        ensures visited { OnOk result ((cs : List CommitView) → AreWalkableCommits store.now ids.now cs → Visited (objects_in cs) self.old self.new) }
+        ensures closed { OnOk result (IsClosed store.now self.new.met) }
+    {
+        for id in ids {
+            self.visit_commit(store, id)?;
+        }
+        Ok(())
+    }
+
+    fn visit_commit(&mut self, store: &GitStore, id: &Id) -> Result<(), NoMemory>
+        requires commit { (c : CommitView) × IsWalkableCommit store.now id.now c }
+        requires closed { IsClosed store.now self.old.met }
+        ensures visited { OnOk result ((c : CommitView) → IsWalkableCommit store.now id.now c → Visited (commit_objects c) self.old self.new) }
+        ensures closed { OnOk result (IsClosed store.now self.new.met) }
+    {
+        store.check();
+        let Some(commit) = store.commit(id) else {
+            return Ok(());
+        };
+        self.visit_tree(store, &commit.tree, TREE_DEPTH)?;
+        self.visit_object(store, id)
+    }
+
+    // Visits the objects of the entries of a tree, in their order and subtrees whole, and then the tree. So many trees may
+    // lie on the way to a file. What a tree reaches that was met is not walked through again.
+    fn visit_tree(&mut self, store: &GitStore, root: &Id, depth: usize) -> Result<(), NoMemory>
+        requires walkable { IsWalkable store.now depth root.now }
+        requires closed { IsClosed store.now self.old.met }
+        ensures visited { OnOk result (Visited (walk_objects store.now depth root.now) self.old self.new) }
+        ensures closed { OnOk result (IsClosed store.now self.new.met) }
+    {
+        if self.met.contains(root) {
+            return Ok(());
+        }
+        let Some(below) = depth.checked_sub(1) else {
+            return Ok(());
+        };
+        let Some(tree) = store.tree(root) else {
+            return Ok(());
+        };
+        for entry in tree.entries() {
+            if entry.mode().is_directory() {
+                self.visit_tree(store, entry.id(), below)?;
+            } else {
+                self.visit_object(store, entry.id())?;
+            }
+        }
+        self.visit_object(store, root)
+    }
+
+    // Visits an object that is known. It is met then.
+    fn visit_object(&mut self, store: &GitStore, id: &Id) -> Result<(), NoMemory>
+        requires { IsKnown store.now id.now }
+        ensures { OnOk result (Visited (objects_at store.now id.now) self.old self.new) }
+    {
+        let is_new = self.met.insert(*id)?;
+        if is_new && self.writes {
+            let (kind, content) = store.content(id).unwrap();
+            put_object(&mut self.out, id, kind, content)?;
+        }
+        Ok(())
+    }
+}
