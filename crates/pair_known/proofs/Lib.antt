@@ -1,0 +1,5 @@
+pub mod PairLemmas
+pub mod HeldViews
+pub mod SearchLemmas
+pub mod FreshLemmas
+pub mod Rising

@@ -1,0 +1,6 @@
+pub mod Partners
+pub mod Rows
+pub mod Fresh
+pub mod Drafts
+pub mod GitDrafts
+pub mod Blocks

@@ -1,0 +1,14 @@
+use crate::partners::Partners;
+use git_store::GitStore;
+use hg_store::HgStore;
+
+/// What both sides hold, and which of their members are partners.
+#[derive(Drop)]
+pub struct Known {
+    /// Mercurial's revisions.
+    pub hg: HgStore,
+    /// Git's objects.
+    pub git: GitStore,
+    /// The partners of changesets and commits.
+    pub partners: Partners,
+}

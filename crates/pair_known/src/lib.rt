@@ -1,0 +1,24 @@
+//! What both sides of a bridge know: Mercurial's revisions, Git's objects, the partners of changesets and commits, and
+//! drafts of members that are to be added.
+#![tactic(auto)]
+
+mod fresh_blobs;
+mod fresh_files;
+mod git_draft;
+mod hg_block;
+mod hg_draft;
+mod hg_row;
+mod known;
+mod partners;
+
+pub use fresh_blobs::{FreshBlob, FreshBlobs};
+pub use fresh_files::{FreshFile, FreshFiles};
+pub use git_draft::{GitDraft, draft_of_commit};
+pub use hg_block::{HgBlock, HgDrafts};
+pub use hg_draft::{HgDraft, draft_of_changeset, manifest_of_node};
+pub use hg_row::{HgRow, HgRows};
+pub use known::Known;
+pub use partners::Partners;
+
+#[cfg(test)]
+mod tests;
