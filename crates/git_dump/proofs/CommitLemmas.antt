@@ -48,7 +48,7 @@ module _ (known : List Object) (are : AreKnown known) (id : Id) where
     own-object : object_of commit (commit_text c.value) ∷ [] ≡ objects_at known id
     own-object =
         let of = found known id is.0.object are is.0.is_held in
-        sym (ap object_list is.0.is_held ∙ (λ i. record { id = (of.of_content ∙ (λ k. object_id (is.0.kind k) (is.0.text k))) i; kind = is.0.kind i; content = is.0.text i } ∷ []))
+        sym (ap object_list is.0.is_held ∙ (λ i. record { id = (of.of_content ∙ (λ k. object_id (is.0.kind k) (is.0.text.1 k))) i; kind = is.0.kind i; content = is.0.text.1 i } ∷ []))
 
     pub objects-of : commit_objects c ≡ walk_objects known 257 (c.value).tree_id ++ objects_at known id
     unfolding commit_objects
@@ -67,7 +67,7 @@ module _ (known : List Object) (are : AreKnown known) (id : Id) where
     tree-is v at =
         let of = commit-at known id at.content at.held in
         let object : of.object ≡ is.0.object = some_is of.object is.0.object (sym of.at ∙ is.0.is_held) in
-        let text : commit_text v ≡ commit_text c.value = sym at.is.1 ∙ sym of.content_is ∙ ap (λ (o : Object). o.content) object ∙ is.0.text in
+        let text : commit_text v ≡ commit_text c.value = sym at.is.1 ∙ sym of.content_is ∙ ap (λ (o : Object). o.content) object ∙ is.0.text.1 in
         let cut = same_cut (codes "tree " ++ hex v.tree_id) _ (codes "tree " ++ hex (c.value).tree_id) _ (id_line-lacks (codes "tree ") v.tree_id refl at.is.0.tree_id) (id_line-lacks (codes "tree ") (c.value).tree_id refl tree-id)
         (sym (commit_text-lines v) ∙ text ∙ commit_text-lines c.value) in
         same_id (codes "tree ") v.tree_id (c.value).tree_id at.is.0.tree_id tree-id cut.front_is

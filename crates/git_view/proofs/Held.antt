@@ -44,7 +44,7 @@ module _ (known : List Object) (are : AreKnown known) (id : Id) where
           object = of.object;
           is_held = of.at;
           kind = of.kind_is;
-          text = of.content_is ∙ is.is.1;
+          text = (is.is.0, of.content_is ∙ is.is.1);
           rows = subst (IsUnfolding known v.tree_id) (sym (rows-again known rows)) (unfolds known v.tree_id are.are (none-refused known are.are v.tree_id h));
           blobs = blobs-held known rows (λ row i. blob-of known are.are v.tree_id row h i);
         },
@@ -55,4 +55,4 @@ module _ (known : List Object) (are : AreKnown known) (id : Id) where
   unfolding commit_id
   held-id c held =
       let of = found known id held.object are held.is_held in
-      sym (of.id_is ∙ of.of_content ∙ (λ i. object_id (held.kind i) (held.text i)))
+      sym (of.id_is ∙ of.of_content ∙ (λ i. object_id (held.kind i) (held.text.1 i)))

@@ -2,7 +2,7 @@
 use Rattle.std.proofs.Common.{◌≡◌, List, [], ◌∷◌, map, refl, sym, ap, subst, ◌∙◌}
 use Rattle.text_model.specs.Lists.{Each}
 use Rattle.text_model.specs.Id.{Id}
-use Rattle.git_model.specs.Commit.{Commit, IsCommit}
+use Rattle.git_model.specs.Commit.{Commit}
 use Rattle.git_model.specs.Object.{Object, object_at}
 use Rattle.git_model.specs.Unfold.{FileRow, IsUnfolding}
 use Rattle.git_model.proofs.OneTextLemmas.{one_commit}
@@ -34,10 +34,10 @@ module _ (known : List Object) where
       tails : {X : Type 0} {u v : X} {us vs : List X} → u ∷ us ≡ v ∷ vs → us ≡ vs
       tails h = cc
 
-  pub one-held : (id : Id) (c d : CommitView) → IsCommitHeld known id c → IsCommitHeld known id d → IsCommit c.value → IsCommit d.value → c ≡ d
-  one-held id c d x y is is_too =
+  pub one-held : (id : Id) (c d : CommitView) → IsCommitHeld known id c → IsCommitHeld known id d → c ≡ d
+  one-held id c d x y =
       let object : x.object ≡ y.object = some_is x.object y.object (sym x.is_held ∙ y.is_held) in
-      let value : c.value ≡ d.value = one_commit x.object.content c.value d.value (is, x.text) (is_too, ap (λ (o : Object). o.content) object ∙ y.text) in
+      let value : c.value ≡ d.value = one_commit x.object.content c.value d.value x.text (y.text.0, ap (λ (o : Object). o.content) object ∙ y.text.1) in
       let rows : map file_row_of c.rows ≡ map file_row_of d.rows =
       one-unfolding known (c.value).tree_id (map file_row_of c.rows) (map file_row_of d.rows) x.rows (subst (λ (v : Commit). IsUnfolding known v.tree_id (map file_row_of d.rows)) (sym value) y.rows) in
       (λ i. record { value = value i; rows = one-rows c.rows d.rows rows x.blobs y.blobs i })

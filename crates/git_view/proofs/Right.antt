@@ -10,7 +10,7 @@ use Rattle.text_model.specs.Path.{is_fit_path, lies_below}
 use Rattle.text_model.specs.Fault.{FaultName}
 use Rattle.text_model.specs.Fault as fault
 use Rattle.git_model.specs.Tree.{Mode, File, Exec, Link, Directory, is_directory, is_blob_mode, tree_text, has_distinct}
-use Rattle.git_model.specs.Commit.{IsCommit, commit_fault, parent_ids}
+use Rattle.git_model.specs.Commit.{commit_fault, parent_ids}
 use Rattle.git_model.specs.Object.{Object, content_fault}
 use Rattle.git_model.specs.Unfold.{FileRow, is_row, walk, walk_fault}
 use Rattle.git_model.specs.Shape.{leaf_of, shape_entries, root_of}
@@ -99,17 +99,17 @@ leaves-same rows = same-entries 257 rows
 -- ---- the whole
 
 module _ (known : List Object) (are : AreKnown known) (id : Id) where
-  pub held-is_view : (c : CommitView) → IsCommitHeld known id c → IsCommit c.value → walk_fault known (c.value).tree_id ≡ None → IsCommitView c
+  pub held-is_view : (c : CommitView) → IsCommitHeld known id c → walk_fault known (c.value).tree_id ≡ None → IsCommitView c
   unfolding root_of_rows root_of
-  held-is_view c held value walks =
+  held-is_view c held walks =
       let root : Id = (c.value).tree_id in
       let of = found known id held.object are held.is_held in
       let parents : Parents (parent_ids held.object.content) = parents-of held.object.content (subst (λ k. content_fault k held.object.content ≡ None) held.kind of.sound.fits) in
-      let same : parent_ids held.object.content ≡ (c.value).parents = parent_ids-text held.object.content c.value (value, held.text) in
+      let same : parent_ids held.object.content ≡ (c.value).parents = parent_ids-text held.object.content c.value held.text in
       let rows : map file_row_of c.rows ≡ filter is_row (walk known root) = rows-are known id c are.are held walks in
       let files : IsFiles (map file_row_of c.rows) = subst IsFiles (sym rows) (walk-files known root are.are (none-refused known are.are root walks)) in
       record {
-        value = value;
+        value = held.text.0;
         few = subst (λ (ids : List Id). length ids ≤ 64) same parents.few;
         distinct = subst (λ (ids : List Id). has_distinct ids ≡ true) same parents.distinct;
         rows = rows-are_rows known are c.rows files.each (λ row i. blob-of known are.are root row walks (subst (λ (rs : List FileRow). In row rs) rows i)) held.blobs;

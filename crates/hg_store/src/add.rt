@@ -1,11 +1,11 @@
-ghost use Rattle.std.specs.Prelude.{◌≡◌, ◌≢◌, ◌≤◌, [], None, Err, false, not, ◌&&◌, ◌||◌, length, IfOk, OnOk, OnErr, IfErr, IsTrue};
-ghost use Rattle.text_model.specs.Id.{is_null};
+ghost use Rattle.std.specs.Prelude.{◌≡◌, ◌≢◌, ◌≤◌, [], None, Err, false, not, ◌&&◌, ◌||◌, length, IfOk, OnOk, OnErr, IfErr, IfSome, IsTrue};
+ghost use Rattle.text_model.specs.Id.{is_null, node_id};
 ghost use Rattle.text_model.specs.Path.{is_fit_path};
 ghost use Rattle.hg_model.specs.Revision.{addition_fault, known_after, ancestry_fault, text_fault, is_known_parent, is_bad_link, knows};
 ghost use Rattle.hg_store.specs.Faults.{IsFault};
 ghost use Rattle.hg_store.specs.declared.fault.AddFault.TheVariants.{Memory};
 ghost use Rattle.hg_store.specs.Groups.{group_value, revision_value, HasValue};
-ghost use Rattle.hg_store.specs.Known.{changeset_revision, manifest_revision, file_revision, answer_of, text_limit, HasFitPath, knows_same};
+ghost use Rattle.hg_store.specs.Known.{changeset_revision, manifest_revision, file_revision, answer_of, text_limit, HasFitPath, HasBlob, knows_same};
 
 use crate::addition::Addition;
 use crate::fault::AddFault;
@@ -125,6 +125,33 @@ impl HgStore {
         Ok(Added::New)
     }
 
+    /// Adds a revision of any group as `add` does, where its node is known to be that of its parents and its text; where
+    /// the id that a file's body has as a Git blob is known too, it comes with it. Nothing that is known is hashed again.
+    pub fn add_hashed(
+        &mut self,
+        addition: Addition<'_>,
+        blob: Option<Id>,
+    ) -> Result<Added, AddFault>
+        requires its_node { node_id addition.p addition.q addition.text.items ≡ addition.node }
+        requires its_blob { IfSome blob (HasBlob addition.text.items) }
+        requires short { length addition.text.items ≤ text_limit }
+        requires path { HasFitPath (group_value addition.group) }
+        ensures faultless { OnOk result (addition_fault self.old (revision_value addition.entry) ≡ None) }
+        ensures answer { IfOk result (λ added. added ≡ answer_of self.old (revision_value addition.entry)) }
+        ensures ok { OnOk result (self.new ≡ known_after self.old (revision_value addition.entry)) }
+        ensures fault { IfErr result (IsFault (addition_fault self.old (revision_value addition.entry))) }
+        ensures err { OnErr result (self.new ≡ self.old) }
+    {
+        self.check();
+        self.check_ancestry(&addition)?;
+        if self.knows_same(&addition) {
+            return Ok(Added::Known);
+        }
+        let parsed = self.parse_hashed(&addition, blob)?;
+        self.keep(addition, parsed)?;
+        Ok(Added::New)
+    }
+
     /// The faults of an addition that don't ask for its text: ParentOrder, ParentUnknown, LinkUnknown, in this order.
     /// It takes no memory.
     #[tactic(auto, unfolding(hg_model::specs::Revision::ancestry_fault))]
@@ -187,11 +214,25 @@ impl HgStore {
         ensures value { IfOk result (HasValue (group_value addition.now.group) addition.now.text.items) }
         ensures fault { IfErr result (IsFault (text_fault self.now (revision_value addition.now))) }
     {
-        self.check();
         if node_id(&addition.p, &addition.q, &addition.text) != addition.node {
             return Err(AddFault::NodeWrong);
         }
-        let parsed = parse(self.alloc(), addition.group, &addition.text)?;
+        self.parse_hashed(addition, None)
+    }
+
+    // The same where the node is that of parents and text, and perhaps the id of a file's body as a Git blob is known.
+    #[tactic(auto, unfolding(hg_model::specs::Revision::text_fault))]
+    fn parse_hashed(&self, addition: &Addition<'_>, blob: Option<Id>) -> Result<Parsed, AddFault>
+        requires other { knows_same self.now (revision_value addition.now) ≡ false }
+        requires its_node { node_id addition.now.p addition.now.q addition.now.text.items ≡ addition.now.node }
+        requires its_blob { IfSome blob (HasBlob addition.now.text.items) }
+        ensures ok { OnOk result (text_fault self.now (revision_value addition.now) ≡ None) }
+        ensures fresh { OnOk result (knows self.now (group_value addition.now.group) addition.now.node ≡ false) }
+        ensures value { IfOk result (HasValue (group_value addition.now.group) addition.now.text.items) }
+        ensures fault { IfErr result (IsFault (text_fault self.now (revision_value addition.now))) }
+    {
+        self.check();
+        let parsed = parse(self.alloc(), addition.group, &addition.text, blob)?;
         if self.is_taken(addition) {
             return Err(AddFault::Collision);
         }

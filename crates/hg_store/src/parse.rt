@@ -1,4 +1,4 @@
-ghost use Rattle.std.specs.Prelude.{◌≡◌, false, None, OnOk, IfOk, IfErr};
+ghost use Rattle.std.specs.Prelude.{◌≡◌, false, None, OnOk, IfOk, IfErr, IfSome};
 ghost use Rattle.text_model.specs.Fault as name;
 ghost use Rattle.hg_model.specs.FileText.{lacks_second_mark};
 ghost use Rattle.hg_model.specs.Revision.{Changesets, Manifests, named_if, shape_fault};
@@ -11,12 +11,18 @@ use crate::group::Group;
 use crate::held::Parsed;
 use bridge_text::{Id, Kind, object_id};
 use hg_changeset::{Changeset, ChangesetFault};
-use hg_filelog::split;
+use hg_filelog::{split, splits_exactly};
 use hg_manifest::{Manifest, ManifestFault, reads_exactly};
 use std::alloc::Global;
 
-// What a text of a group says.
-pub fn parse(alloc: Global, group: Group<'_>, text: &[u8]) -> Result<Parsed, AddFault>
+// What a text of a group says. Where the id that a file's body has as a Git blob is given, nothing is hashed.
+pub fn parse(
+    alloc: Global,
+    group: Group<'_>,
+    text: &[u8],
+    blob: Option<Id>,
+) -> Result<Parsed, AddFault>
+    requires blob { IfSome blob (HasBlob text.now) }
     ensures shape { OnOk result (shape_fault (group_value group.entry) text.now ≡ None) }
     ensures value { IfOk result (HasValue (group_value group.entry) text.now) }
     ensures fault { IfErr result (IsFault (shape_fault (group_value group.entry) text.now)) }
@@ -24,7 +30,7 @@ pub fn parse(alloc: Global, group: Group<'_>, text: &[u8]) -> Result<Parsed, Add
     match group {
         Group::Changesets => parse_changeset(alloc, text),
         Group::Manifests => parse_manifest(alloc, text),
-        Group::FilesAt(_) => Ok(Parsed::File(body_blob(text)?)),
+        Group::FilesAt(_) => Ok(Parsed::File(blob_of(text, blob)?)),
     }
 }
 
@@ -51,6 +57,20 @@ fn parse_manifest(alloc: Global, text: &[u8]) -> Result<Parsed, AddFault>
         Err(ManifestFault::Shape(_)) => Err(AddFault::ManifestShape),
         Err(ManifestFault::PathUnfit(_)) => Err(AddFault::PathUnfit),
         Err(ManifestFault::Memory) => Err(AddFault::Memory),
+    }
+}
+
+// The id of a body as a Git blob: the given one, which it is known to have, else the one that is computed.
+fn blob_of(text: &[u8], known: Option<Id>) -> Result<Id, AddFault>
+    requires known { IfSome known (HasBlob text.now) }
+    ensures shape { OnOk result (lacks_second_mark text.now ≡ false) }
+    ensures blob { IfOk result (HasBlob text.now) }
+    ensures fault { IfErr result (IsFault (named_if (lacks_second_mark text.now) name.FileShape)) }
+{
+    splits_exactly();
+    match known {
+        Some(blob) => Ok(blob),
+        None => body_blob(text),
     }
 }
 

@@ -4,7 +4,7 @@ use super::AddFault::{
 };
 use super::*;
 use bridge_text::Added::{Known, New};
-use bridge_text::{Added, Id, NoMemory, fit_path};
+use bridge_text::{Added, Id, NoMemory, fit_path, node_id};
 use std::alloc::Global;
 use std::process::Abort;
 use std::test::Fail;
@@ -368,5 +368,55 @@ fn views(rt: HostRuntime) -> Result<(), Fail> {
         }
     }
     views_exactly();
+    Ok(())
+}
+
+/// Additions over null parents whose nodes are hashed before, and what they answer: group, link, text, answer.
+const HASHED: &[(
+    Group<'static>,
+    &'static [u8],
+    &'static [u8],
+    Result<Added, AddFault>,
+)] = &[
+    (C, ONE, ONE_TEXT, Ok(New)),
+    (C, ONE, ONE_TEXT, Ok(Known)),
+    (C, ONE, TWO_TEXT, Err(LinkUnknown)),
+    (M, ONE, OF_X_TEXT, Ok(New)),
+    (M, TWO, OF_Y_TEXT, Err(LinkUnknown)),
+    (M, ONE, b"a\n", Err(ManifestShape)),
+    (A, ONE, COPY_TEXT, Ok(New)),
+    (A, ONE, b"\x01\nabc", Err(FileShape)),
+];
+
+fn lines(store: &HgStore, manifest: &Id) -> Option<usize> {
+    match store.manifest(manifest) {
+        Some(manifest) => Some(manifest.len()),
+        None => None,
+    }
+}
+
+#[test]
+fn hashed_additions(rt: HostRuntime) -> Result<(), Fail> {
+    let mut store = HgStore::new(rt.alloc());
+    for (i, (group, link, text, want)) in HASHED.iter().enumerate() {
+        assert!(rt; text.len() <= 1 << 26);
+        if let Group::FilesAt(path) = group {
+            assert!(rt; fit_path(path));
+        }
+        let text = Vec::from_slice(rt.alloc(), text)?;
+        let addition = Addition {
+            group: *group,
+            node: node_id(&Id::NULL, &Id::NULL, &text),
+            p: Id::NULL,
+            q: Id::NULL,
+            link: id(link)?,
+            text,
+        };
+        assert!(rt; store.add_hashed(addition, None) == *want, "at {i}");
+    }
+    let (one, of_x) = (id(ONE)?, id(OF_X)?);
+    assert!(rt; store.changeset(&one).is_some() && store.changeset(&of_x).is_none());
+    assert!(rt; lines(&store, &of_x) == Some(1) && lines(&store, &Id::NULL) == Some(0));
+    assert!(rt; lines(&store, &one) == None);
     Ok(())
 }

@@ -52,8 +52,8 @@ impl HgStore {
         }
     }
 
-    // The parents and the fields of a changeset.
-    fn changeset(&self, node: &Id) -> Option<(Id, Id, &Changeset)>
+    /// The parents and the fields of a changeset, lent from the store; `None` exactly where the node is unknown.
+    pub fn changeset(&self, node: &Id) -> Option<(Id, Id, &Changeset)>
         ensures { MatchOption result (knows self.now Changesets node.now ≡ false)
             (λ found. IsChangesetOf self.now node.now found.0 found.1 (changeset_value found.2.now)) }
     {
@@ -67,8 +67,9 @@ impl HgStore {
         }
     }
 
-    // The manifest of a node, the empty one for the null id.
-    fn manifest(&self, node: &Id) -> Option<&Manifest>
+    /// The manifest of a node, lent from the store: the empty one for the null id; `None` exactly where another node is
+    /// unknown.
+    pub fn manifest(&self, node: &Id) -> Option<&Manifest>
         ensures { MatchOption result (manifest_text_of self.now node.now ≡ None)
             (λ found. IsManifestOf self.now node.now found.now) }
     {

@@ -99,6 +99,13 @@ impl TreeList {
     {
         self.items.as_slice()
     }
+
+    /// The trees, not copied.
+    pub fn into_vec(self) -> Vec<TreeItem>
+        ensures { result.items ≡ self }
+    {
+        self.items
+    }
 }
 
 /// The tree objects of files.

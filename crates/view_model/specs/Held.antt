@@ -6,7 +6,7 @@ use Rattle.hg_model.specs.Changeset.{IsChangesetText}
 use Rattle.hg_model.specs.Manifest.{IsManifestText}
 use Rattle.hg_model.specs.FileText.{IsFileText, file_order, manifest_order}
 use Rattle.hg_model.specs.Revision.{Revision, Changesets, Manifests, FilesAt, revision_of}
-use Rattle.git_model.specs.Commit.{commit_text}
+use Rattle.git_model.specs.Commit.{IsCommitText}
 use Rattle.git_model.specs.Object.{Object, object_at}
 use Rattle.git_model.specs.Unfold.{FileRow, IsUnfolding}
 use Rattle.view_model.specs.View.{Row, ManifestParents, NoManifest, Over, ChangesetView, CommitView, TreeRow, entry_of_row, file_node}
@@ -61,7 +61,7 @@ pub record IsCommitHeld (known : List Object) (id : Id) (c : CommitView) : Type 
   pub object : Object
   pub is_held : object_at known id ≡ Some object
   pub kind : object.kind ≡ commit
-  pub text : object.content ≡ commit_text c.value
+  pub text : IsCommitText object.content c.value
   pub rows : IsUnfolding known (c.value).tree_id (map file_row_of c.rows)
   pub blobs : Each (IsBlobHeld known) c.rows
 
