@@ -14,6 +14,8 @@ def check(checks):
         ('the check of a bundle', ([b'check-hg'],), just(Con('CheckHg'))),
         ('the listing of a stream', ([b'list-git'],), just(Con('ListGit'))),
         ('the check of a stream', ([b'check-git'],), just(Con('CheckGit'))),
+        ('the pull of a bundle', ([b'pull-hg'],), just(Con('PullHg'))),
+        ('the pull of a stream', ([b'pull-git'],), just(Con('PullGit'))),
         ('an unknown word', ([b'frob'],), None),
         ('an option', ([b'--help'],), None),
         ('a word in capitals', ([b'LIST-HG'],), None),
@@ -22,7 +24,7 @@ def check(checks):
     ])
     entry = hg.entry(ONE, bytes(20), bytes(20), ONE, b'')
     line = b'changeset ' + b'1' * 40 + b' ' + ZEROS + b' ' + ZEROS + b' ' + b'1' * 40 + b' 0\n'
-    checks.table('history_model.Command.outcome_of', [
+    check_outcomes(checks, [
         ('the least bundle lists nothing', (Con('ListHg'), hg.bundle()), Con('Written', (b'',))),
         ('an entry is listed', (Con('ListHg'), hg.bundle([entry])), Con('Written', (line,))),
         ('an empty input is refused', (Con('ListHg'), b''), Con('Refused', (refusal('Truncated', 0),))),
@@ -39,6 +41,24 @@ def check(checks):
     ])
 
 
+def check_outcomes(checks, rows):
+    """What a command comes to, by the definitions of its parts."""
+    for name, (command, data), wanted in rows:
+        checks.compare(name, wanted, lambda: outcome(checks.value, command.name, data))
+
+
+def outcome(value, command, data):
+    if command == 'ListHg':
+        lines = value('hg_model.Bundle.listing', value('hg_model.Bundle.bundle_framing', data)['items'])
+        return value('history_model.Command.written_unless', value('hg_model.Bundle.listing_fault', data), lines)
+    reading, counts = {
+        'CheckHg': ('hg_model.Reading.bundle_reading', 'history_model.Command.revision_counts'),
+        'CheckGit': ('git_model.Stream.stream_reading', 'history_model.Command.object_counts'),
+    }[command]
+    read = value(reading, [], data)
+    return Con('Written', (value(counts, read.args[0]),)) if read.name == 'Ok' else Con('Refused', read.args)
+
+
 def check_counts(checks):
     text = b'0' * 40 + b'\nann\n0 0\n\none'
     node, file = hg.node_id(NULL, NULL, text), hg.node_id(NULL, NULL, b'')
@@ -46,7 +66,7 @@ def check_counts(checks):
     files = [(path, [hg.entry(file, NULL, NULL, node, b'')]) for path in (b'a', b'b')]
     blob = git.stream_object(b'blob', b'hello\n')
     wrong = hg.bundle([hg.entry(ONE, NULL, NULL, ONE, b'')])
-    checks.table('history_model.Command.outcome_of', [
+    check_outcomes(checks, [
         ('the least bundle has no revisions', (Con('CheckHg'), hg.bundle()), Con('Written', (b'changesets 0\nmanifests 0\nfiles 0\n',))),
         ('revisions are counted by their kinds', (Con('CheckHg'), hg.bundle([changeset], [], files)),
          Con('Written', (b'changesets 1\nmanifests 0\nfiles 2\n',))),

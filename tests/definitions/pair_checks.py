@@ -9,6 +9,8 @@ ONES, TWOS = b'1' * 40, b'22' * 20
 
 def check(checks):
     check_plain(checks)
+    check_collisions(checks)
+    check_orphans(checks)
     check_revisions(checks)
     check_links(checks)
     check_marks(checks)
@@ -39,6 +41,53 @@ def check_plain(checks):
     empty = shapes.commit([])
     nothing = shapes.changeset([], manifest=NO_MANIFEST, files=())
     checks.equal('a commit without files', nothing, 'pair_model.Rule.rule_changeset', parents(checks=checks), empty)
+
+
+def check_collisions(checks):
+    """When a commit or a changeset can't be added beside what is known."""
+    shapes = Shapes(checks)
+    first, second = two_changesets(checks)
+    commit = shapes.commit([(b'a', 'File', b'hello\n')])
+    block = record(links=[], changeset=first, commit=commit)
+    blob = commit['rows'][0]['id']
+    known, other = (record(id=blob, kind=Con('blob'), content=content) for content in (b'hello\n', b'x'))
+    twice = record(value=commit['value'], rows=[*commit['rows'], record(path=b'b', mode=Con('File'), id=blob, content=b'x')])
+    checks.table('pair_model.Collision.commit_collides', [
+        ('a commit beside nothing', ([], [], commit), False),
+        ('beside its own blob', ([known], [], commit), False),
+        ('beside another content of that id', ([other], [], commit), True),
+        ('two contents of one id', ([], [], twice), True),
+        ('a commit that stands in a block', ([], [block], commit), True),
+    ])
+    own = record(group=Con('Changesets'), node=One.node, p=NULL, q=NULL, link=One.node, text=One.text)
+    checks.table('pair_model.Collision.changeset_collides', [
+        ('a changeset beside nothing', ([], [], first), False),
+        ('beside itself', ([own], [], first), False),
+        ('beside another text of that node', ([record(**{**own, 'text': b'x'})], [], first), True),
+        ('beside other parents of that node', ([record(**{**own, 'p': ONE})], [], first), True),
+        ('a changeset that stands in a block', ([], [block], first), True),
+        ('its child', ([own], [block], second), False),
+    ])
+
+
+def check_orphans(checks):
+    """New manifests and file revisions to which no changeset refers."""
+    first, _ = two_changesets(checks)
+    block = record(links=[], changeset=first, commit=Shapes(checks).commit([(b'a', 'File', b'hello\n')]))
+
+    def arrival(group, node, fresh=True):
+        return record(revision=record(group=group, node=node, p=NULL, q=NULL, link=One.node, text=b''), at=6, fresh=fresh)
+
+    file, manifest = Con('FilesAt', (b'a',)), Con('Manifests')
+    checks.table('history_model.Pull.is_orphan', [
+        ('a manifest of a changeset', ([block], arrival(manifest, One.manifest)), False),
+        ('a file of a changeset', ([block], arrival(file, One.file)), False),
+        ('the file at another path', ([block], arrival(Con('FilesAt', (b'b',)), One.file)), True),
+        ('a manifest of none', ([block], arrival(manifest, ONE)), True),
+        ('one that was known', ([block], arrival(manifest, ONE, fresh=False)), False),
+        ('a changeset', ([], arrival(Con('Changesets'), ONE)), False),
+        ('a manifest where there is no block', ([], arrival(manifest, One.manifest)), True),
+    ])
 
 
 def check_revisions(checks):

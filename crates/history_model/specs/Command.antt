@@ -1,5 +1,5 @@
 -- The commands of the program, by the words that ask for them, and what each comes to over an input. Both are this project's own rule.
-use Rattle.std.specs.Prelude.{ℕ, Bool, true, false, if◌then◌else◌, List, [], ◌∷◌, ◌++◌, Option, Some, None, Result, Ok, Err, codes, decimal, bytes_eq, count_by}
+use Rattle.std.specs.Prelude.{◌≡◌, ℕ, Bool, true, false, if◌then◌else◌, List, [], ◌∷◌, ◌++◌, Option, Some, None, Result, Ok, Err, codes, decimal, bytes_eq, count_by}
 use Rattle.text_model.specs.Text.{Bytes, line, spaced}
 use Rattle.text_model.specs.Id.{blob, tree, commit, tag}
 use Rattle.text_model.specs.Fault.{Refusal}
@@ -7,12 +7,15 @@ use Rattle.hg_model.specs.Revision.{Group, Changesets, Manifests, FilesAt}
 use Rattle.hg_model.specs.Bundle.{bundle_framing, listing, listing_fault}
 use Rattle.hg_model.specs.Reading.{Arrival, bundle_reading}
 use Rattle.git_model.specs.Stream.{Placed, stream_framing, stream_listing, stream_reading, count_of_kind}
+use Rattle.history_model.specs.Pull.{is_changesets, empty_state, PullHgMakes, PullHgRefuses, PullGitMakes, PullGitRefuses}
 
 pub data Command : Type 0 where
   ListHg : Command
   CheckHg : Command
   ListGit : Command
   CheckGit : Command
+  PullHg : Command
+  PullGit : Command
 
 -- a word, and the command that it asks for
 abbrev pub plain_commands : List (Bytes × Command)
@@ -21,6 +24,8 @@ plain_commands =
     ∷ (codes "check-hg", CheckHg)
     ∷ (codes "list-git", ListGit)
     ∷ (codes "check-git", CheckGit)
+    ∷ (codes "pull-hg", PullHg)
+    ∷ (codes "pull-git", PullGit)
     ∷ []
 
 abbrev pub command_named : Bytes → List (Bytes × Command) → Option Command
@@ -38,10 +43,6 @@ command_of _ = None
 -- a word and a number, as a line
 abbrev pub count_line : Bytes → ℕ → Bytes
 count_line word n = line (spaced (word ∷ decimal n ∷ []))
-
-abbrev pub is_changesets : Group → Bool
-is_changesets Changesets = true
-is_changesets _ = false
 
 abbrev pub is_manifests : Group → Bool
 is_manifests Manifests = true
@@ -86,9 +87,14 @@ abbrev pub written_of : {T : Type 0} → (T → Bytes) → Result T Refusal → 
 written_of output (Ok read) = Written (output read)
 written_of output (Err why) = Refused why
 
--- What a command comes to over an input. The listings check the framing alone; the checks read the whole input over no known revisions and objects.
-abbrev pub outcome_of : Command → Bytes → Outcome
-outcome_of ListHg input = written_unless (listing_fault input) (listing (bundle_framing input).items)
-outcome_of CheckHg input = written_of revision_counts (bundle_reading [] input)
-outcome_of ListGit input = written_unless (stream_framing input).bad (stream_listing (stream_framing input).objects)
-outcome_of CheckGit input = written_of object_counts (stream_reading [] input)
+-- What a command comes to over an input. The listings check the framing alone; the checks read the whole input over no known revisions
+-- and objects; the pulls take it into the empty state.
+abbrev pub ComesTo : Command → Bytes → Outcome → Type 0
+ComesTo ListHg input outcome = written_unless (listing_fault input) (listing (bundle_framing input).items) ≡ outcome
+ComesTo CheckHg input outcome = written_of revision_counts (bundle_reading [] input) ≡ outcome
+ComesTo ListGit input outcome = written_unless (stream_framing input).bad (stream_listing (stream_framing input).objects) ≡ outcome
+ComesTo CheckGit input outcome = written_of object_counts (stream_reading [] input) ≡ outcome
+ComesTo PullHg input (Written output) = PullHgMakes empty_state input output
+ComesTo PullHg input (Refused why) = PullHgRefuses empty_state input why
+ComesTo PullGit input (Written output) = PullGitMakes empty_state input output
+ComesTo PullGit input (Refused why) = PullGitRefuses empty_state input why

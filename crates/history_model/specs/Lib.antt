@@ -1,2 +1,3 @@
+pub mod Pull
 pub mod Command
 pub mod Run

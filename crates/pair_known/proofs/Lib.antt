@@ -3,3 +3,4 @@ pub mod HeldViews
 pub mod SearchLemmas
 pub mod FreshLemmas
 pub mod Rising
+pub mod HeldCommits

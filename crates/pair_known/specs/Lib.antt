@@ -4,3 +4,5 @@ pub mod Fresh
 pub mod Drafts
 pub mod GitDrafts
 pub mod Blocks
+pub mod Over
+pub mod Ruled

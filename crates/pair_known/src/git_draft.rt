@@ -1,6 +1,11 @@
-ghost use Rattle.std.specs.Prelude.{◌≡◌, [], None, IfOk};
-ghost use Rattle.git_model.specs.Commit.{IsCommit};
+ghost use Rattle.std.specs.Prelude.{◌≡◌, ◌⊎◌, [], Some, None, IfOk, IfErr};
+ghost use Rattle.git_model.specs.Commit as model;
 ghost use Rattle.git_model.specs.Unfold.{walk_fault};
+ghost use Rattle.git_store.specs.Known.{content_at, IsCommitAt};
+ghost use Rattle.text_model.specs.Id.{commit};
+ghost use Rattle.text_model.specs.Text.{Bytes};
+ghost use Rattle.tree_shape.specs.Faults.{IsTreeFault};
+ghost use Rattle.tree_shape.specs.declared.fault.TreeFault.TheVariants.{Memory};
 ghost use Rattle.view_model.specs.View.{CommitView};
 ghost use Rattle.view_model.specs.Held.{IsCommitHeld};
 ghost use Rattle.pair_known.specs.GitDrafts.{IsGitDraft};
@@ -28,16 +33,40 @@ pub struct GitDraft {
 
 /// The draft of a commit that is held, whose tree stands for files. No blob is copied, and nothing is hashed.
 pub fn draft_of_commit(alloc: Global, known: &Known, id: &Id) -> Result<GitDraft, NoMemory>
-    requires held { (c : CommitView) × IsCommitHeld known.now.git id.now c × IsCommit c.value × (walk_fault known.now.git (c.value).tree_id ≡ None) }
-    ensures draft { IfOk result (λ d. (c : CommitView) → IsCommitHeld known.now.git id.now c → IsCommit c.value → IsGitDraft known.now.git d c) }
+    requires held { (c : CommitView) × IsCommitHeld known.now.git id.now c × (walk_fault known.now.git (c.value).tree_id ≡ None) }
+    ensures draft { IfOk result (λ d. (c : CommitView) → IsCommitHeld known.now.git id.now c → IsGitDraft known.now.git d c) }
     ensures nothing_fresh { IfOk result (λ d. d.fresh ≡ []) }
     ensures no_trees { IfOk result (λ d. d.trees ≡ []) }
 {
-    let commit = read_commit(alloc, &known.git, id)?;
+    match read_draft(alloc, known, id) {
+        Ok(draft) => Ok(draft),
+        Err(TreeFault::Memory) => Err(NoMemory),
+        Err(TreeFault::ObjectUnknown(_)) => unreachable!(),
+        Err(TreeFault::EmptySubtree(_)) => unreachable!(),
+        Err(TreeFault::PathUnfit) => unreachable!(),
+        Err(TreeFault::Limit) => unreachable!(),
+    }
+}
+
+/// The draft of a commit that the store holds, whatever its tree is. The fault is the first of the walk through that tree.
+/// No blob is copied, and nothing is hashed.
+pub fn read_draft(alloc: Global, known: &Known, id: &Id) -> Result<GitDraft, TreeFault>
+    requires held { (content : Bytes) × (content_at commit known.now.git id.now ≡ Some content) }
+    ensures fields { IfOk result (λ d. IsCommitAt known.now.git id.now d.commit) }
+    ensures walks { IfOk result (λ d. walk_fault known.now.git (d.commit).tree_id ≡ None) }
+    ensures draft { IfOk result (λ d. (c : CommitView) → IsCommitHeld known.now.git id.now c → IsGitDraft known.now.git d c) }
+    ensures nothing_fresh { IfOk result (λ d. d.fresh ≡ []) }
+    ensures no_trees { IfOk result (λ d. d.trees ≡ []) }
+    ensures read { IfErr result (λ e. (e ≡ Memory) ⊎ ((v : model.Commit) × IsCommitAt known.now.git id.now v)) }
+    ensures fault { IfErr result (λ e. (v : model.Commit) → IsCommitAt known.now.git id.now v → IsTreeFault (walk_fault known.now.git v.tree_id) e) }
+{
+    let commit = match read_commit(alloc, &known.git, id) {
+        Ok(commit) => commit,
+        Err(NoMemory) => return Err(TreeFault::Memory),
+    };
     let files = match flatten(alloc, &known.git, &commit.tree) {
         Ok(files) => files,
-        Err(TreeFault::Memory) => return Err(NoMemory),
-        Err(_) => unreachable!(),
+        Err(fault) => return Err(fault),
     };
     Ok(GitDraft {
         commit,
@@ -49,9 +78,11 @@ pub fn draft_of_commit(alloc: Global, known: &Known, id: &Id) -> Result<GitDraft
 
 // The fields of a commit that is held.
 fn read_commit(alloc: Global, store: &GitStore, id: &Id) -> Result<Commit, NoMemory>
-    requires held { (c : CommitView) × IsCommitHeld store.now id.now c × IsCommit c.value }
-    ensures { IfOk result (λ x. (c : CommitView) → IsCommitHeld store.now id.now c → IsCommit c.value → c.value ≡ x) }
+    requires held { (content : Bytes) × (content_at commit store.now id.now ≡ Some content) }
+    ensures at { IfOk result (IsCommitAt store.now id.now) }
+    ensures one { IfOk result (λ x. (v : model.Commit) → IsCommitAt store.now id.now v → v ≡ x) }
 {
+    store.check();
     let (_, content) = store.content(id).unwrap();
     match Commit::read(alloc, content) {
         Ok(commit) => Ok(commit),

@@ -2,6 +2,7 @@
 //! drafts of members that are to be added.
 #![tactic(auto)]
 
+mod fault;
 mod fresh_blobs;
 mod fresh_files;
 mod git_draft;
@@ -11,9 +12,10 @@ mod hg_row;
 mod known;
 mod partners;
 
+pub use fault::PairFault;
 pub use fresh_blobs::{FreshBlob, FreshBlobs};
 pub use fresh_files::{FreshFile, FreshFiles};
-pub use git_draft::{GitDraft, draft_of_commit};
+pub use git_draft::{GitDraft, draft_of_commit, read_draft};
 pub use hg_block::{HgBlock, HgDrafts};
 pub use hg_draft::{HgDraft, draft_of_changeset, manifest_of_node};
 pub use hg_row::{HgRow, HgRows};

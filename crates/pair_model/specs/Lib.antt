@@ -3,3 +3,5 @@ pub mod MarkList
 pub mod Block
 pub mod Rule
 pub mod Octopus
+pub mod Plain
+pub mod Collision

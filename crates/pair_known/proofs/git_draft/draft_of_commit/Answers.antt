@@ -1,22 +1,41 @@
-use Rattle.std.proofs.Common.{◌≡◌, ◌++◌, List, ℕ, map, sym, ap, subst, ◌∙◌}
-use Rattle.text_model.specs.Lists.{Each}
-use Rattle.git_model.specs.Commit.{Commit}
-use Rattle.git_model.specs.Object.{Object}
-use Rattle.git_model.specs.Unfold.{FileRow, IsUnfolding}
-use Rattle.view_model.specs.Held.{IsBlobHeld, file_row_of}
-use Rattle.pair_known.proofs.Rising.{rising_one}
+use Rattle.std.proofs.Common.{◌≡◌, Option, Some, None, sym, ap, subst, ◌∙◌}
+use Rattle.std.specs.Prelude.{option_map}
+use Rattle.text_model.specs.Fault.{FaultName}
+use Rattle.git_model.specs.Unfold.{WalkFault, walk_fault}
+use Rattle.tree_shape.specs.Faults.{IsTreeFault}
+use Rattle.tree_shape.specs.declared.fault.TreeFault.{TreeFault}
+use Rattle.pair_known.proofs.HeldCommits.{held-at}
 use Rattle.pair_known.proofs.git_draft.draft_of_commit.Goals as goal
 
-one_unfolding : {known : List Object} (root other : List ℕ) (xs ys : List FileRow) → root ≡ other → IsUnfolding known root xs → IsUnfolding known other ys → xs ≡ ys
-one_unfolding {known} root other xs ys same a b =
-    let c = subst (λ (r : List ℕ). IsUnfolding known r xs) same a in
-    rising_one (λ (r : FileRow). r.path) xs ys c.in_order b.in_order (λ x i. b.all x (c.each x i)) (λ x i. c.all x (b.each x i))
+none_some : {X : Type 0} {x : X} → None ≡ Some x → ⊥
+none_some e = cc
 
-pub returns-clause-draft : goal.returns-clause-draft
-returns-clause-draft c = λ view held is.
-    let value = c.in_ok-commit.ensures view held is in
-    record {
-      value = value;
-      files = one_unfolding _ _ c.in-Ok.files (map file_row_of view.rows) (ap (λ (x : Commit). x.tree_id) (c.commit.view_is ∙ sym value)) c.in-Ok.ensures.unfolds held.rows;
-      blobs = subst (λ (fresh : List Object). Each (IsBlobHeld (fresh ++ c.args.known.now.git)) view.rows) (sym c.new.ensures) held.blobs;
-    }
+none_name : (why : Option WalkFault) (name : FaultName) → why ≡ None → option_map (λ (w : WalkFault). w.name) why ≡ Some name → ⊥
+none_name why name none is = none_some (sym (ap (option_map (λ (w : WalkFault). w.name)) none) ∙ is)
+
+pub read_draft-requires : goal.read_draft-requires
+read_draft-requires c = let at = held-at _ _ c.requires.held.0 c.requires.held.1 in record { held = (at.content, at.held) }
+
+pub unreachable-requires : goal.unreachable-requires
+unreachable-requires c =
+    let view = c.requires.held.0 in
+    let fault = subst (λ (e : TreeFault). IsTreeFault (walk_fault c.args.known.now.git (view.value).tree_id) e) c.in-Err-ObjectUnknown.field-0-is (c.in-Err-ObjectUnknown.ensures.fault view.value (held-at _ _ view c.requires.held.1)) in
+    none_some (sym c.requires.held.2 ∙ fault)
+
+pub unreachable-requires-in-Err-EmptySubtree : goal.unreachable-requires-in-Err-EmptySubtree
+unreachable-requires-in-Err-EmptySubtree c =
+    let view = c.requires.held.0 in
+    let fault = subst (λ (e : TreeFault). IsTreeFault (walk_fault c.args.known.now.git (view.value).tree_id) e) c.in-Err-EmptySubtree.field-0-is (c.in-Err-EmptySubtree.ensures.fault view.value (held-at _ _ view c.requires.held.1)) in
+    none_some (sym c.requires.held.2 ∙ fault)
+
+pub unreachable-requires-in-Err-PathUnfit : goal.unreachable-requires-in-Err-PathUnfit
+unreachable-requires-in-Err-PathUnfit c =
+    let view = c.requires.held.0 in
+    let fault = subst (λ (e : TreeFault). IsTreeFault (walk_fault c.args.known.now.git (view.value).tree_id) e) c.in-Err-PathUnfit.field-0-is (c.in-Err-PathUnfit.ensures.fault view.value (held-at _ _ view c.requires.held.1)) in
+    none_name _ _ c.requires.held.2 fault
+
+pub unreachable-requires-in-Err-Limit : goal.unreachable-requires-in-Err-Limit
+unreachable-requires-in-Err-Limit c =
+    let view = c.requires.held.0 in
+    let fault = subst (λ (e : TreeFault). IsTreeFault (walk_fault c.args.known.now.git (view.value).tree_id) e) c.in-Err-Limit.field-0-is (c.in-Err-Limit.ensures.fault view.value (held-at _ _ view c.requires.held.1)) in
+    none_name _ _ c.requires.held.2 fault
