@@ -1,0 +1,7 @@
+pub mod ListLemmas
+pub mod BlobLemmas
+pub mod TreeObjects
+pub mod LeafObjects
+pub mod FileLemmas
+pub mod PartnerLemmas
+pub mod RuledLemmas

@@ -1,0 +1,4 @@
+pub mod NextLemmas
+pub mod MergeLemmas
+pub mod FilesLemmas
+pub mod ManifestLemmas

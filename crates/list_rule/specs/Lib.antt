@@ -1,0 +1,3 @@
+pub mod Listed
+pub mod Merged
+pub mod Over

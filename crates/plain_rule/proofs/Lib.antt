@@ -1,0 +1,5 @@
+pub mod BackLemmas
+pub mod BlockLemmas
+pub mod LinkLemmas
+pub mod OverLemmas
+pub mod PlainCommit

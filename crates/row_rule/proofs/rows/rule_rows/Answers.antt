@@ -1,0 +1,70 @@
+use Rattle.std.proofs.Common.{◌≡◌, ◌<◌, ◌+◌, ◌++◌, ℕ, List, Option, Some, Err, false, length, get_or, sym, ap, subst, ◌∙◌, arith, take_all}
+use Rattle.std.specs.Prelude.{slice_get}
+use Rattle.std.proofs.lemmas.Option.{slice_get-get_or}
+use Rattle.std.proofs.lemmas.List.{length-map}
+use Rattle.std.proofs.lemmas.Result.{err_from_is_err_and}
+use Rattle.text_model.specs.Lists.{Each}
+use Rattle.text_model.specs.Text.{Bytes}
+use Rattle.git_model.specs.Unfold.{FileRow}
+use Rattle.hg_model.specs.Manifest.{ManifestEntry}
+use Rattle.hg_store.specs.Known.{knows_same}
+use Rattle.view_model.specs.Held.{file_row_of}
+use Rattle.std.specs.List.{find}
+use Rattle.std.proofs.Common.{bytes_eq}
+use Rattle.row_rule.specs.declared.parents.Parent.{Parent}
+use Rattle.row_rule.specs.Rows.{AreRuledRows}
+use Rattle.row_rule.proofs.NewRow.{errs}
+use Rattle.row_rule.proofs.RowsLoop.{IsAhead, ahead-more, ahead-here, fresh-rises}
+use Rattle.row_rule.proofs.RowsStep.{fresh-path, all-new, content-at, row-of, not_short, one_more}
+use Rattle.row_rule.proofs.rows.rule_rows.Goals as goal
+
+-- the file at a place of a list
+file-at : (files list : List FileRow) (i : ℕ) (file : FileRow) → list ≡ files → i < length list → file ≡ get_or list i file → slice_get files i ≡ Some file
+file-at files list i file same below is = ap (λ (l : List FileRow). slice_get l i) (sym same) ∙ slice_get-get_or list i file below ∙ ap Some (sym is)
+
+abbrev found : Parent → Bytes → Option ManifestEntry
+found parent p = find (λ x. bytes_eq x.path p) (parent.manifest).now
+
+pub rule_row-requires : goal.rule_row-requires
+rule_row-requires c =
+    let at = file-at c.args.c.now.files c.as_slice-files.result.now c.loop-file.file-index c.file-item.result c.as_slice-files.ensures.rows c.loop-file-test.true c.file-item.is in
+    record {
+      content = content-at (c.args.c.now.fresh ++ c.args.known.now.git) c.args.c.now.files c.requires.contents.0 c.loop-file.file-index c.file-item.result c.requires.contents.1 at c.requires.contents.2;
+    }
+
+pub returns-in_err-made-clause-limit : goal.returns-in_err-made-clause-limit
+returns-in_err-made-clause-limit c = λ e ps ts are short.
+    let at = file-at c.args.c.now.files c.as_slice-files.result.now c.loop-file.file-index c.file-item.result c.as_slice-files.ensures.rows c.loop-file-test.true c.file-item.is in
+    let p = err_from_is_err_and c.from_residual.result c.from_residual.ensures.1 in
+    let up = c.as_slice-files.ensures.files.in_order in
+    let is = row-of c.args.known.now.hg (c.args.c.now.fresh ++ c.args.known.now.git) c.args.c.now.files c.args.first.now c.args.second.now ps ts are c.loop-file.file-index c.file-item.result at up c.get-in_first.result c.get-in_second.result (c.get-in_first.ensures ∙ ap (λ (p : Bytes). found c.args.first.now p) c.path.ensures) (c.get-in_second.ensures ∙ ap (λ (p : Bytes). found c.args.second.now p) c.path-in-loop-file.ensures) in
+    not_short c.args.known.now.hg (c.args.c.now.fresh ++ c.args.known.now.git) c.args.c.now.files c.args.first.now c.args.second.now ps ts are c.loop-file.file-index c.file-item.result at up c.get-in_first.result c.get-in_second.result (c.get-in_first.ensures ∙ ap (λ (p : Bytes). found c.args.first.now p) c.path.ensures) (c.get-in_second.ensures ∙ ap (λ (p : Bytes). found c.args.second.now p) c.path-in-loop-file.ensures)
+    (c.in_err-made.ensures.limit (errs _ _ (ap Err (sym p.2) ∙ sym p.1 ∙ e)) _ _ _ is) short
+
+pub push-requires : goal.push-requires
+push-requires c =
+    let at = file-at c.args.c.now.files c.as_slice-files.result.now c.loop-file.file-index c.file-item.result c.as_slice-files.ensures.rows c.loop-file-test.true c.file-item.is in
+    fresh-rises c.loop-file.ruled.fresh c.in_ok-made.made.fresh c.file-item.result.path c.check.ensures (ahead-here c.args.c.now.files c.as_slice-files.ensures.files.in_order c.loop-file.file-index c.file-item.result at c.loop-file.ruled.fresh c.loop-file.invariant.ahead)
+    (fresh-path c.args.known.now.hg c.file-item.result.path c.in_ok-made.made.fresh c.in_ok-made.ensures.fresh)
+
+pub loop-file-preserved : goal.loop-file-preserved
+loop-file-preserved c =
+    let files = c.args.c.now.files in
+    let known = c.args.known.now.hg in
+    let objects = c.args.c.now.fresh ++ c.args.known.now.git in
+    let i = c.loop-file.file-index in
+    let file = c.file-item.result in
+    let at = file-at files c.as_slice-files.result.now i file c.as_slice-files.ensures.rows c.loop-file-test.true c.file-item.is in
+    let up = c.as_slice-files.ensures.files.in_order in
+    let made = c.in_ok-made.made in
+    record {
+      ahead = subst (IsAhead files (i + 1)) (sym c.in_ok-push.ensures.fresh) (ahead-more files up i file at c.loop-file.ruled.fresh made.fresh c.loop-file.invariant.ahead (fresh-path known file.path made.fresh c.in_ok-made.ensures.fresh));
+      new = subst (Each (λ r. knows_same known r ≡ false)) (sym c.in_ok-push.ensures.fresh) (all-new known file.path c.loop-file.ruled.fresh made.fresh c.loop-file.invariant.new c.in_ok-made.ensures.fresh);
+      ruled = λ ps ts are.
+          one_more known objects files c.args.first.now c.args.second.now ps ts are i file at up c.get-in_first.result c.get-in_second.result (c.get-in_first.ensures ∙ ap (λ (p : Bytes). found c.args.first.now p) c.path.ensures) (c.get-in_second.ensures ∙ ap (λ (p : Bytes). found c.args.second.now p) c.path-in-loop-file.ensures) c.loop-file.ruled c.push.new.self made c.in_ok-push.ensures.rows c.in_ok-push.ensures.fresh
+          c.loop-file.invariant.ahead c.in_ok-made.ensures.fresh (c.loop-file.invariant.ruled ps ts are)
+          (c.in_ok-made.ensures.ok _ _ _ (row-of known objects files c.args.first.now c.args.second.now ps ts are i file at up c.get-in_first.result c.get-in_second.result (c.get-in_first.ensures ∙ ap (λ (p : Bytes). found c.args.first.now p) c.path.ensures) (c.get-in_second.ensures ∙ ap (λ (p : Bytes). found c.args.second.now p) c.path-in-loop-file.ensures)));
+    }
+
+pub returns-clause-ok : goal.returns-clause-ok
+returns-clause-ok c = λ ps ts are. subst (AreRuledRows c.args.known.now.hg c.loop-file.ruled ps) (take_all c.loop-file.file-index ts (omega (arith, length-map ts file_row_of, ap length are.of_files, ap length c.as_slice-files.ensures.rows, c.loop-file-test.false))) (c.loop-file.invariant.ruled ps ts are)

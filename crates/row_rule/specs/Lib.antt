@@ -1,0 +1,4 @@
+pub mod Parents
+pub mod Ruled
+pub mod Rows
+pub mod Back
