@@ -14,7 +14,7 @@ use Rattle.git_store.specs.declared.fault.GitAddFault.{GitAddFault}
 use Rattle.git_store.specs.declared.fault.GitAddFault.TheVariants as add
 use Rattle.git_store.specs.Faults as store
 use Rattle.git_stream.specs.Faults.{IsJudgement, addition_fault_at}
-use Rattle.git_stream.specs.Arrivals.{kind_of, arrival_of, known_from, refused}
+use Rattle.git_stream.specs.Arrivals.{kind_of, arrival_of, known_from, refused, AddsAll}
 
 pub kind_of-object_kind : (k : Kind) → kind_of (object_kind k) ≡ k
 kind_of-object_kind Blob = refl
@@ -91,3 +91,8 @@ known_from-push known (p ∷ before) o = known_from-push (objects_after known p.
 pub arrivals-push : (before : List Placed) (o : Placed) → map arrival_of (before ++ o ∷ []) ≡ map arrival_of before ++ arrival_of o ∷ []
 arrivals-push [] o = refl
 arrivals-push (p ∷ before) o = ap (λ l. arrival_of p ∷ l) (arrivals-push before o)
+
+pub adds-push : (known : List Object) (before : List Placed) (p : Placed) → AddsAll known (map (λ o. o.object) before) → object_fault (known_from known before) p.object ≡ None
+    → AddsAll known (map (λ o. o.object) (before ++ p ∷ []))
+adds-push known [] p adds none = (none, tt)
+adds-push known (o ∷ before) p adds none = (adds.0, adds-push (objects_after known o.object) before p adds.1 none)

@@ -5,8 +5,8 @@ use Rattle.text_model.specs.Text.{Bytes}
 use Rattle.text_model.specs.Id.{object_id}
 use Rattle.text_model.specs.Fault.{Refusal, refusal}
 use Rattle.text_model.specs.Fault as fault
-use Rattle.git_model.specs.Object.{Object, objects_after}
-use Rattle.git_model.specs.Stream.{object_text, Placed, StreamFraming, object_reading, checked_at, ObjectReading, NoObject, Found, BadObject, stream_from, stream_framing, placed_fault}
+use Rattle.git_model.specs.Object.{Object, object_fault, objects_after}
+use Rattle.git_model.specs.Stream.{object_text, Placed, StreamFraming, object_reading, checked_at, ObjectReading, NoObject, Found, BadObject, stream_from, stream_framing, stream_reading, placed_fault}
 use Rattle.git_model.proofs.OptionLemmas.{none_some}
 use Rattle.git_model.proofs.StreamLemmas.{stream_refused, stream_item, stream_end}
 use Rattle.git_model.proofs.StreamTakes.{object_takes}
@@ -19,31 +19,38 @@ use Rattle.git_stream.specs.declared.gather.Gathered.{Gathered}
 use Rattle.git_stream.specs.declared.fault.StreamFault.{StreamFault}
 use Rattle.git_stream.specs.declared.fault.StreamFault.TheVariants.{Bad, Read, Memory}
 use Rattle.git_stream.specs.Faults.{IsFault, IsJudgement, stream_fault}
-use Rattle.git_stream.specs.Arrivals.{arrival_of, known_from, Reads}
+use Rattle.git_stream.specs.Arrivals.{arrival_of, known_from, Reads, AddsAll}
 use Rattle.git_stream.specs.Steps.{Adds}
-use Rattle.git_stream.proofs.AddLemmas.{placed-wrong, fault-passes, fault-stops, fault-ends, fault_in, refused-is, reading-is, known_from-push, arrivals-push}
+use Rattle.git_stream.proofs.AddLemmas.{placed-wrong, fault-passes, fault-stops, fault-ends, fault_in, refused-is, reading-is, known_from-push, arrivals-push, adds-push}
+use Rattle.git_stream.proofs.StreamLaws.{passes-one}
 
--- These objects were read, listed and added to those known, and the whole input is refused as the rest is behind them. A framing of the rest takes `more` objects at least.
-pub record GoesOn (known : List Object) (whole rest : Bytes) (g : Gathered) (at : ℕ) : Type 0 where
-  pub more : ℕ
-  pub before : List Placed
-  pub enough : length rest ≤ more
-  pub framed : (stream_framing whole).objects ≡ before ++ (stream_from (suc more) at rest).objects
-  pub fault : fault_in known (stream_framing whole) ≡ fault_in g.store (stream_from (suc more) at rest)
+-- These objects were added to those known, none of which is refused, and listed.
+pub record AreAdded (known : List Object) (g : Gathered) (before : List Placed) : Type 0 where
+  pub adds : AddsAll known (map (λ o. o.object) before)
   pub store : g.store ≡ known_from known before
   pub listed : g.arrivals ≡ map arrival_of before
 
+-- These objects were read, and the whole input is refused as the rest is behind them. A framing of the rest takes `more` objects at least.
+pub record GoesOn (known : List Object) (whole rest : Bytes) (g : Gathered) (at : ℕ) (before : List Placed) : Type 0 where
+  pub more : ℕ
+  pub enough : length rest ≤ more
+  pub framed : (stream_framing whole).objects ≡ before ++ (stream_from (suc more) at rest).objects
+  pub fault : fault_in known (stream_framing whole) ≡ fault_in g.store (stream_from (suc more) at rest)
+
 -- the same where the source tells its bytes
-abbrev pub Reading : List Object → Option Bytes → Option Bytes → Gathered → ℕ → Type 0
-Reading known None rest g at = Unit {0}
-Reading known (Some whole) None g at = ⊥
-Reading known (Some whole) (Some rest) g at = GoesOn known whole rest g at
+abbrev pub Reading : List Object → Option Bytes → Option Bytes → Gathered → ℕ → List Placed → Type 0
+Reading known None rest g at before = Unit {0}
+Reading known (Some whole) None g at before = ⊥
+Reading known (Some whole) (Some rest) g at before = GoesOn known whole rest g at before
 
-begins : (known : List Object) (whole : Bytes) → GoesOn known whole whole (record { store = known; arrivals = [] }) 0
+pub added_none : (known : List Object) → AreAdded known (record { store = known; arrivals = [] }) []
+added_none known = record { adds = tt; store = refl; listed = refl }
+
+begins : (known : List Object) (whole : Bytes) → GoesOn known whole whole (record { store = known; arrivals = [] }) 0 []
 unfolding stream_framing
-begins known whole = record { more = length whole; before = []; enough = omega arith; framed = refl; fault = refl; store = refl; listed = refl }
+begins known whole = record { more = length whole; enough = omega arith; framed = refl; fault = refl }
 
-pub reading_begins : (known : List Object) (old : Option Bytes) → Reading known old old (record { store = known; arrivals = [] }) 0
+pub reading_begins : (known : List Object) (old : Option Bytes) → Reading known old old (record { store = known; arrivals = [] }) 0 []
 reading_begins known None = tt
 reading_begins known (Some whole) = begins known whole
 
@@ -111,11 +118,11 @@ refused_by why bad by (batch.Truncated place) is = by _ is
 refused_by why bad by batch.InputLimit is = by _ is
 refused_by why bad by (batch.IdWrong id place) is = by _ is
 
-pub next_told : (known : List Object) (old mid : Option Bytes) (g : Gathered) (at : ℕ) (e : BatchFault) → Reading known old mid g at
+pub next_told : (known : List Object) (old mid : Option Bytes) (g : Gathered) (at : ℕ) (before : List Placed) (e : BatchFault) → Reading known old mid g at before
     → IfSome mid (λ bytes. reader.IsFault (reading_fault (checked_at at (object_reading at bytes))) e) → IfSome old (λ bytes. Reads known bytes (Err (stream_fault e)))
-next_told known None mid g at e so_far is = tt
-next_told known (Some whole) None g at e so_far is = absurd so_far
-next_told known (Some whole) (Some rest) g at e so_far is =
+next_told known None mid g at before e so_far is = tt
+next_told known (Some whole) None g at before e so_far is = absurd so_far
+next_told known (Some whole) (Some rest) g at before e so_far is =
     subst (λ (why : Option Refusal). IsFault why (stream_fault e)) (sym (refused-is known whole))
     (refused_by (reading_fault (checked_at at (object_reading at rest))) (fault_in known (stream_framing whole))
     (λ why bad. so_far.fault ∙ checked-refused g.store so_far.more at rest why bad) e is)
@@ -125,11 +132,11 @@ judged why bad by (Bad name id place) is = by _ is
 judged why bad by Read is = absurd is
 judged why bad by Memory is = tt
 
-pub take_told : (known : List Object) (old mid : Option Bytes) (g : Gathered) (at : ℕ) (o : Object) (e : StreamFault) → Reading known old mid g at
+pub take_told : (known : List Object) (old mid : Option Bytes) (g : Gathered) (at : ℕ) (before : List Placed) (o : Object) (e : StreamFault) → Reading known old mid g at before
     → IfSome mid (λ bytes. checked_at at (object_reading at bytes) ≡ Found o) → IsJudgement (placed_fault g.store (record { object = o; at = at })) e → IfSome old (λ bytes. Reads known bytes (Err e))
-take_told known None mid g at o e so_far found is = tt
-take_told known (Some whole) None g at o e so_far found is = absurd so_far
-take_told known (Some whole) (Some rest) g at o e so_far found is =
+take_told known None mid g at before o e so_far found is = tt
+take_told known (Some whole) None g at before o e so_far found is = absurd so_far
+take_told known (Some whole) (Some rest) g at before o e so_far found is =
     subst (λ (why : Option Refusal). IsFault why e) (sym (refused-is known whole))
     (judged (placed_fault g.store (record { object = o; at = at })) (fault_in known (stream_framing whole))
     (λ why stops. so_far.fault ∙ item-refused g.store so_far.more at rest o why (found-checked at (object_reading at rest) o found) stops) e is)
@@ -139,54 +146,62 @@ take_told known (Some whole) (Some rest) g at o e so_far found is =
 object_goes_on : (more : ℕ) (known : List Object) (whole rest : Bytes) (g new : Gathered) (at : ℕ) (o : Object) (before : List Placed) → length (object_text o ++ rest) ≤ more
     → (stream_framing whole).objects ≡ before ++ (stream_from (suc more) at (object_text o ++ rest)).objects
     → fault_in known (stream_framing whole) ≡ fault_in g.store (stream_from (suc more) at (object_text o ++ rest))
-    → g.store ≡ known_from known before → g.arrivals ≡ map arrival_of before
     → object_reading at (object_text o ++ rest) ≡ Found o → Adds (record { object = o; at = at }) g new
-    → GoesOn known whole rest new (at + length (object_text o))
-object_goes_on zero known whole rest g new at o before enough framed fault store listed found adds =
+    → GoesOn known whole rest new (at + length (object_text o)) (before ++ record { object = o; at = at } ∷ [])
+object_goes_on zero known whole rest g new at o before enough framed fault found adds =
     absurd (omega (arith, length-append (object_text o) rest, object_text-some o))
-object_goes_on (suc more) known whole rest g new at o before enough framed fault store listed found adds =
+object_goes_on (suc more) known whole rest g new at o before enough framed fault found adds =
     let p : Placed = record { object = o; at = at } in
     let next = stream_item (suc more) at rest o found in
     let behind = stream_from (suc more) (at + length (object_text o)) rest in record {
       more = more;
-      before = before ++ p ∷ [];
       enough = omega (arith, length-append (object_text o) rest, object_text-some o);
       framed = framed ∙ ap (λ (f : StreamFraming). before ++ f.objects) next ∙ sym (append_assoc before (p ∷ []) behind.objects);
       fault = fault ∙ ap (fault_in g.store) next ∙ fault-passes g.store p behind.objects behind.bad adds.faultless ∙ ap (λ (k : List Object). fault_in k behind) (sym adds.store);
-      store = adds.store ∙ ap (λ (k : List Object). objects_after k o) store ∙ sym (known_from-push known before p);
-      listed = adds.arrivals ∙ ap (λ l. l ++ arrival_of p ∷ []) listed ∙ sym (arrivals-push before p);
     }
 
-goes_on : (known : List Object) (whole mid rest : Bytes) (g new : Gathered) (at : ℕ) (o : Object) → GoesOn known whole mid g at → mid ≡ object_text o ++ rest → object_reading at mid ≡ Found o
-    → Adds (record { object = o; at = at }) g new → GoesOn known whole rest new (at + length (object_text o))
-goes_on known whole mid rest g new at o so_far text found adds =
-    object_goes_on so_far.more known whole rest g new at o so_far.before
+pub added_push : (known : List Object) (g new : Gathered) (before : List Placed) (p : Placed) → AreAdded known g before → Adds p g new → AreAdded known new (before ++ p ∷ [])
+added_push known g new before p so_far adds = record {
+  adds = adds-push known before p so_far.adds (subst (λ (k : List Object). object_fault k p.object ≡ None) so_far.store (passes-one g.store p adds.faultless).adds);
+  store = adds.store ∙ ap (λ (k : List Object). objects_after k p.object) so_far.store ∙ sym (known_from-push known before p);
+  listed = adds.arrivals ∙ ap (λ l. l ++ arrival_of p ∷ []) so_far.listed ∙ sym (arrivals-push before p);
+}
+
+goes_on : (known : List Object) (whole mid rest : Bytes) (g new : Gathered) (at : ℕ) (before : List Placed) (o : Object) → GoesOn known whole mid g at before → mid ≡ object_text o ++ rest → object_reading at mid ≡ Found o
+    → Adds (record { object = o; at = at }) g new → GoesOn known whole rest new (at + length (object_text o)) (before ++ record { object = o; at = at } ∷ [])
+goes_on known whole mid rest g new at before o so_far text found adds =
+    object_goes_on so_far.more known whole rest g new at o before
     (subst (λ (l : Bytes). length l ≤ so_far.more) text so_far.enough)
-    (subst (λ (l : Bytes). (stream_framing whole).objects ≡ so_far.before ++ (stream_from (suc so_far.more) at l).objects) text so_far.framed)
+    (subst (λ (l : Bytes). (stream_framing whole).objects ≡ before ++ (stream_from (suc so_far.more) at l).objects) text so_far.framed)
     (subst (λ (l : Bytes). fault_in known (stream_framing whole) ≡ fault_in g.store (stream_from (suc so_far.more) at l)) text so_far.fault)
-    so_far.store so_far.listed
     (subst (λ (l : Bytes). object_reading at l ≡ Found o) text found) adds
 
-pub reading_goes_on : (known : List Object) (old mid new : Option Bytes) (g grown : Gathered) (at : ℕ) (o : Object) → Reading known old mid g at → Consumes mid new (object_text o)
+pub reading_goes_on : (known : List Object) (old mid new : Option Bytes) (g grown : Gathered) (at : ℕ) (before : List Placed) (o : Object) → Reading known old mid g at before → Consumes mid new (object_text o)
     → IfSome mid (λ bytes. checked_at at (object_reading at bytes) ≡ Found o) → Adds (record { object = o; at = at }) g grown
-    → Reading known old new grown (at + length (object_text o))
-reading_goes_on known None mid new g grown at o so_far took found adds = tt
-reading_goes_on known (Some whole) None new g grown at o so_far took found adds = absurd so_far
-reading_goes_on known (Some whole) (Some mid) None g grown at o so_far took found adds = absurd took
-reading_goes_on known (Some whole) (Some mid) (Some rest) g grown at o so_far took found adds =
-    goes_on known whole mid rest g grown at o so_far took (found-checked at (object_reading at mid) o found) adds
+    → Reading known old new grown (at + length (object_text o)) (before ++ record { object = o; at = at } ∷ [])
+reading_goes_on known None mid new g grown at before o so_far took found adds = tt
+reading_goes_on known (Some whole) None new g grown at before o so_far took found adds = absurd so_far
+reading_goes_on known (Some whole) (Some mid) None g grown at before o so_far took found adds = absurd took
+reading_goes_on known (Some whole) (Some mid) (Some rest) g grown at before o so_far took found adds =
+    goes_on known whole mid rest g grown at before o so_far took (found-checked at (object_reading at mid) o found) adds
 
 -- ---- the end
 
-ends : (known : List Object) (whole rest : Bytes) (g : Gathered) (at : ℕ) → GoesOn known whole rest g at → object_reading at rest ≡ NoObject → Reads known whole (Ok (g.store, g.arrivals))
-ends known whole rest g at so_far none =
+ends : (known : List Object) (whole rest : Bytes) (g : Gathered) (at : ℕ) (before : List Placed) → GoesOn known whole rest g at before → object_reading at rest ≡ NoObject
+    → stream_reading known whole ≡ Ok before
+ends known whole rest g at before so_far none =
     let end = stream_end so_far.more at rest none in
-    let objects = so_far.framed ∙ ap (λ (f : StreamFraming). so_far.before ++ f.objects) end ∙ append-nil so_far.before in
+    let objects = so_far.framed ∙ ap (λ (f : StreamFraming). before ++ f.objects) end ∙ append-nil before in
     let faultless = so_far.fault ∙ ap (fault_in g.store) end ∙ fault-ends g.store None in
-    (so_far.before, reading-is known whole so_far.before objects faultless, so_far.listed, so_far.store)
+    reading-is known whole before objects faultless
 
-pub reading_ends : (known : List Object) (old mid : Option Bytes) (g : Gathered) (at : ℕ) → Reading known old mid g at → IfSome mid (λ bytes. checked_at at (object_reading at bytes) ≡ NoObject)
+pub reading_ends : (known : List Object) (old mid : Option Bytes) (g : Gathered) (at : ℕ) (before : List Placed) → Reading known old mid g at before
+    → IfSome mid (λ bytes. checked_at at (object_reading at bytes) ≡ NoObject) → IfSome old (λ bytes. stream_reading known bytes ≡ Ok before)
+reading_ends known None mid g at before so_far none = tt
+reading_ends known (Some whole) None g at before so_far none = absurd so_far
+reading_ends known (Some whole) (Some rest) g at before so_far none = ends known whole rest g at before so_far (none-checked at (object_reading at rest) none)
+
+pub reads_all : (known : List Object) (old : Option Bytes) (g : Gathered) (before : List Placed) → AreAdded known g before → IfSome old (λ bytes. stream_reading known bytes ≡ Ok before)
     → IfSome old (λ bytes. Reads known bytes (Ok (g.store, g.arrivals)))
-reading_ends known None mid g at so_far none = tt
-reading_ends known (Some whole) None g at so_far none = absurd so_far
-reading_ends known (Some whole) (Some rest) g at so_far none = ends known whole rest g at so_far (none-checked at (object_reading at rest) none)
+reads_all known None g before added reads = tt
+reads_all known (Some whole) g before added reads = (before, reads, added.listed, added.store)

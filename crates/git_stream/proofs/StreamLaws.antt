@@ -46,11 +46,11 @@ record Passes (known : List Object) (placed : List Placed) (bad : Option Refusal
   adds : AddsAll known (objects_of placed)
   end : bad ≡ None
 
-record PassesOne (known : List Object) (p : Placed) : Type 0 where
-  its_id : (p.object).id ≡ object_id (p.object).kind (p.object).content
-  adds : object_fault known p.object ≡ None
+pub record PassesOne (known : List Object) (p : Placed) : Type 0 where
+  pub its_id : (p.object).id ≡ object_id (p.object).kind (p.object).content
+  pub adds : object_fault known p.object ≡ None
 
-passes-one : (known : List Object) (p : Placed) → placed_fault known p ≡ None → PassesOne known p
+pub passes-one : (known : List Object) (p : Placed) → placed_fault known p ≡ None → PassesOne known p
 passes-one known p h = by (bytes_eq (p.object).id (object_id (p.object).kind (p.object).content)) refl
   where
     by : (t : Bool) → bytes_eq (p.object).id (object_id (p.object).kind (p.object).content) ≡ t → PassesOne known p

@@ -1,5 +1,5 @@
 -- What reading a stream brings: its objects as this crate lists them, and the objects that are known then.
-use Rattle.std.specs.Prelude.{◌≡◌, ℕ, Bool, List, [], ◌∷◌, map, count_by, Option, Some, None, Result, Ok, Err, ⊤}
+use Rattle.std.specs.Prelude.{◌≡◌, ℕ, Bool, List, [], ◌∷◌, map, count_by, Option, Some, None, Result, Ok, Err, ⊤, IfSome}
 use Rattle.text_model.specs.Text.{Bytes}
 use Rattle.text_model.specs.Id.{ObjectKind, blob, tree, commit, tag, same_kind}
 use Rattle.text_model.specs.Fault.{Refusal}
@@ -50,6 +50,15 @@ Reads known bytes (Err fault) = IsFault (refused (stream_reading known bytes)) f
 abbrev pub AddsAll : List Object → List Object → Type 0
 AddsAll known [] = ⊤
 AddsAll known (o ∷ objects) = (object_fault known o ≡ None) × AddsAll (objects_after known o) objects
+
+-- These objects came, none of which is refused behind those before it: all are listed, and the store holds what is known then.
+-- They are what the bytes bring, where the source tells its bytes.
+pub record Brought (known : List Object) (bytes : Option Bytes) (store : List Object) (arrivals : List ObjectArrival) : Type 0 where
+  pub objects : List Placed
+  pub adds : AddsAll known (map (λ o. o.object) objects)
+  pub listed : arrivals ≡ map arrival_of objects
+  pub holds : store ≡ known_from known objects
+  pub reads : IfSome bytes (λ bytes. stream_reading known bytes ≡ Ok objects)
 
 -- the bytes bring exactly these objects
 pub record BringsAll (known : List Object) (bytes : Bytes) (objects : List Object) : Type 0 where

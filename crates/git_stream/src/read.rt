@@ -1,7 +1,7 @@
 // A stream, read into a store.
-ghost use Rattle.std.specs.Prelude.{◌≡◌, IfSome, OnOk};
+ghost use Rattle.std.specs.Prelude.{◌≡◌, IfSome, IfOk, OnOk};
 ghost use Rattle.std.specs.Io.KnownBytes.{IsAtEnd};
-ghost use Rattle.git_stream.specs.Arrivals.{Reads};
+ghost use Rattle.git_stream.specs.Arrivals.{Brought, Reads};
 ghost use Rattle.git_stream.specs.Faults.{AnswerCause};
 
 use crate::arrival::{ObjectArrival, ObjectArrivals};
@@ -23,6 +23,7 @@ pub fn read_into<S: Source>(
     src: &mut S,
     store: GitStore,
 ) -> Result<(GitStore, ObjectArrivals), StreamFault>
+    ensures brought { IfOk result (λ read. Brought store (S.left src.old) read.0 read.1) }
     ensures reads { IfSome (S.left src.old) (λ bytes. Reads store bytes result) }
     ensures end { OnOk result (IsAtEnd (S.left src.new)) }
     ensures cause { AnswerCause (S.faults src.old) (S.faults src.new) result }

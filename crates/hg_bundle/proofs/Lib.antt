@@ -4,6 +4,7 @@ pub mod ReadBytes
 pub mod BundleLaws
 pub mod EntryLemmas
 pub mod Reading
+pub mod Grown
 pub mod Taken
 pub mod Groups
 pub mod Unreadable

@@ -82,11 +82,11 @@ put-push : (came : List Arrival) (a : Arrival) (later : Answer) → put_arrivals
 put-push [] a later = refl
 put-push (x ∷ came) a later = ap (put_arrival x) (put-push came a later)
 
-known-push : (start : List Revision) (came : List Arrival) (a : Arrival) → known_after_all start (revisions_of (came ++ a ∷ [])) ≡ known_after (known_after_all start (revisions_of came)) a.revision
+pub known-push : (start : List Revision) (came : List Arrival) (a : Arrival) → known_after_all start (revisions_of (came ++ a ∷ [])) ≡ known_after (known_after_all start (revisions_of came)) a.revision
 known-push start [] a = refl
 known-push start (x ∷ came) a = known-push (known_after start x.revision) came a
 
-listed-push : (came : List Arrival) (a : Arrival) → map arrival_of (came ++ a ∷ []) ≡ map arrival_of came ++ arrival_of a ∷ []
+pub listed-push : (came : List Arrival) (a : Arrival) → map arrival_of (came ++ a ∷ []) ≡ map arrival_of came ++ arrival_of a ∷ []
 listed-push [] a = refl
 listed-push (x ∷ came) a = ap (λ (l : List listed.Arrival). arrival_of x ∷ l) (listed-push came a)
 

@@ -46,6 +46,10 @@ abbrev pub known_after_all : List Revision → List Revision → List Revision
 known_after_all known [] = known
 known_after_all known (r ∷ rs) = known_after_all (known_after known r) rs
 
+-- the arrivals that are listed were added to the known revisions one after the other, and the store holds what is known then
+abbrev pub AreArrivals : List Revision → List Revision → List Arrival → Type 0
+AreArrivals known store listed = (arrivals : List reading.Arrival) × (listed ≡ map arrival_of arrivals) × (store ≡ known_after_all known (revisions_of arrivals))
+
 -- why a reading is refused
 abbrev pub refused : Result (List reading.Arrival) Refusal → Option Refusal
 refused (Ok arrivals) = None

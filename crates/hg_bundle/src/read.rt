@@ -1,7 +1,7 @@
 // A bundle, read into a store.
 ghost use Rattle.std.specs.Prelude.{◌≡◌, IfSome, IfOk, IfErr, OnOk};
 ghost use Rattle.std.specs.Io.KnownBytes.{IsAtEnd};
-ghost use Rattle.hg_bundle.specs.Arrivals.{Reads};
+ghost use Rattle.hg_bundle.specs.Arrivals.{Reads, AreArrivals};
 ghost use Rattle.hg_bundle.specs.Brought.{BringsBundle, TellsUnreadable};
 ghost use Rattle.hg_bundle.specs.Faults.{AnswerCause};
 
@@ -36,6 +36,8 @@ pub fn read_into<S: Source>(
     ensures no_bundle { IfErr result (λ e. IfSome (S.left src.old) (TellsUnreadable store e)) }
     // exactly what was listed, and why the bytes are refused
     ensures reads { IfSome (S.left src.old) (λ bytes. Reads store bytes result) }
+    // what was listed was added, also where the source doesn't tell its bytes
+    ensures grown { IfOk result (λ read. AreArrivals store read.0 read.1) }
     ensures end { OnOk result (IsAtEnd (S.left src.new)) }
     ensures cause { AnswerCause (S.faults src.old) (S.faults src.new) result }
 {

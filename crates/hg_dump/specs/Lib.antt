@@ -2,3 +2,4 @@ pub mod Marks
 pub mod Referred
 pub mod Written
 pub mod State
+pub mod Refers

@@ -1,6 +1,7 @@
 // What changesets refer to.
 ghost use Rattle.std.specs.Prelude.{◌≡◌, ◌∷◌, [], false, Bool, List, map, take, drop, length, ◌≤◌, IfOk, OnOk, if◌then◌else◌, ℕ, bytes_eq};
 ghost use Rattle.std.specs.Bool.{OnTrue};
+ghost use Rattle.text_model.specs.Id.{has_id};
 ghost use Rattle.hg_model.specs.Revision as model;
 ghost use Rattle.hg_store.specs.Groups.{group_value};
 ghost use Rattle.view_model.specs.View.{ChangesetView};
@@ -56,6 +57,17 @@ impl Brought {
         brought.refer_all(store, &nodes[..from], &empty, false)?;
         brought.refer_all(store, &nodes[from..], &empty, true)?;
         Ok(brought)
+    }
+
+    /// Whether the revision of a group with this node was met.
+    pub fn has(&self, group: Group<'_>, node: &Id) -> bool
+        ensures { result ≡ has_id (referred_in self.now (group_value group.entry)).met node.now }
+    {
+        match group {
+            Group::Changesets => self.changesets.has(node),
+            Group::Manifests => self.manifests.has(node),
+            Group::FilesAt(path) => has_at(&self.files, path, node),
+        }
     }
 
     // Adds what changesets refer to, in their order. It is written only if they are new.
@@ -220,5 +232,14 @@ fn refer_file(
             files.insert(Vec::from_slice(alloc, path)?, references)?;
             Ok(())
         }
+    }
+}
+
+fn has_at(files: &BTreeMap<Vec<u8>, References>, path: &[u8], node: &Id) -> bool
+    ensures { result ≡ has_id (files_at files.now path.now).met node.now }
+{
+    match files.get(path) {
+        Some(references) => references.has(node),
+        None => false,
     }
 }

@@ -8,9 +8,11 @@ mod entry;
 mod group;
 mod held;
 mod references;
+mod refers;
 
 pub use bundle::write;
 pub use held::are_held;
+pub use refers::Refers;
 
 #[cfg(test)]
 mod tests;

@@ -1,5 +1,6 @@
 // The references to the revisions of one group.
 ghost use Rattle.std.specs.Prelude.{◌≡◌, OnOk};
+ghost use Rattle.text_model.specs.Id.{has_id};
 ghost use Rattle.hg_dump.specs.Referred.{nothing, referred};
 
 use bridge_text::{Id, IdSet, NoMemory};
@@ -55,5 +56,12 @@ impl References {
         ensures { result.now ≡ self.now.brought }
     {
         self.brought.as_slice()
+    }
+
+    /// Whether a node was met.
+    pub fn has(&self, node: &Id) -> bool
+        ensures { result ≡ has_id self.now.met node.now }
+    {
+        self.met.contains(node)
     }
 }

@@ -1,10 +1,11 @@
-use Rattle.std.proofs.Common.{◌≡◌, ◌-◌, ◌^◌}
-use Rattle.git_stream.proofs.Reading.{Reading}
+use Rattle.std.proofs.Common.{◌≡◌, ◌-◌, ◌^◌, List}
+use Rattle.git_model.specs.Stream.{Placed}
+use Rattle.git_stream.proofs.Reading.{AreAdded, Reading}
 use Rattle.git_stream.proofs.read.read_into.Given as goal
 
 abbrev pub invariant-objects : goal.invariant-objects
 invariant-objects g l = record {
-  reading : Reading l.fn.store (g.S.Source.left l.fn.src) (g.S.Source.left l.src) l.gathered l.reader;
+  came : (before : List Placed) × AreAdded l.fn.store l.gathered before × Reading l.fn.store (g.S.Source.left l.fn.src) (g.S.Source.left l.src) l.gathered l.reader before;
   kept : g.S.Source.faults l.src ≡ g.S.Source.faults l.fn.src;
 }
 

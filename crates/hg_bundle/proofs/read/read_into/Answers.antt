@@ -1,6 +1,7 @@
-use Rattle.std.proofs.Common.{◌∙◌, arith}
+use Rattle.std.proofs.Common.{◌∙◌, [], refl, arith}
 use Rattle.std.proofs.lemmas.Result.{err_from_is_err_and}
 use Rattle.hg_bundle.specs.Place.{place_value}
+use Rattle.hg_bundle.proofs.Grown.{steps-grown}
 use Rattle.hg_bundle.proofs.Groups.{brings_told}
 use Rattle.hg_bundle.proofs.Progress.{is_small}
 use Rattle.hg_bundle.proofs.ReadBytes.{read_begins, read_goes_on, read_ends}
@@ -16,6 +17,7 @@ returns-in_err-magic-clause-reads g c =
 pub chunks-init : goal.chunks-init
 chunks-init g c = record {
   reading = rw (c.in_ok-magic.ensures.offset, c.new-gathered.ensures) (reading_begins c.args.store _ _ c.in_ok-magic.ensures.bytes c.in_ok-magic.ensures.judged);
+  grown = rw c.new-gathered.ensures ([], refl, refl);
   bytes = read_begins _ _ c.in_ok-magic.ensures.bytes;
   fit = tt;
   last = rw c.new-gathered.ensures tt;
@@ -46,6 +48,7 @@ chunks-preserved g c =
           (reading_goes_on _ _ _ _ _ _ _ (place_value c.in-Some.place) c.next.new.into.items so_far c.in_ok-next.ensures.bytes
           (rw c.most.ensures at c.in_ok-next.ensures.judged) (is_small (place_value c.in-Some.place) _ (rw c.most.ensures at c.in_ok-next.ensures.field))
           (rw (c.deref-in-Some.ensures.value, c.offset-at.ensures.value) at c.in_ok-next-2.ensures.steps));
+      grown = steps-grown _ _ _ _ _ _ c.chunks.invariant.grown c.in_ok-next-2.ensures.steps;
       bytes = read_goes_on _ _ _ c.next.new.into.items c.chunks.invariant.bytes c.in_ok-next.ensures.bytes (rw c.deref.ensures.value at c.each_is_byte.ensures);
       fit = c.in_ok-next-2.ensures.fit;
       last = c.in_ok-next-2.ensures.last;
@@ -60,6 +63,9 @@ pub returns-in_err-finish-clause-reads : goal.returns-in_err-finish-clause-reads
 returns-in_err-finish-clause-reads g c =
     let p = err_from_is_err_and c.from_residual-in_err-finish.result c.from_residual-in_err-finish.ensures.1 in
     rw (p.1, p.2) (end_told c.args.store _ _ _ _ c.in_err-finish.field-0.0 (rw c.in_default.is at c.chunks.invariant.reading) c.in_err-finish.ensures.judged)
+
+pub returns-clause-grown : goal.returns-clause-grown
+returns-clause-grown g c = c.chunks.invariant.grown
 
 pub returns-clause-bundle : goal.returns-clause-bundle
 returns-clause-bundle g c =
