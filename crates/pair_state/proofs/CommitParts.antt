@@ -1,0 +1,280 @@
+-- The parts of a commit: the trees of its files, the blob of each and itself; and when all of them are there.
+use Rattle.std.proofs.Common.{◌≡◌, ◌≢◌, ◌≤◌, ◌+◌, ◌⊎◌, ℕ, Bool, true, false, true≢false, arith, List, [], ◌∷◌, ◌++◌, length, map, Some, None, refl, sym, ap, subst, ◌∙◌, append_assoc, append-nil, inl, inr}
+use Rattle.std.specs.Prelude.{◌||◌, filter, if◌then◌else◌, IsTrue, is_some}
+use Rattle.std.specs.List.{list_any, sum_by, join_with_byte}
+use Rattle.std.proofs.lemmas.List.Splits.{join_with_byte-slice_split}
+use Rattle.std.proofs.lemmas.List.Sums.{sum_by-cons}
+use Rattle.std.proofs.lemmas.Slice.Eq.{bytes_eq-Decides}
+use Rattle.text_model.specs.Lists.{In, Each, rises}
+use Rattle.text_model.specs.Text.{Bytes, is_below}
+use Rattle.text_model.specs.Id.{Id, IsId, blob, tree, commit, object_id, kind_word}
+use Rattle.text_model.specs.Path.{components, lies_below}
+use Rattle.text_model.proofs.OrderLemmas.{is_below-irreflexive}
+use Rattle.git_model.specs.Tree.{Mode, File, Exec, Link, Directory, is_directory, is_blob_mode, tree_text}
+use Rattle.git_model.specs.Commit.{commit_text}
+use Rattle.git_model.specs.Object.{Object, object_of, object_at, is_other_content}
+use Rattle.git_model.specs.Unfold.{FileRow, IsUnfolding, is_kind_there, is_row, row_size, rows_limit, walk, walk_fault}
+use Rattle.git_model.specs.Shape.{leaf_of, shape_objects, root_of, trees_of, clash_from, first_clash}
+use Rattle.git_store.specs.Known.{AreKnown, is_same_as, knows_same}
+use Rattle.git_store.proofs.KnownLemmas.{same-has_no_fault}
+use Rattle.git_view.proofs.Found.{found}
+use Rattle.git_view.proofs.Shapes.{filled, same-entries}
+use Rattle.git_view.proofs.Walks.{none-refused}
+use Rattle.tree_shape.specs.Laws.{IsKnown, AreWalkable}
+use Rattle.tree_shape.specs.Sets.{IsFileRow, IsFiles}
+use Rattle.tree_shape.specs.Shapes.{is_tree}
+use Rattle.tree_shape.proofs.Elements.{in-left, in-right, in-append, in-filter, of-filter, each-in}
+use Rattle.tree_shape.proofs.FileSets.{later, rises-rest}
+use Rattle.tree_shape.proofs.IdLemmas.{IsId-object_id}
+use Rattle.tree_shape.proofs.Names.{components-some, same-components}
+use Rattle.tree_shape.proofs.Rows.{in-lies}
+use Rattle.tree_shape.proofs.Unfolding.{unfolds, fit-short}
+use Rattle.tree_shape.proofs.Walking.{rows-again, no-fault}
+use Rattle.view_model.specs.View.{CommitView, TreeRow, IsCommitView, CommitFits, commit_id, commit_objects, leaf_of_row, root_of_rows, tree_paths}
+use Rattle.view_model.specs.Held.{file_row_of, IsBlobHeld, IsCommitHeld}
+use Rattle.pair_model.specs.Block.{Block, block_of_id}
+use Rattle.pair_model.specs.Collision.{commit_collides}
+use Rattle.pair_known.specs.Ruled.{blob_of_row}
+use Rattle.pair_state.specs.Growth.{Clash}
+use Rattle.pair_state.proofs.GrowthLemmas.{in-any, none-any, found-in, fault-by, none-other}
+use Rattle.pair_state.proofs.ShapeLemmas.{Apart, Part, part-of, tree-in, blob-in, in-map}
+
+-- ---- paths
+
+join-append : (xs : List Bytes) (y : Bytes) (ys : List Bytes) → xs ≢ [] → join_with_byte 47 (xs ++ y ∷ ys) ≡ join_with_byte 47 xs ++ 47 ∷ join_with_byte 47 (y ∷ ys)
+join-append [] y ys some = absurd (some refl)
+join-append (x ∷ []) y ys some = refl
+join-append (x ∷ z ∷ xs) y ys some =
+    ap (λ (t : Bytes). x ++ 47 ∷ t) (join-append (z ∷ xs) y ys (λ q. cc))
+    ∙ sym (append_assoc x (47 ∷ join_with_byte 47 (z ∷ xs)) (47 ∷ join_with_byte 47 (y ∷ ys)))
+
+-- a path with more components lies below
+longer-lies : (p q m : Bytes) (more : List Bytes) → components q ≡ components p ++ m ∷ more → lies_below q p ≡ true
+longer-lies p q m more e =
+    let whole : q ≡ p ++ 47 ∷ join_with_byte 47 (m ∷ more) =
+    sym (join_with_byte-slice_split 47 q) ∙ ap (join_with_byte 47) e ∙ join-append (components p) m more (components-some p) ∙ ap (λ (t : Bytes). t ++ 47 ∷ join_with_byte 47 (m ∷ more)) (join_with_byte-slice_split 47 p) in
+    ap (λ (t : Bytes). lies_below t p) whole ∙ in-lies p (join_with_byte 47 (m ∷ more))
+
+file-mode : (m : Mode) → is_blob_mode m ≡ true → is_directory m ≡ false
+file-mode File h = refl
+file-mode Exec h = refl
+file-mode Link h = refl
+file-mode Directory h = absurd (true≢false (sym h))
+
+paths-of_files : (rows : List TreeRow) → map (λ (r : FileRow). r.path) (map file_row_of rows) ≡ tree_paths rows
+paths-of_files [] = refl
+paths-of_files (row ∷ rows) = ap (λ (ps : List Bytes). row.path ∷ ps) (paths-of_files rows)
+
+-- rows in order are known by their paths
+one-row : (rows : List TreeRow) → rises is_below (map (λ (r : FileRow). r.path) (map file_row_of rows)) ≡ true → (a b : TreeRow) → In a rows → In b rows → a.path ≡ b.path → a ≡ b
+one-row [] up a b i j e = absurd i
+one-row (x ∷ rows) up a b (inl p) (inl q) e = p ∙ sym q
+one-row (x ∷ rows) up a b (inl p) (inr j) e = absurd (true≢false (sym (later (file_row_of x) (map file_row_of rows) (file_row_of b) up (in-map file_row_of b rows j)) ∙ ap (λ (t : Bytes). is_below t b.path) (sym (ap (λ (r : TreeRow). r.path) p) ∙ e) ∙ is_below-irreflexive b.path))
+one-row (x ∷ rows) up a b (inr i) (inl q) e = absurd (true≢false (sym (later (file_row_of x) (map file_row_of rows) (file_row_of a) up (in-map file_row_of a rows i)) ∙ ap (λ (t : Bytes). is_below t a.path) (sym (ap (λ (r : TreeRow). r.path) q) ∙ sym e) ∙ is_below-irreflexive a.path))
+one-row (x ∷ rows) up a b (inr i) (inr j) e = one-row rows (rises-rest (file_row_of x) (map file_row_of rows) up) a b i j e
+
+pub of-map : {X Y : Type 0} (f : X → Y) (y : Y) (xs : List X) → In y (map f xs) → (x : X) × In x xs × (y ≡ f x)
+of-map f y [] i = absurd i
+of-map f y (x ∷ xs) (inl q) = (x, inl refl, q)
+of-map f y (x ∷ xs) (inr j) = let m = of-map f y xs j in (m.0, inr m.1, m.2)
+
+no-any-below : (row : FileRow) (before : List FileRow) → ((b : FileRow) → In b before → lies_below row.path b.path ≡ false) → list_any (λ b. lies_below row.path b.path) before ≡ false
+no-any-below row [] h = refl
+no-any-below row (b ∷ before) h = rw (h b (inl refl), no-any-below row before (λ x i. h x (inr i))) refl
+
+clash-none : (at : ℕ) (before rows : List FileRow) → ((a b : FileRow) → In a rows → In b (before ++ rows) → lies_below a.path b.path ≡ false) → clash_from at before rows ≡ None
+unfolding clash_from
+clash-none at before [] h = refl
+clash-none at before (row ∷ rows) h =
+    ap (λ (t : Bool). if t then Some at else clash_from (at + 1) (before ++ row ∷ []) rows) (no-any-below row before (λ b i. h row b (inl refl) (in-left b before (row ∷ rows) i)))
+    ∙ clash-none (at + 1) (before ++ row ∷ []) rows (λ a b i j. h a b (inr i) (subst (λ (l : List FileRow). In b l) (append_assoc before (row ∷ []) rows) j))
+
+size-same : (rows : List TreeRow) → sum_by row_size (map file_row_of rows) ≡ sum_by (λ (row : TreeRow). length row.path + 42) rows
+size-same [] = refl
+size-same (row ∷ rows) =
+    sum_by-cons row_size (file_row_of row) (map file_row_of rows) ∙ ap (λ (n : ℕ). (length row.path + 42) + n) (size-same rows)
+    ∙ sym (sum_by-cons (λ (row : TreeRow). length row.path + 42) row rows)
+
+same-leaves : (rows : List TreeRow) → map (filled (λ _. [])) (map leaf_of_row rows) ≡ map leaf_of (map file_row_of rows)
+same-leaves [] = refl
+same-leaves (row ∷ rows) = ap (λ l. leaf_of (file_row_of row) ∷ l) (same-leaves rows)
+
+alike : (o : Object) → is_same_as o (Some o) ≡ true
+alike o = rw ((bytes_eq-Decides (kind_word o.kind) (kind_word o.kind)).1 refl, (bytes_eq-Decides o.content o.content).1 refl) refl
+
+pub none-all : {X : Type 0} (test : X → Bool) (xs : List X) → ((x : X) → In x xs → test x ≡ false) → list_any test xs ≡ false
+none-all test [] h = refl
+none-all test (x ∷ xs) h = rw (h x (inl refl), none-all test xs (λ y i. h y (inr i))) refl
+
+abbrev pub own : CommitView → Object
+own c = object_of commit (commit_text c.value)
+
+module _ (c : CommitView) (view : IsCommitView c) where
+  abbrev pub files : List FileRow
+  files = map file_row_of c.rows
+
+  up : rises is_below (map (λ (r : FileRow). r.path) files) ≡ true
+  up = ap (rises is_below) (paths-of_files c.rows) ∙ view.in_order
+
+  -- ---- the files
+
+  row-file : (row : TreeRow) → In row c.rows → IsFileRow (file_row_of row)
+  row-file row i =
+      let r = each-in _ c.rows row view.rows i in
+      record { fit = r.0; bytes = r.1; file = file-mode row.mode r.3; id = subst IsId (sym r.4) (IsId-object_id blob row.content) }
+
+  each-row : (rows : List TreeRow) → ((row : TreeRow) → In row rows → IsFileRow (file_row_of row)) → Each IsFileRow (map file_row_of rows)
+  each-row [] h = tt
+  each-row (row ∷ rows) h = (h row (inl refl), each-row rows (λ r i. h r (inr i)))
+
+  pub are-files : IsFiles files
+  are-files = record { each = each-row c.rows row-file; in_order = up }
+
+  no-lies : (a b : TreeRow) → In a c.rows → In b c.rows → lies_below a.path b.path ≡ false
+  no-lies a b i j =
+      none-any (lies_below a.path) (tree_paths c.rows) b.path
+      (none-any (λ path. list_any (lies_below path) (tree_paths c.rows)) (tree_paths c.rows) a.path view.no_clash (in-map (λ (r : TreeRow). r.path) a c.rows i))
+      (in-map (λ (r : TreeRow). r.path) b c.rows j)
+
+  pub no-clash : first_clash files ≡ None
+  no-clash = clash-none 0 [] files (λ a b i j.
+      let x = of-map file_row_of a c.rows i in
+      let y = of-map file_row_of b c.rows j in
+      (λ k. lies_below (x.2 k).path (y.2 k).path) ∙ no-lies x.0 y.0 x.1 y.1)
+
+  leaves-apart : Apart (map leaf_of_row c.rows)
+  leaves-apart a b i j more e =
+      let x = of-map leaf_of_row a c.rows i in
+      let y = of-map leaf_of_row b c.rows j in
+      let parts : components y.0.path ≡ components x.0.path ++ more = sym (ap (λ l. l.names) y.2) ∙ e ∙ ap (λ l. l.names ++ more) x.2 in
+      x.2 ∙ ap leaf_of_row (one-row c.rows up x.0 y.0 x.1 y.1 (by x.0 y.0 x.1 y.1 more parts)) ∙ sym y.2
+    where
+      by : (x y : TreeRow) → In x c.rows → In y c.rows → (more : List Bytes) → components y.path ≡ components x.path ++ more → x.path ≡ y.path
+      by x y i j [] parts = same-components x.path y.path (sym (append-nil (components x.path)) ∙ sym parts)
+      by x y i j (m ∷ more) parts = absurd (true≢false (sym (longer-lies x.path y.path m more parts) ∙ no-lies y x j i))
+
+  -- ---- the parts
+
+  abbrev objects : List Object
+  objects = commit_objects c
+
+  in-shape : (o : Object) → In o (shape_objects 257 (map leaf_of_row c.rows)) → In o (commit_objects c)
+  unfolding commit_objects
+  in-shape o i = in-left o (shape_objects 257 (map leaf_of_row c.rows)) (own c ∷ []) i
+
+  pub own-in : In (own c) (commit_objects c)
+  unfolding commit_objects
+  own-in = in-right (own c) (shape_objects 257 (map leaf_of_row c.rows)) (own c ∷ []) (inl refl)
+
+  pub blob-of : (row : TreeRow) → In row c.rows → In (blob_of_row row) (commit_objects c)
+  blob-of row i =
+      let r = each-in _ c.rows row view.rows i in
+      let short : length (components row.path) ≤ 256 = fit-short row.path r.0 in
+      in-shape (blob_of_row row)
+      (blob-in 257 (map leaf_of_row c.rows) (leaf_of_row row) leaves-apart (in-map leaf_of_row row c.rows i) (components-some row.path) (omega (arith, short)) r.3)
+
+  pub tree-of : (o : Object) → In o (trees_of files) → In o (commit_objects c)
+  unfolding trees_of
+  tree-of o i =
+      let t = of-filter is_tree o (shape_objects 257 (map leaf_of files)) i in
+      in-shape o (tree-in (λ _. []) 257 (map leaf_of_row c.rows) o (subst (λ ls. In o (shape_objects 257 ls)) (sym (same-leaves c.rows)) t.0) t.1)
+
+  pub data IsPart (o : Object) : Type 0 where
+    a_tree : In o (trees_of files) → IsPart o
+    a_blob : (row : TreeRow) → In row c.rows → o ≡ blob_of_row row → IsPart o
+    itself : o ≡ own c → IsPart o
+
+  pub part : (o : Object) → In o (commit_objects c) → IsPart o
+  unfolding commit_objects trees_of
+  part o i = by (in-append o (shape_objects 257 (map leaf_of_row c.rows)) (own c ∷ []) i)
+    where
+      shape : Part (λ _. []) 257 (map leaf_of_row c.rows) o → IsPart o
+      shape (inl t) = a_tree (in-filter is_tree o (shape_objects 257 (map leaf_of files)) (subst (λ ls. In o (shape_objects 257 ls)) (same-leaves c.rows) t.0) t.1)
+      shape (inr b) = let m = of-map leaf_of_row b.0 c.rows b.1 in a_blob m.0 m.1 (b.2 ∙ (λ k. record { id = (m.2 k).id; kind = blob; content = (m.2 k).content }))
+
+      by : In o (shape_objects 257 (map leaf_of_row c.rows)) ⊎ In o (own c ∷ []) → IsPart o
+      by (inl j) = shape (part-of (λ _. []) 257 (map leaf_of_row c.rows) o j)
+      by (inr (inl q)) = itself q
+      by (inr (inr j)) = absurd j
+
+  pub root-is : (c.value).tree_id ≡ root_of files
+  unfolding root_of_rows root_of
+  root-is = view.agrees ∙ ap (λ es. object_id tree (tree_text es)) (same-entries 257 c.rows)
+
+  -- ---- a store that holds them all
+
+  pub record HoldsAll (new : List Object) : Type 0 where
+    pub trees : Each (IsKnown new) (trees_of files)
+    pub blobs : Each (λ row. IsKnown new (blob_of_row row)) c.rows
+    pub itself : IsKnown new (own c)
+
+  module _ (new : List Object) (are : AreKnown new) (all : HoldsAll new) where
+    pub known-part : (o : Object) → In o (commit_objects c) → IsKnown new o
+    known-part o i = by (part o i)
+      where
+        by : IsPart o → IsKnown new o
+        by (a_tree j) = each-in (IsKnown new) (trees_of files) o all.trees j
+        by (a_blob row j e) = subst (IsKnown new) (sym e) (each-in (λ row. IsKnown new (blob_of_row row)) c.rows row all.blobs j)
+        by (itself e) = subst (IsKnown new) (sym e) all.itself
+
+    walkable : CommitFits c → AreWalkable new files
+    walkable fits = record {
+      objects = are.are;
+      files = are-files;
+      apart = no-clash;
+      trees = all.trees;
+      blobs = each c.rows all.blobs;
+      within = subst (λ (n : ℕ). n ≤ rows_limit) (sym (size-same c.rows)) fits.rows;
+    }
+      where
+        each : (rows : List TreeRow) → Each (λ row. IsKnown new (blob_of_row row)) rows → Each (λ row. is_kind_there blob (object_at new row.id) ≡ true) (map file_row_of rows)
+        each [] h = tt
+        each (row ∷ rows) h = (ap (is_kind_there blob) h.0, each rows h.1)
+
+    pub new-walk : CommitFits c → walk_fault new (c.value).tree_id ≡ None
+    new-walk fits = ap (walk_fault new) root-is ∙ no-fault new files (walkable fits)
+
+    pub new-held : CommitFits c → IsCommitHeld new (commit_id c) c
+    unfolding commit_id
+    new-held fits = record {
+      object = own c;
+      is_held = all.itself;
+      kind = refl;
+      text = (view.value, refl);
+      rows = subst (IsUnfolding new (c.value).tree_id) (ap (λ (id : Id). filter is_row (walk new id)) root-is ∙ rows-again new files (walkable fits)) (unfolds new (c.value).tree_id are.are (none-refused new are.are (c.value).tree_id (new-walk fits)));
+      blobs = each c.rows all.blobs;
+    }
+      where
+        each : (rows : List TreeRow) → Each (λ row. IsKnown new (blob_of_row row)) rows → Each (IsBlobHeld new) rows
+        each [] h = tt
+        each (row ∷ rows) h = ((blob_of_row row, h.0, refl), each rows h.1)
+
+    -- no other content of an object that is known stands in the store
+    none-else : (o x : Object) → IsKnown new o → In x new → is_other_content o x ≡ false
+    none-else o x h i =
+        let of = found new o.id o are h in
+        let like : knows_same new o ≡ true = ap (is_same_as o) h ∙ alike o in
+        none-any (is_other_content o) new x (none-other (list_any (is_other_content o) new) (sym (fault-by new o of.sound.fits) ∙ same-has_no_fault new are o like)) i
+
+    pub new-apart : (old : List Object) (blocks : List Block) → ((o : Object) → In o old → In o new) → block_of_id blocks (commit_id c) ≡ None → commit_collides old blocks c ≡ false
+    new-apart old blocks older free =
+        let none : list_any (λ o. list_any (is_other_content o) (old ++ commit_objects c)) (commit_objects c) ≡ false =
+        none-all (λ o. list_any (is_other_content o) (old ++ commit_objects c)) (commit_objects c)
+        (λ o i. none-all (is_other_content o) (old ++ commit_objects c) (λ x j. none-else o x (known-part o i) (among x (in-append x old (commit_objects c) j)))) in
+        (λ i. none i || is_some (free i))
+      where
+        among : (x : Object) → In x old ⊎ In x (commit_objects c) → In x new
+        among x (inl i) = older x i
+        among x (inr i) = found-in new x.id x (known-part x i)
+
+-- a clash among the parts of a commit is a collision
+pub clash-collides : (c : CommitView) (old objects : List Object) (blocks : List Block) → ((o : Object) → In o objects → In o (commit_objects c)) → Clash old objects → IsTrue (commit_collides old blocks c)
+clash-collides c old objects blocks inside k =
+    let other : In k.other (old ++ commit_objects c) = by (in-append k.other old objects k.is_there) in
+    let here = in-any (is_other_content k.object) (old ++ commit_objects c) k.other other k.differs in
+    ap (λ (t : Bool). t || is_some (block_of_id blocks (commit_id c)))
+    (in-any (λ o. list_any (is_other_content o) (old ++ commit_objects c)) (commit_objects c) k.object (inside k.object k.is_new) here)
+  where
+    by : In k.other old ⊎ In k.other objects → In k.other (old ++ commit_objects c)
+    by (inl i) = in-left k.other old (commit_objects c) i
+    by (inr i) = in-right k.other old (commit_objects c) (inside k.other i)

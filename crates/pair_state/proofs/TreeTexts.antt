@@ -1,0 +1,169 @@
+-- The trees of files have the texts of trees.
+use Rattle.std.proofs.Common.{◌≡◌, ◌≢◌, ◌≤◌, ℕ, zero, suc, true, false, List, [], ◌∷◌, ◌++◌, length, take, drop, map, Option, Some, None, refl, sym, ap, subst, ◌∙◌, inl, inr, arith}
+use Rattle.std.specs.Prelude.{bytes_eq, IsTrue}
+use Rattle.std.specs.List.{list_any, prefix_len}
+use Rattle.std.proofs.lemmas.List.{take-append-drop, length-drop}
+use Rattle.text_model.specs.Cuts.{cut_of}
+use Rattle.text_model.specs.Lists.{In, Each}
+use Rattle.text_model.specs.Text.{Bytes, IsBytes}
+use Rattle.text_model.specs.Id.{IsId, tree}
+use Rattle.text_model.specs.Path.{is_fit_path, is_fit_name}
+use Rattle.text_model.proofs.ByteLemmas.{IsBytes-front, IsBytes-rest}
+use Rattle.text_model.proofs.EachLemmas.{Each-append, Each-front, Each-rest}
+use Rattle.text_model.proofs.LackLemmas.{has_byte-lacks}
+use Rattle.git_model.specs.Tree.{TreeEntry, IsTree, tree_text, has_distinct}
+use Rattle.git_model.specs.Object.{Object, object_of, tree_name}
+use Rattle.git_model.specs.Unfold.{FileRow}
+use Rattle.git_model.specs.Shape.{Leaf, leaf_of, first_names, first_clash, trees_of}
+use Rattle.git_model.proofs.TreeTextLemmas.{tree_fault-text}
+use Rattle.tree_shape.specs.Sets.{IsFileRow, IsFiles}
+use Rattle.tree_shape.specs.Shapes.{entry_of, entries_in, trees_in, trees_of_rows, Good, is_in}
+use Rattle.tree_shape.proofs.FileSets.{good-files, shorts-none}
+use Rattle.tree_shape.proofs.FitPieces.{fit-pieces, fit-name}
+use Rattle.tree_shape.proofs.IdLemmas.{IsId-object_id}
+use Rattle.tree_shape.proofs.Leaves.{NotFirst, entry_of-name, first_names-other, other}
+use Rattle.tree_shape.proofs.PutRows.{entries-dir, trees-dir, entries-file, trees-file}
+use Rattle.tree_shape.proofs.Rows.{deep, flat, is-in, in-is, Splits, file-one, dir-one, good-rest, good-front, shorter, shorter-path, shorter-good}
+use Rattle.tree_shape.proofs.Sorted.{entries-rise, trees-are}
+use Rattle.tree_shape.proofs.Turns.{prefix-all, prefix-stops, none-depth}
+use Rattle.pair_state.specs.Growth.{IsRight}
+
+abbrev leaves : List FileRow → List Leaf
+leaves rows = map leaf_of rows
+
+-- ---- what an entry of a tree is
+
+abbrev IsEntry : TreeEntry → Type 0
+IsEntry e = IsTrue (is_fit_name e.name) × IsBytes e.name × IsId e.id
+
+abbrev names : List TreeEntry → List Bytes
+names entries = map (λ e. e.name) entries
+
+-- the names of entries are the first names of the leaves
+names-are : (depth : ℕ) (all : List Leaf) (ns : List Bytes) → names (map (entry_of depth all) ns) ≡ ns
+names-are depth all [] = refl
+names-are depth all (n ∷ ns) = (λ k. entry_of-name depth all n k ∷ names-are depth all ns k)
+
+none-same : (n : Bytes) (ns : List Bytes) → ((m : Bytes) → In m ns → n ≢ m) → list_any (bytes_eq n) ns ≡ false
+none-same n [] h = refl
+none-same n (m ∷ ns) h = rw (other n m (h m (inl refl)), none-same n ns (λ x i. h x (inr i))) refl
+
+-- a name that no row has first stands before those of the rows
+distinct-more : (depth : ℕ) (n : Bytes) (rest : List Leaf) → Each (NotFirst n) rest → has_distinct (names (entries_in depth rest)) ≡ true → has_distinct (n ∷ names (entries_in depth rest)) ≡ true
+distinct-more depth n rest h d =
+    let none : list_any (bytes_eq n) (names (entries_in depth rest)) ≡ false =
+    ap (list_any (bytes_eq n)) (names-are depth rest (first_names rest)) ∙ none-same n (first_names rest) (first_names-other n rest h) in
+    rw (none, d) refl
+
+shorter-row : (name : Bytes) (row : FileRow) → is_in name row ≡ true → IsFileRow row → IsFileRow (shorter name row)
+shorter-row name row i f =
+    let u = is-in name row i in
+    let pieces = fit-pieces name u.0 (sym (ap is_fit_path u.1.is) ∙ f.fit) in
+    record {
+      fit = ap is_fit_path (shorter-path name row u) ∙ pieces.second;
+      bytes = subst IsBytes (sym (shorter-path name row u)) (IsBytes-rest name (47 ∷ u.0) (subst IsBytes u.1.is f.bytes)).1;
+      file = f.file;
+      id = f.id;
+    }
+
+all-shorter : (P Q : FileRow → Type 0) (name : Bytes) (group : List FileRow) → ((row : FileRow) → is_in name row ≡ true → P row → Q (shorter name row)) → Each (λ t. is_in name t ≡ true) group → Each P group → Each Q (map (shorter name) group)
+all-shorter P Q name [] f i h = tt
+all-shorter P Q name (t ∷ group) f i h = (f t i.0 h.0, all-shorter P Q name group f i.1 h.1)
+
+-- ---- the first rows of one directory
+
+record Cut (name : Bytes) (a : FileRow) (rows : List FileRow) : Type 0 where
+  group : List FileRow
+  rest : List FileRow
+  whole : rows ≡ group ++ rest
+  splits : Splits name a group rest
+  shorter_rest : length rest ≤ length rows
+
+cut-group : (name : Bytes) (a : FileRow) (rows : List FileRow) → is_in name a ≡ true → Cut name a rows
+cut-group name a rows i =
+    let m : ℕ = prefix_len (is_in name) rows in
+    record {
+      group = take m rows;
+      rest = drop m rows;
+      whole = sym (take-append-drop m rows);
+      splits = record { all = (i, prefix-all (is_in name) rows); stops = λ q more e. prefix-stops (is_in name) rows q more e };
+      shorter_rest = omega (arith, length-drop m rows);
+    }
+
+-- ---- trees
+
+-- the object is a tree with these entries
+abbrev IsTreeOf : Object → Type 0
+IsTreeOf o = (entries : List TreeEntry) × IsTree entries × (o ≡ object_of tree (tree_text entries))
+
+abbrev AreTrees : ℕ → Type 0
+AreTrees depth = (rows : List FileRow) → Good rows → Each IsFileRow rows → Each IsTreeOf (trees_of_rows depth rows)
+
+-- the entries of rows and the trees below them
+record Part (depth : ℕ) (rows : List FileRow) : Type 0 where
+  each : Each IsEntry (entries_in depth (leaves rows))
+  distinct : has_distinct (names (entries_in depth (leaves rows))) ≡ true
+  trees : Each IsTreeOf (trees_in depth (leaves rows))
+
+file-part : (depth : ℕ) (a : FileRow) (rows : List FileRow) → Good (a ∷ rows) → IsFileRow a → cut_of 47 a.path ≡ None → Part depth rows → Part depth (a ∷ rows)
+file-part depth a rows g f e p =
+    let fl = flat a.path e in
+    let entry : TreeEntry = record { mode = a.mode; name = a.path; id = a.id } in
+    let same = entries-file depth a rows g e in
+    record {
+      each = subst (Each IsEntry) (sym same) ((fit-name a.path f.fit (has_byte-lacks 47 a.path fl.plain), f.bytes, f.id), p.each);
+      distinct = ap (λ (es : List TreeEntry). has_distinct (names es)) same ∙ distinct-more depth a.path (leaves rows) (file-one a rows g e).others p.distinct;
+      trees = subst (Each IsTreeOf) (sym (trees-file depth a rows g e)) p.trees;
+    }
+
+dir-part : (depth : ℕ) → AreTrees depth → (name after : Bytes) (a : FileRow) (group rest : List FileRow) → Good (a ∷ (group ++ rest)) → Splits name a group rest → cut_of 47 a.path ≡ Some (name, after) → Each IsFileRow (a ∷ group)
+    → Part depth rest → Part depth (a ∷ (group ++ rest))
+dir-part depth level name after a group rest g s c f p =
+    let below : List FileRow = map (shorter name) (a ∷ group) in
+    let good : Good below = shorter-good name (a ∷ group) s.all (good-front (a ∷ group) rest g) in
+    let rows : Each IsFileRow below = all-shorter IsFileRow IsFileRow name (a ∷ group) (shorter-row name) s.all f in
+    let w = deep a.path name after c in
+    let fit = fit-pieces name after (sym (ap is_fit_path w.is) ∙ f.0.fit) in
+    let same = entries-dir depth name a group rest g s in
+    record {
+      each = subst (Each IsEntry) (sym same)
+          ((fit-name name fit.first (has_byte-lacks 47 name w.plain), IsBytes-front name (47 ∷ after) (subst IsBytes w.is f.0.bytes), IsId-object_id tree _), p.each);
+      distinct = ap (λ (es : List TreeEntry). has_distinct (names es)) same ∙ distinct-more depth name (leaves rest) (dir-one name a group rest g s).others p.distinct;
+      trees = subst (Each IsTreeOf) (sym (trees-dir depth name a group rest g s)) (Each-append IsTreeOf (trees_of_rows depth below) (trees_in depth (leaves rest)) (level below good rows) p.trees);
+    }
+
+part : (depth : ℕ) → AreTrees depth → (fuel : ℕ) (rows : List FileRow) → length rows ≤ fuel → Good rows → Each IsFileRow rows → Part depth rows
+part depth level fuel [] le g f = record { each = tt; distinct = refl; trees = tt }
+part depth level zero (a ∷ rows) le g f = absurd (omega (arith, le))
+part depth level (suc fuel) (a ∷ rows) le g f = by (λ rest shorter g2 f2. part depth level fuel rest shorter g2 f2) (cut_of 47 a.path) refl
+  where
+    by : ((rest : List FileRow) → length rest ≤ fuel → Good rest → Each IsFileRow rest → Part depth rest) → (o : Option (Bytes × Bytes)) → cut_of 47 a.path ≡ o → Part depth (a ∷ rows)
+    by rec None e = file-part depth a rows g f.0 e (rec rows (omega (arith, le)) g.2 f.1)
+    by rec (Some q) e =
+        let w = deep a.path q.0 q.1 e in
+        let c = cut-group q.0 a rows (in-is q.0 q.1 a w.plain w.is) in
+        let g2 : Good (a ∷ (c.group ++ c.rest)) = subst (λ (r : List FileRow). Good (a ∷ r)) c.whole g in
+        let f2 : Each IsFileRow ((a ∷ c.group) ++ c.rest) = subst (λ (r : List FileRow). Each IsFileRow (a ∷ r)) c.whole f in
+        let rest = rec c.rest (omega (arith, le, c.shorter_rest)) (good-rest (a ∷ c.group) c.rest g2) (Each-rest IsFileRow (a ∷ c.group) c.rest f2) in
+        subst (λ (r : List FileRow). Part depth (a ∷ r)) (sym c.whole) (dir-part depth level q.0 q.1 a c.group c.rest g2 c.splits e (Each-front IsFileRow (a ∷ c.group) c.rest f2) rest)
+
+are-trees : (depth : ℕ) → AreTrees depth
+are-trees zero rows g f = subst (Each IsTreeOf) (sym (none-depth rows).1) tt
+are-trees (suc depth) rows g f =
+    let p = part depth (are-trees depth) (length rows) rows (omega arith) g f in
+    let entries : List TreeEntry = entries_in depth (leaves rows) in
+    subst (Each IsTreeOf) (sym (trees-are depth rows g))
+    (Each-append IsTreeOf (trees_in depth (leaves rows)) (object_of tree (tree_text entries) ∷ []) p.trees ((entries, (p.each, entries-rise depth rows g, p.distinct), refl), tt))
+
+-- ---- the trees of files
+
+is-right : (o : Object) → IsTreeOf o → IsRight o
+is-right o t = subst IsRight (sym t.2) (refl, ap tree_name (tree_fault-text (tree_text t.0) t.0 (t.1, refl)))
+
+each-right : (os : List Object) → Each IsTreeOf os → Each IsRight os
+each-right [] h = tt
+each-right (o ∷ os) h = (is-right o h.0, each-right os h.1)
+
+pub trees-right : (rows : List FileRow) → IsFiles rows → first_clash rows ≡ None → Each IsRight (trees_of rows)
+unfolding trees_of
+trees-right rows files apart = each-right (trees_of rows) (are-trees 257 rows (subst Good (shorts-none rows) (good-files rows files apart)) files.each)

@@ -1,0 +1,71 @@
+-- Revisions that come to a store, one after the other.
+use Rattle.std.specs.Prelude.{◌≡◌, ◌≤◌, ◌^◌, Bool, true, false, ◌||◌, ⊤, List, [], ◌∷◌, ◌++◌, length, None, Some, IsTrue}
+use Rattle.text_model.specs.Path.{is_fit_path}
+use Rattle.hg_model.specs.FileText.{file_text, IsFile}
+use Rattle.std.specs.List.{list_any}
+use Rattle.text_model.specs.Lists.{In}
+use Rattle.text_model.specs.Id.{Id, is_null, node_id}
+use Rattle.text_model.specs.Text.{Bytes}
+use Rattle.hg_model.specs.Changeset.{changeset_text}
+use Rattle.hg_model.specs.Revision.{Revision, Group, Changesets, revision_of, knows, known_after, is_known_parent, is_otherwise, ancestry_fault, shape_fault}
+use Rattle.view_model.specs.View.{ChangesetView, Row, changeset_node}
+use Rattle.view_model.specs.Held.{IsFileHeld}
+use Rattle.pair_known.specs.Rows.{RowValue, row_value}
+use Rattle.pair_known.specs.Ruled.{IsRuledChangeset, HasFileParents}
+use Rattle.pair_known.specs.declared.hg_draft.HgDraft.{HgDraft}
+use Rattle.pair_state.specs.Push.{known_with_all}
+
+-- the node is null, or known with another text or other parents
+abbrev pub is_bad : List Revision → Revision → Bool
+is_bad known r = is_null r.node || list_any (is_otherwise r) known
+
+-- nothing else is wrong with the revision
+pub record IsReady (known : List Revision) (r : Revision) : Type 0 where
+  pub ancestry : ancestry_fault known r ≡ None
+  pub node : node_id r.p r.q r.text ≡ r.node
+  pub shape : shape_fault r.group r.text ≡ None
+
+-- none is bad as it comes
+abbrev pub AreClean : List Revision → List Revision → Type 0
+AreClean known [] = ⊤
+AreClean known (r ∷ rs) = (is_bad known r ≡ false) × AreClean (known_after known r) rs
+
+-- the revisions came, and none was bad
+pub record HaveCome (old new rs : List Revision) : Type 0 where
+  pub are : new ≡ known_with_all old rs
+  pub clean : AreClean old rs
+
+-- one of the revisions is bad, over the store or the others
+pub record HasBad (old rs : List Revision) : Type 0 where
+  pub revision : Revision
+  pub is_new : In revision rs
+  pub bad : is_bad (old ++ rs) revision ≡ true
+
+-- the look-ups of the one are those of the other
+abbrev pub IsWithinHg : List Revision → List Revision → Type 0
+IsWithinHg old new = (group : Group) (node : Id) (r : Revision) → revision_of old group node ≡ Some r → revision_of new group node ≡ Some r
+
+-- the draft stands for the changeset over a store that has grown by it and perhaps more
+pub record IsAskedOver (base now : List Revision) (d : HgDraft) (node : Id) (k : ChangesetView) : Type 0 where
+  pub ruled : IsRuledChangeset base d k
+  pub within : IsWithinHg base now
+  pub node_is : node ≡ changeset_node k
+  pub link : knows now Changesets node ≡ true
+
+-- a file of a changeset whose revision the draft or the store has, over a store that has its parents and its changeset
+pub record IsFileAsked (known fresh : List Revision) (v : RowValue) (link : Id) (x : Row) : Type 0 where
+  pub value : v ≡ row_value x
+  pub held : IsFileHeld (fresh ++ known) x
+  pub parents : HasFileParents known x
+  pub link_known : knows known Changesets link ≡ true
+  pub short : length (file_text (x.revision).meta (x.revision).body) ≤ 2 ^ 26
+  pub fit : IsTrue (is_fit_path x.path)
+  pub spells : IsFile (x.revision).meta (x.revision).body
+
+-- the draft stands for the changeset with this node and text, whose parents are known
+pub record IsAsked (known : List Revision) (d : HgDraft) (node : Id) (text : Bytes) (k : ChangesetView) : Type 0 where
+  pub ruled : IsRuledChangeset known d k
+  pub first : is_known_parent known Changesets k.p ≡ true
+  pub second : is_known_parent known Changesets k.q ≡ true
+  pub node_is : node ≡ changeset_node k
+  pub text_is : text ≡ changeset_text k.fields

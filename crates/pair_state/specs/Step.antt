@@ -1,0 +1,52 @@
+-- One pair more, and files whose bodies are asked of a store.
+use Rattle.std.specs.Prelude.{◌≡◌, true, false, Some, List, ◌++◌, ◌∷◌, [], map}
+use Rattle.text_model.specs.Lists.{Each, In}
+use Rattle.text_model.specs.Id.{Id, is_null}
+use Rattle.text_model.specs.Text.{Bytes}
+use Rattle.hg_model.specs.Manifest.{ManifestEntry, entry_text}
+use Rattle.hg_model.specs.Revision.{Revision}
+use Rattle.git_model.specs.Object.{Object, object_at, knows_object, is_other_content}
+use Rattle.view_model.specs.View.{Row, ChangesetView, entry_of_row}
+use Rattle.view_model.specs.Held.{IsFileHeld, IsChangesetHeld}
+use Rattle.pair_model.specs.Rule.{tree_row_of}
+use Rattle.pair_known.specs.Rows.{RowValue, row_value}
+use Rattle.pair_known.specs.Ruled.{blob_of_row}
+use Rattle.hg_store.specs.Known.{AreAdded}
+use Rattle.pair_known.specs.Partners.{ArePartners}
+use Rattle.pair_state.specs.declared.state.State.{State}
+
+-- the changeset and the commit stand behind the others, and the stores are as they were
+pub record IsPushed (old new : State) (node id : Id) : Type 0 where
+  pub hg : new.known.hg ≡ old.known.hg
+  pub git : new.known.git ≡ old.known.git
+  pub partners : new.known.partners ≡ old.known.partners ++ (node, id) ∷ []
+  pub nodes : new.nodes ≡ old.nodes ++ node ∷ []
+  pub ids : new.ids ≡ old.ids ++ id ∷ []
+  pub added : AreAdded new.known.hg
+  pub one : ArePartners new.known.partners
+
+-- the blob that a file's body is
+abbrev pub body_blob : Row → Object
+body_blob row = blob_of_row (tree_row_of row)
+
+-- the files are these, their revisions are known, and so are the ids of their blobs
+pub record AreAsked (hg : List Revision) (git : List Object) (values : List RowValue) (rows : List Row) : Type 0 where
+  pub are : values ≡ map row_value rows
+  pub held : Each (IsFileHeld hg) rows
+  pub blobs : Each (λ row. knows_object git (body_blob row).id ≡ true) rows
+
+-- the object is another content than one of the store
+abbrev pub IsElse : List Object → Object → Type 0
+IsElse git o = (other : Object) × In other git × (is_other_content o other ≡ true)
+
+-- the line of a file in a manifest
+abbrev pub line_of : RowValue → Bytes
+line_of v = entry_text (record { path = v.path; node = v.node; flag = v.flag })
+
+-- each line is that of a file whose revision is known and whose body is a blob of the store
+abbrev pub AreBlobs : List Revision → List Object → List ManifestEntry → Type 0
+AreBlobs hg git entries = Each (λ e. (y : Row) × (e ≡ entry_of_row y) × IsFileHeld hg y × (object_at git (body_blob y).id ≡ Some (body_blob y))) entries
+
+-- the files of a parent, where there is one, have their bodies in the store
+abbrev pub HasParentBlobs : List Revision → List Object → Id → Type 0
+HasParentBlobs hg git parent = is_null parent ≡ false → (entries : List ManifestEntry) → ((w : ChangesetView) → IsChangesetHeld hg parent w → map entry_of_row w.rows ≡ entries) → AreBlobs hg git entries

@@ -1,0 +1,119 @@
+// The bodies of a changeset's files, beside the blobs of a store.
+ghost use Rattle.std.specs.Prelude.{◌≡◌, ◌&&◌, true, false, [], ◌∷◌, List, IfSome, bytes_eq, map};
+ghost use Rattle.text_model.specs.Id.{blob, is_null, same_kind};
+ghost use Rattle.bridge_text.specs.Kinds.{object_kind};
+ghost use Rattle.text_model.specs.Lists.{Each, SomeOf};
+ghost use Rattle.tree_shape.specs.Laws.{IsKnown};
+ghost use Rattle.view_model.specs.View.{ChangesetView, Row, entry_of_row};
+ghost use Rattle.view_model.specs.Held.{IsChangesetHeld};
+ghost use Rattle.pair_state.specs.Step.{body_blob, AreAsked, AreBlobs, HasParentBlobs, IsElse};
+
+use bridge_text::{Id, Kind};
+use git_object::Objects;
+use hg_filelog::{split, splits_exactly};
+use hg_manifest::Manifest;
+use hg_store::HgStore;
+use pair_known::{HgDraft, HgRow, HgRows, Known};
+
+// Whether the blob of each file of a changeset is its body. A file with the revision that a parent has needs no look at its
+// body: that of the parent is a blob of the store.
+pub fn have_bodies(known: &Known, h: &HgDraft) -> bool
+    requires rows { (xs : List Row) × AreAsked known.now.hg known.now.git h.now.rows xs }
+    requires first { HasParentBlobs known.now.hg known.now.git h.now.p1 }
+    requires second { HasParentBlobs known.now.hg known.now.git h.now.p2 }
+    ensures yes { result ≡ true → (xs : List Row) → AreAsked known.now.hg known.now.git h.now.rows xs → Each (λ x. IsKnown known.now.git (body_blob x)) xs }
+    ensures otherwise { result ≡ false → (xs : List Row) → AreAsked known.now.hg known.now.git h.now.rows xs → SomeOf xs (λ x. IsElse known.now.git (body_blob x)) }
+{
+    let first = manifest_of(&known.hg, &h.p1);
+    let second = manifest_of(&known.hg, &h.p2);
+    have_blobs(known, &h.rows, first, second)
+}
+
+// The manifest of a parent; none for the null id.
+fn manifest_of<'a>(hg: &'a HgStore, parent: &Id) -> Option<&'a Manifest>
+    ensures { IfSome result (λ m. (is_null parent.now ≡ false) × ((w : ChangesetView) → IsChangesetHeld hg.now parent.now w → map entry_of_row w.rows ≡ m.now)) }
+{
+    hg.check();
+    if parent.is_null() {
+        return None;
+    }
+    match hg.view_of(parent) {
+        Ok(view) => Some(view.manifest),
+        Err(_) => None,
+    }
+}
+
+fn have_blobs(
+    known: &Known,
+    rows: &HgRows,
+    first: Option<&Manifest>,
+    second: Option<&Manifest>,
+) -> bool
+    requires rows { (xs : List Row) × AreAsked known.now.hg known.now.git rows.now xs }
+    requires first { IfSome first (λ m. AreBlobs known.now.hg known.now.git m.now) }
+    requires second { IfSome second (λ m. AreBlobs known.now.hg known.now.git m.now) }
+    ensures yes { result ≡ true → (xs : List Row) → AreAsked known.now.hg known.now.git rows.now xs → Each (λ x. IsKnown known.now.git (body_blob x)) xs }
+    ensures otherwise { result ≡ false → (xs : List Row) → AreAsked known.now.hg known.now.git rows.now xs → SomeOf xs (λ x. IsElse known.now.git (body_blob x)) }
+{
+    let list = rows.as_slice();
+    for row in list {
+        if !has_blob(known, row, first, second) {
+            return false;
+        }
+    }
+    true
+}
+
+fn has_blob(known: &Known, row: &HgRow, first: Option<&Manifest>, second: Option<&Manifest>) -> bool
+    requires row { (x : Row) × AreAsked known.now.hg known.now.git (row.now ∷ []) (x ∷ []) }
+    requires first { IfSome first (λ m. AreBlobs known.now.hg known.now.git m.now) }
+    requires second { IfSome second (λ m. AreBlobs known.now.hg known.now.git m.now) }
+    ensures yes { result ≡ true → (x : Row) → AreAsked known.now.hg known.now.git (row.now ∷ []) (x ∷ []) → IsKnown known.now.git (body_blob x) }
+    ensures otherwise { result ≡ false → (x : Row) → AreAsked known.now.hg known.now.git (row.now ∷ []) (x ∷ []) → IsElse known.now.git (body_blob x) }
+{
+    is_kept(known, row, first) || is_kept(known, row, second) || has_body(known, row)
+}
+
+// Whether a parent has the file with the same revision.
+fn is_kept(known: &Known, row: &HgRow, parent: Option<&Manifest>) -> bool
+    requires parent { IfSome parent (λ m. AreBlobs known.now.hg known.now.git m.now) }
+    ensures { result ≡ true → (x : Row) → AreAsked known.now.hg known.now.git (row.now ∷ []) (x ∷ []) → IsKnown known.now.git (body_blob x) }
+{
+    let Some(manifest) = parent else {
+        return false;
+    };
+    match manifest.get(row.path.as_slice()) {
+        Some(entry) => entry.node == row.node,
+        None => false,
+    }
+}
+
+fn has_body(known: &Known, row: &HgRow) -> bool
+    requires row { (x : Row) × AreAsked known.now.hg known.now.git (row.now ∷ []) (x ∷ []) }
+    ensures yes { result ≡ true → (x : Row) → AreAsked known.now.hg known.now.git (row.now ∷ []) (x ∷ []) → IsKnown known.now.git (body_blob x) }
+    ensures otherwise { result ≡ false → (x : Row) → AreAsked known.now.hg known.now.git (row.now ∷ []) (x ∷ []) → IsElse known.now.git (body_blob x) }
+{
+    splits_exactly();
+    let text = known.hg.file_text(row.path.as_slice(), &row.node).unwrap();
+    let body = match split(text) {
+        Ok((_, body)) => body,
+        Err(_) => unreachable!(),
+    };
+    match known.git.content(&row.blob) {
+        Some((kind, content)) => is_blob_of(kind, content, body),
+        None => unreachable!(),
+    }
+}
+
+// Whether an object of this kind and content is the blob of a body.
+fn is_blob_of(kind: Kind, content: &[u8], body: &[u8]) -> bool
+    ensures { result ≡ (same_kind blob (object_kind kind) && bytes_eq body.now content.now) }
+{
+    is_blob(kind) && body == content
+}
+
+fn is_blob(kind: Kind) -> bool
+    ensures { result ≡ same_kind blob (object_kind kind) }
+{
+    kind == Kind::Blob
+}

@@ -1,0 +1,202 @@
+-- The entries of a bundle, one after the other.
+use Rattle.std.proofs.Common.{◌≡◌, ◌+◌, ℕ, zero, suc, inl, inr, true, false, true≢false, List, [], ◌∷◌, ◌++◌, take, drop, map, Some, refl, sym, ap, subst, ◌∙◌, append_assoc, append-nil}
+use Rattle.std.specs.Prelude.{slice_get}
+use Rattle.std.proofs.lemmas.List.{take-append-drop}
+use Rattle.std.proofs.lemmas.List.Elements.{filter-append}
+use Rattle.text_model.specs.Fault.{Refusal}
+use Rattle.hg_model.specs.Revision.{Group, Changesets, Manifests, FilesAt, Revision, known_after}
+use Rattle.hg_model.specs.Reading.{Arrival}
+use Rattle.git_model.specs.Object.{Object}
+use Rattle.hg_store.specs.Known.{AreAdded}
+use Rattle.hg_bundle.specs.declared.arrival.RevKind.{RevKind}
+use Rattle.hg_bundle.specs.declared.arrival.RevKind.TheVariants as kind
+use Rattle.hg_bundle.specs.declared.arrival.Arrival as listed
+use Rattle.hg_bundle.specs.Arrivals.{arrival_of, kind_of}
+use Rattle.hg_dump.proofs.HeldLemmas.{node-is}
+use Rattle.hg_dump.proofs.ListLemmas.{map-append, take-push, drop-next}
+use Rattle.view_model.specs.Dump.{objects_in}
+use Rattle.pair_model.specs.Block.{Block, node_of, commits_in}
+use Rattle.history_model.specs.Pull.{BringBlocks, ChangesetRefused, IsChangesetRefusal, all_known, changesets_among, revisions_among, is_changesets, is_saved}
+use Rattle.pair_state.specs.declared.state.State.{State}
+use Rattle.pair_state.specs.Blocks.{IsStateOf}
+use Rattle.pair_state.specs.Push.{HaveSame}
+use Rattle.pull_outcome.specs.declared.refused.PullFault.{PullFault}
+use Rattle.pull_outcome.specs.declared.refused.PullFault.TheVariants.{Refused, Read, Memory}
+use Rattle.pull_outcome.specs.Refused.{IsRefusedBy}
+use Rattle.pull_outcome.specs.Names.{fault_name}
+use Rattle.pull_outcome.specs.Tight.{state_value}
+use Rattle.pull_bundle.specs.Takes.{AreSaved, Comes, Takes, TakesArrivals, IsRefusedArrival, Starts}
+use Rattle.pull_bundle.proofs.Known.{all_known-append, grown, are_saved-more, are_saved-after, saved-more, saved-last}
+use Rattle.pull_bundle.proofs.Blocks.{brings-none, brings-append, brings-same, objects_in-more, same-more, same-then, refused-same}
+
+-- ---- which entries are changesets
+
+pub kind-changeset : (g : Group) (k : RevKind) → k ≡ kind_of g → k ≡ kind.Changeset → true ≡ is_changesets g
+kind-changeset Changesets k is e = refl
+kind-changeset Manifests k is e = absurd (let c : kind.Manifest ≡ kind.Changeset = sym is ∙ e in cc)
+kind-changeset (FilesAt path) k is e = absurd (let c : kind.File ≡ kind.Changeset = sym is ∙ e in cc)
+
+pub kind-manifest : (g : Group) (k : RevKind) → k ≡ kind_of g → k ≡ kind.Manifest → false ≡ is_changesets g
+kind-manifest Changesets k is e = absurd (let c : kind.Changeset ≡ kind.Manifest = sym is ∙ e in cc)
+kind-manifest Manifests k is e = refl
+kind-manifest (FilesAt path) k is e = refl
+
+pub kind-file : (g : Group) (k : RevKind) → k ≡ kind_of g → k ≡ kind.File → false ≡ is_changesets g
+kind-file Changesets k is e = absurd (let c : kind.Changeset ≡ kind.File = sym is ∙ e in cc)
+kind-file Manifests k is e = refl
+kind-file (FilesAt path) k is e = refl
+
+pub group-is : (g : Group) → is_changesets g ≡ true → g ≡ Changesets
+group-is Changesets h = refl
+group-is Manifests h = absurd (true≢false (sym h))
+group-is (FilesAt path) h = absurd (true≢false (sym h))
+
+among-other : (a : Arrival) → is_changesets (a.revision).group ≡ false → changesets_among (a ∷ []) ≡ []
+among-other a h = rw h refl
+
+among-one : (a : Arrival) (rest : List Arrival) → is_changesets (a.revision).group ≡ true → changesets_among (a ∷ rest) ≡ a ∷ changesets_among rest
+among-one a rest h = rw h refl
+
+-- ---- one entry
+
+abbrev takes-at : (s next : State) (blocks : List Block) (rs rs' : List Revision) → rs ≡ rs' → Takes s next blocks rs → Takes s next blocks rs'
+takes-at s next blocks rs rs' e t = record {
+  new = t.new;
+  brings = subst (λ (l : List Revision). BringBlocks s.known.hg s.known.git blocks l t.new) e t.brings;
+  state = t.state;
+  revisions = t.revisions;
+  objects = t.objects;
+}
+
+abbrev takes-none : (s : State) (blocks : List Block) → IsStateOf s blocks → Takes s s blocks []
+takes-none s blocks state = record {
+  new = [];
+  brings = brings-none s.known.hg s.known.git blocks;
+  state = subst (IsStateOf s) (sym (append-nil blocks)) state;
+  revisions = refl;
+  objects = subst (HaveSame s.known.git) (sym (append-nil s.known.git)) ((λ x i. i), (λ x i. i));
+}
+
+pub none-taken : (s : State) (base : List Revision) (blocks : List Block) → IsStateOf s blocks → AreSaved blocks base → TakesArrivals s s base blocks []
+none-taken s base blocks state saved = record { takes = takes-none s blocks state; saved = are_saved-more blocks [] base saved }
+
+pub other-taken : (s : State) (before : List Revision) (blocks : List Block) (a : Arrival) → is_changesets (a.revision).group ≡ false → Comes s blocks before a.revision → TakesArrivals s s before blocks (a ∷ [])
+other-taken s before blocks a other comes = record {
+  takes = takes-at s s blocks [] (revisions_among (changesets_among (a ∷ []))) (sym (ap revisions_among (among-other a other))) (takes-none s blocks comes.state);
+  saved = are_saved-after (blocks ++ []) before a.revision (are_saved-more blocks [] before comes.saved) (λ g. absurd (true≢false (sym (ap is_changesets g) ∙ other)));
+}
+
+module _ (s : State) (added : AreAdded s.known.hg) where
+  brings-saves : (objects : List Object) (blocks : List Block) (r : Revision) (new : List Block) → BringBlocks s.known.hg objects blocks (r ∷ []) new → is_saved (blocks ++ new) r.node ≡ true
+  unfolding BringBlocks
+  brings-saves objects blocks r new (inl h) = saved-more blocks new r.node h.0
+  brings-saves objects blocks r new (inr (free, b, rest, is, gives, later)) =
+      let node : node_of b ≡ r.node = ap node_of gives.block ∙ node-is s.known.hg added r.node gives.view gives.is_held in
+      let one : new ≡ b ∷ [] = is ∙ ap (λ (l : List Block). b ∷ l) later in
+      ap (λ (l : List Block). is_saved (blocks ++ l) r.node) one ∙ saved-last blocks b r.node node
+
+  pub changeset-taken : (next : State) (before : List Revision) (blocks : List Block) (a : Arrival) → is_changesets (a.revision).group ≡ true → Comes s blocks before a.revision → Takes s next blocks (a.revision ∷ [])
+      → TakesArrivals s next before blocks (a ∷ [])
+  changeset-taken next before blocks a one comes t = record {
+    takes = takes-at s next blocks (a.revision ∷ []) (revisions_among (changesets_among (a ∷ []))) (sym (ap revisions_among (among-one a [] one))) t;
+    saved = are_saved-after (blocks ++ t.new) before a.revision (are_saved-more blocks t.new before comes.saved) (λ g. brings-saves s.known.git blocks a.revision t.new t.brings);
+  }
+
+-- ---- one entry behind others
+
+takes-append : (start mid next : State) (blocks : List Block) (rs rs' : List Revision) (t : Takes start mid blocks rs) (u : Takes mid next (blocks ++ t.new) rs')
+    → BringBlocks start.known.hg start.known.git blocks (rs ++ rs') (t.new ++ u.new)
+takes-append start mid next blocks rs rs' t u =
+    brings-append start.known.hg start.known.git blocks rs rs' t.new u.new t.brings
+    (brings-same start.known.hg mid.known.git (start.known.git ++ objects_in (commits_in t.new)) (blocks ++ t.new) rs' u.new t.objects
+    (subst (λ (l : List Revision). BringBlocks l mid.known.git (blocks ++ t.new) rs' u.new) t.revisions u.brings))
+
+takes-objects : (start mid next : State) (blocks : List Block) (rs rs' : List Revision) (t : Takes start mid blocks rs) (u : Takes mid next (blocks ++ t.new) rs')
+    → HaveSame next.known.git (start.known.git ++ objects_in (commits_in (t.new ++ u.new)))
+takes-objects start mid next blocks rs rs' t u =
+    let mine = objects_in (commits_in t.new) in
+    let more = objects_in (commits_in u.new) in
+    subst (HaveSame next.known.git) (append_assoc start.known.git mine more ∙ ap (λ (l : List Object). start.known.git ++ l) (sym (objects_in-more t.new u.new)))
+    (same-then next.known.git (mid.known.git ++ more) ((start.known.git ++ mine) ++ more) u.objects (same-more mid.known.git (start.known.git ++ mine) more t.objects))
+
+among-more : (came more : List Arrival) → revisions_among (changesets_among came) ++ revisions_among (changesets_among more) ≡ revisions_among (changesets_among (came ++ more))
+among-more came more =
+    sym (map-append (λ a. a.revision) (changesets_among came) (changesets_among more))
+    ∙ sym (ap revisions_among (filter-append (λ a. is_changesets (a.revision).group) came more))
+
+known-more : (base : List Revision) (came : List Arrival) (a : Arrival) → known_after (all_known base (revisions_among came)) a.revision ≡ all_known base (revisions_among (came ++ a ∷ []))
+known-more base came a = sym (ap (all_known base) (map-append (λ x. x.revision) came (a ∷ [])) ∙ all_known-append base (revisions_among came) (a.revision ∷ []))
+
+pub arrivals-append : (start mid next : State) (base : List Revision) (blocks : List Block) (came : List Arrival) (a : Arrival) (t : TakesArrivals start mid base blocks came)
+    → TakesArrivals mid next (all_known base (revisions_among came)) (blocks ++ (t.takes).new) (a ∷ []) → TakesArrivals start next base blocks (came ++ a ∷ [])
+arrivals-append start mid next base blocks came a t u = record {
+  takes = record {
+    new = (t.takes).new ++ (u.takes).new;
+    brings = subst (λ (l : List Revision). BringBlocks start.known.hg start.known.git blocks l ((t.takes).new ++ (u.takes).new)) (among-more came (a ∷ []))
+        (takes-append start mid next blocks (revisions_among (changesets_among came)) (revisions_among (changesets_among (a ∷ []))) t.takes u.takes);
+    state = subst (IsStateOf next) (append_assoc blocks (t.takes).new (u.takes).new) (u.takes).state;
+    revisions = (u.takes).revisions ∙ (t.takes).revisions;
+    objects = takes-objects start mid next blocks (revisions_among (changesets_among came)) (revisions_among (changesets_among (a ∷ []))) t.takes u.takes;
+  };
+  saved = subst (λ (l : List Block). AreSaved l (all_known base (revisions_among (came ++ a ∷ [])))) (append_assoc blocks (t.takes).new (u.takes).new)
+      (subst (AreSaved ((blocks ++ (t.takes).new) ++ (u.takes).new)) (known-more base came a) u.saved);
+}
+
+-- ---- the entry at a place
+
+pub record IsAt (came : List Arrival) (i : ℕ) (list : listed.Arrival) : Type 0 where
+  pub entry : Arrival
+  pub at : slice_get came i ≡ Some entry
+  pub is : list ≡ arrival_of entry
+
+pub entry-at : (came : List Arrival) (i : ℕ) (list : listed.Arrival) → slice_get (map arrival_of came) i ≡ Some list → IsAt came i list
+entry-at [] i list h = absurd cc
+entry-at (a ∷ came) zero list h = record { entry = a; at = refl; is = some_is (sym h) }
+  where
+    some_is : {X : Type 0} {x y : X} → Some x ≡ Some y → x ≡ y
+    some_is e = cc
+entry-at (a ∷ came) (suc i) list h = let r = entry-at came i list h in record { entry = r.entry; at = r.at; is = r.is }
+
+parted : (came : List Arrival) (i : ℕ) (a : Arrival) → slice_get came i ≡ Some a → came ≡ take i came ++ a ∷ drop (i + 1) came
+parted came i a at = sym (take-append-drop i came) ∙ ap (λ (l : List Arrival). take i came ++ l) (drop-next came i a at)
+
+module _ (start mid : State) (base : List Revision) (blocks : List Block) (list : List listed.Arrival) (came : List Arrival) (starts : Starts start base blocks list came) (i : ℕ) (a : Arrival) (at : slice_get came i ≡ Some a) (t : TakesArrivals start mid base blocks (take i came)) where
+  pub comes-next : Comes mid (blocks ++ (t.takes).new) (all_known base (revisions_among (take i came))) a.revision
+  comes-next =
+      let rest = revisions_among (drop (i + 1) came) in
+      let before = all_known base (revisions_among (take i came)) in
+      let later = grown (known_after before a.revision) rest in
+      record {
+        state = (t.takes).state;
+        saved = t.saved;
+        later = later.0;
+        store =
+            (t.takes).revisions ∙ starts.store ∙ ap (λ (l : List Arrival). all_known base (revisions_among l)) (parted came i a at)
+            ∙ ap (all_known base) (map-append (λ x. x.revision) (take i came) (a ∷ drop (i + 1) came))
+            ∙ all_known-append base (revisions_among (take i came)) (a.revision ∷ rest) ∙ later.1;
+      }
+
+  pub taken-next : (next : State) → TakesArrivals mid next (all_known base (revisions_among (take i came))) (blocks ++ (t.takes).new) (a ∷ []) → TakesArrivals start next base blocks (take (i + 1) came)
+  taken-next next u = subst (TakesArrivals start next base blocks) (sym (take-push came i a at)) (arrivals-append start mid next base blocks (take i came) a t u)
+
+  refusal-next : (why : Refusal) → IsRefusedArrival mid (blocks ++ (t.takes).new) a why → IsChangesetRefusal start.known.hg (state_value start blocks) (changesets_among came) why
+  refusal-next why x = record {
+    before = changesets_among (take i came);
+    refused = a;
+    after = changesets_among (drop (i + 1) came);
+    split =
+        ap changesets_among (parted came i a at) ∙ filter-append (λ x. is_changesets (x.revision).group) (take i came) (a ∷ drop (i + 1) came)
+        ∙ ap (λ (l : List Arrival). changesets_among (take i came) ++ l) (among-one a (drop (i + 1) came) x.changeset);
+    new = (t.takes).new;
+    brings = (t.takes).brings;
+    is_new = x.refused.is_new;
+    name = x.name;
+    fault = refused-same mid.known.git (start.known.git ++ objects_in (commits_in (t.takes).new)) (t.takes).objects start.known.hg (blocks ++ (t.takes).new) a.revision x.name
+        (subst (λ (l : List Revision). ChangesetRefused l mid.known.git (blocks ++ (t.takes).new) a.revision x.name) (t.takes).revisions x.refused.fault);
+    is = x.is;
+  }
+
+  pub refused-next : (e : PullFault) → IsRefusedBy (IsRefusedArrival mid (blocks ++ (t.takes).new) a) e → IsRefusedBy (IsChangesetRefusal start.known.hg (state_value start blocks) (changesets_among came)) e
+  refused-next (Refused why id place) h = refusal-next (record { name = fault_name why; id = id; place = place }) h
+  refused-next Read h = tt
+  refused-next Memory h = tt

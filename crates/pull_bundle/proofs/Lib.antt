@@ -1,0 +1,11 @@
+pub mod ClashRows
+pub mod Lacks
+pub mod Rules
+pub mod Links
+pub mod Known
+pub mod Blocks
+pub mod TakeLemmas
+pub mod ArrivalLemmas
+pub mod ReadLemmas
+pub mod OrphanLemmas
+pub mod PullLemmas

@@ -1,0 +1,208 @@
+-- One changeset: why it is refused, and the block that it gets.
+use Rattle.std.proofs.Common.{◌≡◌, inl, inr, Bool, true, false, List, [], ◌∷◌, ◌++◌, map, Option, Some, None, refl, sym, ap, subst, ◌∙◌, append-nil}
+use Rattle.std.specs.Prelude.{Result, Ok, Err, IfOk, IfErr, is_some, IsTrue, bytes_eq}
+use Rattle.text_model.specs.Lists.{Each}
+use Rattle.text_model.specs.Id.{Id}
+use Rattle.text_model.specs.Fault.{FaultName}
+use Rattle.text_model.specs.Fault as fault
+use Rattle.hg_model.specs.Revision.{Revision, Changesets, revision_of}
+use Rattle.git_model.specs.Object.{Object}
+use Rattle.hg_store.specs.Known.{AreAdded}
+use Rattle.view_model.specs.View.{ChangesetView, IsChangesetView, commit_objects}
+use Rattle.view_model.specs.Held.{IsChangesetHeld}
+use Rattle.pair_model.specs.Block.{Block, node_of, id_of, block_of_node, not_null}
+use Rattle.pair_model.specs.Rule.{rule_commit}
+use Rattle.pair_model.specs.Plain.{block_of_changeset}
+use Rattle.pair_model.specs.Collision.{commit_collides}
+use Rattle.history_model.specs.Pull.{ChangesetRefused, ViewRefused, is_saved}
+use Rattle.pull_outcome.specs.Names.{fault_name}
+use Rattle.pair_known.specs.declared.hg_draft.HgDraft.{HgDraft}
+use Rattle.pair_known.specs.Drafts.{IsHgDraft}
+use Rattle.pair_known.specs.Over.{IsChangesetOver}
+use Rattle.pair_known.specs.Partners.{git_at}
+use Rattle.pair_known.specs.declared.git_draft.GitDraft.{GitDraft}
+use Rattle.pair_state.specs.declared.state.State.{State}
+use Rattle.pair_state.specs.Blocks.{IsStateOf}
+use Rattle.pair_state.specs.Push.{HaveSame, CommitPushed, PushesCommit}
+use Rattle.pull_bundle.specs.declared.fault.TakeFault.{TakeFault}
+use Rattle.pull_bundle.specs.declared.fault.TakeFault.TheVariants.{Refused, Memory}
+use Rattle.pull_bundle.specs.Faults.{IsTakeFault, ViewLacks, RuleRefuses}
+use Rattle.pull_bundle.specs.Takes.{IsRuled, Comes, IsNew, GetsBlock, Takes, IsRefusedNew}
+use Rattle.pull_bundle.proofs.Known.{came-new}
+use Rattle.pull_bundle.proofs.Lacks.{no-manifest_lacks, no-file_lacks}
+use Rattle.pull_bundle.proofs.Blocks.{brings-saved, brings-one}
+
+pub fault-map : (P Q : FaultName → Type 0) → ((name : FaultName) → P name → Q name) → (f : TakeFault) → IsTakeFault P f → IsTakeFault Q f
+fault-map P Q g (Refused why) h = g (fault_name why) h
+fault-map P Q g Memory h = tt
+
+some_is : {X : Type 0} {x y : X} → Some x ≡ Some y → x ≡ y
+some_is e = cc
+
+none_of : {X : Type 0} (o : Option X) → is_some o ≡ false → o ≡ None
+none_of None h = refl
+none_of (Some x) h = absurd cc
+
+module _ (s : State) (node : Id) (blocks : List Block) (r : Revision) (is : r.node ≡ node) (new : IsNew s blocks r) where
+  at : revision_of s.known.hg Changesets node ≡ Some r
+  at = ap (revision_of s.known.hg Changesets) (sym is) ∙ new.is_held
+
+  free : is_saved blocks r.node ≡ false
+  free = ap is_some new.free
+
+  pub view-refused : (name : FaultName) → ((r' : Revision) → revision_of s.known.hg Changesets node ≡ Some r' → ViewLacks s.known.hg r' name) → IsRefusedNew s blocks r name
+  view-refused name lacks = record { is_new = free; fault = by (lacks r at) }
+    where
+      by : ViewLacks s.known.hg r name → ChangesetRefused s.known.hg s.known.git blocks r name
+      by (inl a) = inl a
+      by (inr (na, inl b)) = inr (na, inl b)
+      by (inr (na, inr b)) = absurd b.1
+
+  module _ (v : ChangesetView) (held : IsChangesetHeld s.known.hg node v) where
+    same : held.revision ≡ r
+    same = some_is (sym held.is_held ∙ at)
+
+    held-here : IsChangesetHeld s.known.hg r.node v
+    held-here = subst (λ (n : Id). IsChangesetHeld s.known.hg n v) (sym is) held
+
+    refused-by : (name : FaultName) → ViewRefused s.known.git blocks v name → IsRefusedNew s blocks r name
+    refused-by name why = record {
+      is_new = free;
+      fault = inr (no-manifest_lacks s.known.hg node r v held at, inr (no-file_lacks s.known.hg node r v held at, (v, held-here, why)));
+    }
+
+    pub rule-refused : (name : FaultName) → RuleRefuses blocks v name → IsRefusedNew s blocks r name
+    rule-refused name (inl a) = refused-by name (inl a)
+    rule-refused name (inr (na, inl b)) = refused-by name (inr (na, inl b))
+    rule-refused name (inr (na, inr (nb, inl c))) = refused-by name (inr (na, inr (nb, inl c)))
+    rule-refused name (inr (na, inr (nb, inr (nc, inl d)))) = refused-by name (inr (na, inr (nb, inr (nc, inl d))))
+    rule-refused name (inr (na, inr (nb, inr (nc, inr d)))) = absurd d.1
+
+    pub collision-refused : (d : GitDraft) → IsRuled s.known.git d blocks v → IsTrue (commit_collides s.known.git blocks (rule_commit blocks v)) → IsRefusedNew s blocks r fault.Collision
+    collision-refused d ruled collides =
+        refused-by fault.Collision (inr (
+          (λ t. clash t ruled.no_clash),
+          inr (
+            (λ t. clash t ruled.plain.no_link),
+            inr (
+              (λ k. k ruled.ruled.fits),
+              inr (
+                (λ k. k ruled.plain),
+                inl (collides, refl),
+              ),
+            ),
+          ),
+        ))
+      where
+        clash : {b : Bool} → b ≡ true → b ≡ false → ⊥
+        clash t f = absurd cc
+
+    pub over-it : (d : HgDraft) → IsHgDraft s.known.hg d v → IsChangesetView v → IsChangesetOver s.known blocks d v
+    over-it d draft view = record {
+      history = new.state.held;
+      draft = draft;
+      view = view;
+      parents = subst (λ (ids : List Id). Each (λ p. IsTrue (is_some (block_of_node blocks p))) (not_null ids)) ids new.parents;
+    }
+      where
+        ids : r.p ∷ r.q ∷ [] ≡ v.p ∷ v.q ∷ []
+        ids = sym (λ i. (held.parents.0 ∙ ap (λ (x : Revision). x.p) same) i ∷ (held.parents.1 ∙ ap (λ (x : Revision). x.q) same) i ∷ [])
+
+    pub pushes : (h : HgDraft) (d : GitDraft) → IsChangesetOver s.known blocks h v → IsRuled s.known.git d blocks v → PushesCommit s h d node blocks v
+    pushes h d over ruled = record { state = new.state; over = over; held = held; free = ap (block_of_node blocks) (sym is) ∙ new.free; ruled = ruled.ruled }
+
+    pub gets-block : (next : State) (d : GitDraft) → IsRuled s.known.git d blocks v → CommitPushed s next blocks v → GetsBlock s next blocks r
+    gets-block next d ruled pushed = record {
+      block = block_of_changeset blocks v;
+      gives = record {
+        view = v;
+        is_held = held-here;
+        passes = record { no_clash = ruled.no_clash; fits = ruled.ruled.fits; plain = ruled.plain; apart = pushed.apart };
+        block = refl;
+      };
+      state = pushed.state;
+      revisions = pushed.revisions;
+      objects = subst (λ (l : List Object). HaveSame next.known.git (s.known.git ++ l)) (sym (append-nil (commit_objects (rule_commit blocks v)))) pushed.objects;
+    }
+
+-- ---- what faults say
+
+abbrev pub ViewDue : State → Id → FaultName → Type 0
+ViewDue s node name = (r : Revision) → revision_of s.known.hg Changesets node ≡ Some r → ViewLacks s.known.hg r name
+
+abbrev pub RuleDue : State → HgDraft → FaultName → Type 0
+RuleDue s d name = (blocks : List Block) (v : ChangesetView) → IsChangesetOver s.known blocks d v → RuleRefuses blocks v name
+
+abbrev pub NewDue : State → Id → FaultName → Type 0
+NewDue s node name = (blocks : List Block) (r : Revision) → r.node ≡ node → IsNew s blocks r → IsRefusedNew s blocks r name
+
+abbrev pub ComesDue : State → Id → FaultName → Type 0
+ComesDue s node name = (blocks : List Block) (before : List Revision) (r : Revision) → r.node ≡ node → r.group ≡ Changesets → Comes s blocks before r → IsRefusedNew s blocks r name
+
+pub view-fault : (s : State) (node : Id) (f : TakeFault) → IsTakeFault (ViewDue s node) f → IsTakeFault (NewDue s node) f
+view-fault s node f h = fault-map (ViewDue s node) (NewDue s node) (λ name lacks blocks r is new. view-refused s node blocks r is new name lacks) f h
+
+pub rule-fault : (s : State) (node : Id) (d : HgDraft) (v : ChangesetView) → IsChangesetHeld s.known.hg node v → IsHgDraft s.known.hg d v → IsChangesetView v → (f : TakeFault) → IsTakeFault (RuleDue s d) f → IsTakeFault (NewDue s node) f
+rule-fault s node d v held draft view f h =
+    fault-map (RuleDue s d) (NewDue s node) (λ name why blocks r is new. rule-refused s node blocks r is new v held name (why blocks v (over-it s node blocks r is new v held d draft view))) f h
+
+-- ---- a changeset that stands in a block, and one that doesn't
+
+partner-saved : (blocks : List Block) (node : Id) → is_some (git_at (map (λ b. (node_of b, id_of b)) blocks) node) ≡ is_saved blocks node
+partner-saved [] node = refl
+partner-saved (b ∷ blocks) node = by (bytes_eq (node_of b) node) refl (partner-saved blocks node)
+  where
+    by : (t : Bool) → bytes_eq (node_of b) node ≡ t → is_some (git_at (map (λ b. (node_of b, id_of b)) blocks) node) ≡ is_saved blocks node
+        → is_some (git_at (map (λ b. (node_of b, id_of b)) (b ∷ blocks)) node) ≡ is_saved (b ∷ blocks) node
+    by true e later = rw e refl
+    by false e later = rw e later
+
+pub is-saved : (s : State) (blocks : List Block) (node node' : Id) (o : Option Id) → IsStateOf s blocks → node' ≡ node → o ≡ git_at s.known.partners node → is_saved blocks node' ≡ is_some o
+is-saved s blocks node node' o state is at =
+    ap (is_saved blocks) is ∙ sym (partner-saved blocks node) ∙ ap (λ (l : List (Id × Id)). is_some (git_at l node)) (sym state.held.held.partners) ∙ ap is_some (sym at)
+
+pub takes-saved : (s : State) (blocks : List Block) (r : Revision) → IsStateOf s blocks → is_saved blocks r.node ≡ true → Takes s s blocks (r ∷ [])
+takes-saved s blocks r state saved = record {
+  new = [];
+  brings = brings-saved s.known.hg s.known.git blocks r saved;
+  state = subst (IsStateOf s) (sym (append-nil blocks)) state;
+  revisions = refl;
+  objects = subst (HaveSame s.known.git) (sym (append-nil s.known.git)) ((λ x i. i), (λ x i. i));
+}
+
+pub takes-new : (s next : State) (blocks : List Block) (r : Revision) → is_saved blocks r.node ≡ false → GetsBlock s next blocks r → Takes s next blocks (r ∷ [])
+takes-new s next blocks r free got = record {
+  new = got.block ∷ [];
+  brings = brings-one s.known.hg s.known.git blocks r got.block free got.gives;
+  state = got.state;
+  revisions = got.revisions;
+  objects = got.objects;
+}
+
+pub is-new : (s : State) (blocks : List Block) (before : List Revision) (r : Revision) → AreAdded s.known.hg → Comes s blocks before r → r.group ≡ Changesets → is_saved blocks r.node ≡ false → IsNew s blocks r
+is-new s blocks before r added comes group free =
+    let came = came-new blocks s.known.hg before comes.later r added comes.saved comes.store group free in
+    record { state = comes.state; free = none_of (block_of_node blocks r.node) free; is_held = came.is_held; parents = came.parents }
+
+pub ok-map : {T E : Type 0} (P Q : T → Type 0) → ((t : T) → P t → Q t) → (o : Result T E) → IfOk o P → IfOk o Q
+ok-map P Q f (Ok t) h = f t h
+ok-map P Q f (Err e) h = h
+
+pub err-map : {T E : Type 0} (P Q : E → Type 0) → ((e : E) → P e → Q e) → (o : Result T E) → IfErr o P → IfErr o Q
+err-map P Q f (Ok t) h = h
+err-map P Q f (Err e) h = f e h
+
+module _ (s : State) (node : Id) (added : AreAdded s.known.hg) (free : (blocks : List Block) (r : Revision) → IsStateOf s blocks → r.node ≡ node → is_saved blocks r.node ≡ false) where
+  abbrev GetsDue : State → Type 0
+  GetsDue next = (blocks : List Block) (r : Revision) → r.node ≡ node → IsNew s blocks r → GetsBlock s next blocks r
+
+  abbrev TakesDue : State → Type 0
+  TakesDue next = (blocks : List Block) (before : List Revision) (r : Revision) → r.node ≡ node → r.group ≡ Changesets → Comes s blocks before r → Takes s next blocks (r ∷ [])
+
+  pub all-taken : (o : Result State TakeFault) → IfOk o GetsDue → IfOk o TakesDue
+  all-taken o h = ok-map GetsDue TakesDue (λ next f blocks before r is group comes.
+      takes-new s next blocks r (free blocks r comes.state is) (f blocks r is (is-new s blocks before r added comes group (free blocks r comes.state is)))) o h
+
+  pub all-refused : (o : Result State TakeFault) → IfErr o (IsTakeFault (NewDue s node)) → IfErr o (IsTakeFault (ComesDue s node))
+  all-refused o h = err-map (IsTakeFault (NewDue s node)) (IsTakeFault (ComesDue s node)) (λ e k. fault-map (NewDue s node) (ComesDue s node) (λ name f blocks before r is group comes.
+      f blocks r is (is-new s blocks before r added comes group (free blocks r comes.state is))) e k) o h

@@ -1,0 +1,4 @@
+pub mod Faults
+pub mod Takes
+pub mod Orphans
+pub mod Clash

@@ -1,0 +1,34 @@
+// The draft of a changeset that is known, or what it lacks.
+ghost use Rattle.std.specs.Prelude.{◌≡◌, [], Some, IfOk, IfErr};
+ghost use Rattle.text_model.specs.Fault.{FaultName};
+ghost use Rattle.hg_model.specs.Revision.{Revision, Changesets, revision_of};
+ghost use Rattle.view_model.specs.View.{ChangesetView};
+ghost use Rattle.view_model.specs.Held.{IsChangesetHeld};
+ghost use Rattle.pair_known.specs.Drafts.{IsHgDraft};
+ghost use Rattle.pull_bundle.specs.Faults.{IsTakeFault, ViewLacks};
+
+use crate::fault::TakeFault;
+use bridge_text::Id;
+use hg_store::ViewFault;
+use hg_view::views_are_held;
+use pair_known::{HgDraft, Known, draft_of_changeset};
+use pull_outcome::Fault;
+use std::alloc::Global;
+
+/// The draft of a changeset that is known. ManifestUnknown comes exactly where its manifest is unknown, and FileUnknown where a line of
+/// this names a file revision that is unknown.
+pub fn draft_of(alloc: Global, known: &Known, node: &Id) -> Result<HgDraft, TakeFault>
+    requires known { (r : Revision) × (revision_of known.now.hg Changesets node.now ≡ Some r) }
+    ensures held { IfOk result (λ d. (h : ChangesetView) × IsChangesetHeld known.now.hg node.now h) }
+    ensures draft { IfOk result (λ d. (h : ChangesetView) → IsChangesetHeld known.now.hg node.now h → IsHgDraft known.now.hg d h) }
+    ensures nothing_fresh { IfOk result (λ d. d.fresh ≡ []) }
+    ensures refused { IfErr result (IsTakeFault (λ name. (r : Revision) → revision_of known.now.hg Changesets node.now ≡ Some r → ViewLacks known.now.hg r name)) }
+{
+    views_are_held(&known.hg, node);
+    match known.hg.view_of(node) {
+        Ok(_) => Ok(draft_of_changeset(alloc, known, node)?),
+        Err(ViewFault::ManifestUnknown) => Err(TakeFault::Refused(Fault::ManifestUnknown)),
+        Err(ViewFault::FileUnknown(_)) => Err(TakeFault::Refused(Fault::FileUnknown)),
+        Err(ViewFault::ChangesetUnknown) => unreachable!(),
+    }
+}

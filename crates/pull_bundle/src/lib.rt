@@ -1,0 +1,18 @@
+//! The pull of a bundle: each changeset that it brings gets its commit.
+#![tactic(auto)]
+
+mod arrivals;
+mod clash;
+mod commit;
+mod draft;
+mod fault;
+mod link;
+mod orphan;
+mod pull;
+mod read;
+mod take;
+
+pub use pull::pull_hg;
+
+#[cfg(test)]
+mod tests;

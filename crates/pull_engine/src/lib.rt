@@ -1,0 +1,6 @@
+//! Pulls of both sides: a bundle or a stream is taken into a state, and what it brings to the other side is made.
+#![tactic(auto)]
+
+pub use pull_bundle::pull_hg;
+pub use pull_outcome::{Fault, PullFault, Pulled};
+pub use pull_stream::pull_git;

@@ -1,0 +1,95 @@
+-- The draft of a commit, or why it is refused.
+use Rattle.std.proofs.Common.{◌≡◌, ◌<◌, ◌≤◌, ◌⊎◌, List, length, Option, Some, None, inl, inr, refl, sym, ap, subst, ◌∙◌}
+use Rattle.std.specs.Prelude.{option_map, IsSomeAnd}
+use Rattle.text_model.specs.Id.{Id}
+use Rattle.text_model.specs.Fault.{FaultName}
+use Rattle.text_model.specs.Fault as fault
+use Rattle.git_model.specs.Commit.{Commit}
+use Rattle.git_model.specs.Object.{Object}
+use Rattle.git_model.specs.Unfold.{WalkFault, walk_fault}
+use Rattle.git_model.proofs.OptionLemmas.{none_some, some_is}
+use Rattle.git_store.specs.Known.{IsCommitAt}
+use Rattle.git_view.proofs.Held.{commit-at}
+use Rattle.tree_shape.specs.declared.fault.TreeFault.{TreeFault}
+use Rattle.tree_shape.specs.declared.fault.TreeFault.TheVariants as tree
+use Rattle.tree_shape.specs.Faults.{IsTreeFault}
+use Rattle.view_model.specs.View.{CommitView, IsCommitView, commit_id}
+use Rattle.view_model.specs.Held.{IsCommitHeld}
+use Rattle.pair_model.specs.Block.{Block}
+use Rattle.pair_known.specs.declared.git_draft.GitDraft.{GitDraft}
+use Rattle.pair_known.specs.GitDrafts.{IsGitDraft}
+use Rattle.pair_known.proofs.HeldCommits.{held-at}
+use Rattle.pair_state.specs.declared.state.State.{State}
+use Rattle.history_model.specs.Pull.{WalkRefused, CommitRefused}
+use Rattle.pull_stream.specs.Faults.{IsNameDue, tree_refused}
+use Rattle.pull_stream.specs.Taken.{TakesCommit, IsDraftFor}
+
+-- what is known of the commits of a store
+pub record CommitLaws (known : List Object) (id : Id) : Type 0 where
+  pub held : (v : Commit) → IsCommitAt known id v → walk_fault known v.tree_id ≡ None → (c : CommitView) × IsCommitHeld known id c × (c.value ≡ v)
+  pub is_view : (c : CommitView) → IsCommitHeld known id c → walk_fault known (c.value).tree_id ≡ None → IsCommitView c
+  pub node : (c : CommitView) → IsCommitHeld known id c → commit_id c ≡ id
+
+-- ---- a walk that is refused
+
+named : (why : Option WalkFault) (name : FaultName) → option_map (λ (w : WalkFault). w.name) why ≡ Some name → IsSomeAnd why (λ w. w.name ≡ name)
+named None name h = absurd (none_some name h)
+named (Some w) name h = some_is w.name name h
+
+module _ (known : List Object) (id : Id) (v : Commit) (at : IsCommitAt known id v) where
+  walk-named : (name : FaultName) → option_map (λ (w : WalkFault). w.name) (walk_fault known v.tree_id) ≡ Some name → WalkRefused known id name
+  walk-named name h =
+      let of = commit-at known id at.content at.held in record {
+        object = of.object;
+        is_held = of.at;
+        value = v;
+        text = (at.is.0, of.content_is ∙ at.is.1);
+        fault = named (walk_fault known v.tree_id) name h;
+      }
+
+  walk-refused : (e : TreeFault) → IsTreeFault (walk_fault known v.tree_id) e → IsNameDue (WalkRefused known id) (tree_refused e)
+  walk-refused (tree.ObjectUnknown x) is = walk-named fault.ObjectUnknown (ap (option_map (λ (w : WalkFault). w.name)) is)
+  walk-refused (tree.EmptySubtree x) is = walk-named fault.EmptySubtree (ap (option_map (λ (w : WalkFault). w.name)) is)
+  walk-refused tree.PathUnfit is = walk-named fault.PathUnfit is
+  walk-refused tree.Limit is = walk-named fault.PairLimit is
+  walk-refused tree.Memory is = tt
+
+module _ (s : State) (id : Id) (blocks : List Block) where
+  due : (e : TreeFault) → IsNameDue (WalkRefused s.known.git id) (tree_refused e) → IsNameDue (CommitRefused s.known.hg s.known.git blocks id) (tree_refused e)
+  due (tree.ObjectUnknown x) is = inl is
+  due (tree.EmptySubtree x) is = inl is
+  due tree.PathUnfit is = inl is
+  due tree.Limit is = inl is
+  due tree.Memory is = tt
+
+  pub tree-refused : (e : TreeFault) → (e ≡ tree.Memory) ⊎ ((v : Commit) × IsCommitAt s.known.git id v) → ((v : Commit) → IsCommitAt s.known.git id v → IsTreeFault (walk_fault s.known.git v.tree_id) e)
+      → IsNameDue (CommitRefused s.known.hg s.known.git blocks id) (tree_refused e)
+  tree-refused e (inl is) refused = subst (λ (x : TreeFault). IsNameDue (CommitRefused s.known.hg s.known.git blocks id) (tree_refused x)) (sym is) tt
+  tree-refused e (inr at) refused = due e (walk-refused s.known.git id at.0 at.1 e (refused at.0 at.1))
+
+  -- ---- a commit with all its files
+
+  module _ (laws : CommitLaws s.known.git id) (x : Commit) (at : IsCommitAt s.known.git id x) (walks : walk_fault s.known.git x.tree_id ≡ None) where
+    pub parents-refused : 2 < length x.parents → CommitRefused s.known.hg s.known.git blocks id fault.NotPlain
+    parents-refused many =
+        let h = laws.held x at walks in
+        inr (h.0, h.1, ap (λ (v : Commit). walk_fault s.known.git v.tree_id) h.2 ∙ walks, inl (subst (λ (v : Commit). 2 < length v.parents) (sym h.2) many, refl))
+
+    pub draft-is : (d : GitDraft) → TakesCommit s id blocks → ((c : CommitView) → IsCommitHeld s.known.git id c → IsGitDraft s.known.git d c) → length x.parents ≤ 2 → (v : CommitView) × IsDraftFor s id blocks d v
+    draft-is d takes draft few =
+        let h = laws.held x at walks in
+        let on = ap (λ (v : Commit). walk_fault s.known.git v.tree_id) h.2 ∙ walks in (
+          h.0,
+          record {
+            held = h.1;
+            walks = on;
+            id_is = laws.node h.0 h.1;
+            over = record {
+              history = takes.state.held;
+              draft = draft h.0 h.1;
+              view = laws.is_view h.0 h.1 on;
+              few = subst (λ (v : Commit). length v.parents ≤ 2) (sym h.2) few;
+              parents = takes.parents (h.0).value (held-at s.known.git id h.0 h.1);
+            };
+          },
+        )

@@ -1,0 +1,8 @@
+pub mod WalkGrowth
+pub mod Growth
+pub mod Blocks
+pub mod Orders
+pub mod Drafts
+pub mod Takes
+pub mod Loop
+pub mod Pulls

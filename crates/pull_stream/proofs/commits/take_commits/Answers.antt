@@ -1,0 +1,41 @@
+use Rattle.std.proofs.Common.{◌++◌, List, [], ◌∷◌, length, take, take_all, ap, subst, arith}
+use Rattle.text_model.specs.Id.{Id}
+use Rattle.pull_stream.specs.Taken.{CommitsTaken}
+use Rattle.pull_stream.proofs.Loop.{at-place, take-at, taken-none, taken-push, takes, its-arrival, refused-is}
+use Rattle.pull_stream.proofs.commits.take_commits.Goals as goal
+
+pub loop-id-init : goal.loop-id-init
+loop-id-init c = λ m came o. ([], taken-none c.args.state m o.ready.state)
+
+pub take_commit-requires : goal.take_commit-requires
+take_commit-requires c =
+    let order = c.requires.order in
+    let at = at-place c.args.ordered.now c.as_slice-id-items.result.now c.loop-id.id-index c.id-item.result c.as_slice-id-items.ensures c.loop-id-test.true c.id-item.is in
+    let so_far = c.loop-id.invariant order.0 order.1 order.2 in
+    record { commit = (order.0.blocks ++ so_far.0, takes c.args.state c.args.came.now c.args.ordered.now order.0 order.1 order.2 c.loop-id.id-index c.id-item.result at.0 at.1 c.loop-id.next so_far.0 so_far.1) }
+
+pub refused_at-requires : goal.refused_at-requires
+refused_at-requires c =
+    let order = c.requires.order in
+    let at = at-place c.args.ordered.now c.as_slice-id-items.result.now c.loop-id.id-index c.id-item.result c.as_slice-id-items.ensures c.loop-id-test.true c.id-item.is in
+    its-arrival c.args.state c.args.came.now c.args.ordered.now order.0 order.1 order.2 c.loop-id.id-index c.id-item.result at.0 at.1
+
+pub loop-id-preserved : goal.loop-id-preserved
+loop-id-preserved c = λ m came o.
+    let at = at-place c.args.ordered.now c.as_slice-id-items.result.now c.loop-id.id-index c.id-item.result c.as_slice-id-items.ensures c.loop-id-test.true c.id-item.is in
+    let so_far = c.loop-id.invariant m came o in
+    let one = c.in-Ok.ensures.ok (m.blocks ++ so_far.0) (takes c.args.state c.args.came.now c.args.ordered.now m came o c.loop-id.id-index c.id-item.result at.0 at.1 c.loop-id.next so_far.0 so_far.1) in
+    let all = taken-push c.args.state c.loop-id.next c.in-Ok.taken m.blocks (take c.loop-id.id-index c.args.ordered.now) so_far.0 c.id-item.result one.0 so_far.1 one.1 in
+    (so_far.0 ++ one.0 ∷ [], subst (λ (ids : List Id). CommitsTaken c.args.state c.in-Ok.taken m.blocks ids (so_far.0 ++ one.0 ∷ [])) (take-at c.args.ordered.now c.loop-id.id-index c.id-item.result at.0 at.1) all)
+
+pub returns-in-Err-clause-refused : goal.returns-in-Err-clause-refused
+returns-in-Err-clause-refused c = λ m came o.
+    let at = at-place c.args.ordered.now c.as_slice-id-items.result.now c.loop-id.id-index c.id-item.result c.as_slice-id-items.ensures c.loop-id-test.true c.id-item.is in
+    let so_far = c.loop-id.invariant m came o in
+    let due = c.in-Err.ensures.refused (m.blocks ++ so_far.0) (takes c.args.state c.args.came.now c.args.ordered.now m came o c.loop-id.id-index c.id-item.result at.0 at.1 c.loop-id.next so_far.0 so_far.1) in
+    refused-is c.args.state c.args.came.now c.args.ordered.now m came o c.loop-id.id-index c.id-item.result at.0 at.1 c.loop-id.next so_far.0 so_far.1 c.in-Err.fault c.refused_at.result due c.refused_at.ensures
+
+pub returns-clause-ok : goal.returns-clause-ok
+returns-clause-ok c = λ m came o.
+    let so_far = c.loop-id.invariant m came o in
+    (so_far.0, subst (λ (ids : List Id). CommitsTaken c.args.state c.loop-id.next m.blocks ids so_far.0) (take_all c.loop-id.id-index c.args.ordered.now (omega (arith, ap length c.as_slice-id-items.ensures, c.loop-id-test.false))) so_far.1)

@@ -1,0 +1,26 @@
+use Rattle.std.proofs.Common.{◌≡◌, List, Result, Ok, Err, IfOk, IfErr}
+use Rattle.text_model.specs.Id.{Id, has_id}
+use Rattle.git_model.specs.Order.{Ancestry, IsOrder}
+use Rattle.git_order.specs.declared.fault.OrderFault.{OrderFault}
+use Rattle.git_order.specs.declared.fault.OrderFault.TheVariants.{ParentUnknown, Memory}
+use Rattle.git_order.specs.Ancestry.{ancestries}
+use Rattle.git_order.specs.Faults.{IsOrderFault}
+use Rattle.pull_stream.proofs.Orders.{order-same, stuck-same}
+use Rattle.pull_stream.proofs.ordering.order_over.Goals as goal
+
+module _ (rows : List Ancestry) (a b : List Id) (same : (id : Id) → has_id a id ≡ has_id b id) where
+  ordered : (r : Result (List Id) OrderFault) → IfOk r (IsOrder rows a) → IfOk r (IsOrder rows b)
+  ordered (Ok ids) h = order-same rows a b same ids h
+  ordered (Err e) h = tt
+
+  refused : (r : Result (List Id) OrderFault) → IfErr r (IsOrderFault rows a) → IfErr r (IsOrderFault rows b)
+  refused (Ok ids) h = tt
+  refused (Err (ParentUnknown id)) h = stuck-same rows a b same id h
+  refused (Err Memory) h = tt
+
+pub returns : goal.returns
+returns c =
+    let rows = ancestries c.args.store.now c.args.commits.now in record {
+      order = ordered rows c.in_ok-saved.saved c.args.ids.now c.in_ok-saved.ensures c.order.result c.order.ensures.order;
+      fault = refused rows c.in_ok-saved.saved c.args.ids.now c.in_ok-saved.ensures c.order.result c.order.ensures.fault;
+    }

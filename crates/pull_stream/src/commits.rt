@@ -1,0 +1,56 @@
+// The commits of a stream, one after the other.
+ghost use Rattle.std.specs.Prelude.{◌≡◌, ℕ, List, Some, IfOk, IfErr};
+ghost use Rattle.git_model.specs.Stream.{Placed};
+ghost use Rattle.pair_model.specs.Block.{Block};
+ghost use Rattle.history_model.specs.Pull as model;
+ghost use Rattle.history_model.specs.Pull.{IsCommitRefusal};
+ghost use Rattle.pull_stream.specs.Faults.{IsJudgement, placed_fault};
+ghost use Rattle.pull_stream.specs.Ready.{IsInOrder, place_among};
+ghost use Rattle.pull_stream.specs.Taken.{CommitsTaken};
+
+use crate::fault::TakeFault;
+use crate::place::first_place;
+use crate::take::take_commit;
+use bridge_text::{Id, IdList};
+use git_stream::ObjectArrivals;
+use pair_state::State;
+use pull_outcome::PullFault;
+use std::alloc::Global;
+
+/// Takes the commits of a stream in their order, each over the blocks before it. The fault is that of the first that is refused.
+pub fn take_commits(
+    alloc: Global,
+    state: State,
+    came: &ObjectArrivals,
+    ordered: &IdList,
+) -> Result<State, PullFault>
+    requires order { (m : model.State) × (placed : List Placed) × IsInOrder state came.now ordered.now m placed }
+    ensures ok { IfOk result (λ next. (m : model.State) (placed : List Placed) → IsInOrder state came.now ordered.now m placed
+        → (new : List Block) × CommitsTaken state next m.blocks ordered.now new) }
+    ensures refused { IfErr result (λ fault. (m : model.State) (placed : List Placed) → IsInOrder state came.now ordered.now m placed
+        → IsJudgement (IsCommitRefusal m placed ordered.now) fault) }
+{
+    let mut next = state;
+    for id in ordered.as_slice() {
+        next = match take_commit(alloc, next, id) {
+            Ok(taken) => taken,
+            Err(fault) => return Err(refused_at(came, id, fault)),
+        };
+    }
+    Ok(next)
+}
+
+// The fault of a commit that came, with its place.
+fn refused_at(came: &ObjectArrivals, id: &Id, fault: TakeFault) -> PullFault
+    requires { (at : ℕ) × (place_among came.now id.now ≡ Some at) }
+    ensures { (at : ℕ) → place_among came.now id.now ≡ Some at → result ≡ placed_fault id.now at fault }
+{
+    match fault {
+        TakeFault::Refused(fault) => PullFault::Refused {
+            fault,
+            id: *id,
+            at: first_place(came, id).unwrap(),
+        },
+        TakeFault::Memory => PullFault::Memory,
+    }
+}

@@ -1,0 +1,15 @@
+//! The pull of a stream of objects: each commit that it brings gets its changeset.
+#![tactic(auto)]
+
+mod commits;
+mod fault;
+mod objects;
+mod ordering;
+mod place;
+mod pull;
+mod take;
+
+pub use pull::pull_git;
+
+#[cfg(test)]
+mod tests;

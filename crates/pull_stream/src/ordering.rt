@@ -1,0 +1,92 @@
+// The order of the commits of a stream over a state.
+ghost use Rattle.std.specs.Prelude.{◌≡◌, List, IfOk, IfErr};
+ghost use Rattle.text_model.specs.Id.{has_id};
+ghost use Rattle.text_model.specs.Id as text;
+ghost use Rattle.git_model.specs.Stream.{Placed};
+ghost use Rattle.git_model.specs.Order.{IsOrder};
+ghost use Rattle.git_order.specs.Ancestry.{ancestries as rows};
+ghost use Rattle.git_order.specs.Faults.{IsOrderFault};
+ghost use Rattle.history_model.specs.Pull as model;
+ghost use Rattle.pull_stream.specs.Faults.{IsJudgement};
+ghost use Rattle.pull_stream.specs.Ready.{IsReady, IsInOrder, LacksParent, HasPlace, IsOrderRefusal, commits_among};
+
+use crate::place::first_place;
+use bridge_text::{Id, IdList, IdSet, Kind, NoMemory};
+use git_order::OrderFault;
+use git_store::GitStore;
+use git_stream::ObjectArrivals;
+use pair_state::State;
+use pull_outcome::{Fault, PullFault};
+use std::alloc::Global;
+
+/// The order in which the new commits of a stream are taken. ParentUnknown comes exactly where one of them is never reached.
+pub fn order_commits(
+    alloc: Global,
+    state: &State,
+    came: &ObjectArrivals,
+) -> Result<IdList, PullFault>
+    requires ready { (m : model.State) × (placed : List Placed) × IsReady state.now came.now m placed }
+    ensures order { IfOk result (λ ordered. (m : model.State) (placed : List Placed) → IsReady state.now came.now m placed
+        → IsInOrder state.now came.now ordered m placed) }
+    ensures stuck { IfErr result (λ fault. (m : model.State) (placed : List Placed) → IsReady state.now came.now m placed
+        → IsJudgement (LacksParent m placed) fault) }
+{
+    let commits = commit_ids(alloc, came)?;
+    match order_over(alloc, &state.known.git, &commits, &state.ids) {
+        Ok(ordered) => Ok(ordered),
+        Err(fault) => Err(refusal_of(came, fault)),
+    }
+}
+
+// The order of commits over those whose ids are saved.
+fn order_over(
+    alloc: Global,
+    store: &GitStore,
+    commits: &IdList,
+    ids: &IdList,
+) -> Result<IdList, OrderFault>
+    ensures order { IfOk result (IsOrder (rows store.now commits.now) ids.now) }
+    ensures fault { IfErr result (IsOrderFault (rows store.now commits.now) ids.now) }
+{
+    let saved = set_of(alloc, ids)?;
+    git_order::order(alloc, store, commits, &saved)
+}
+
+// The refusal of a commit that came and whose parents lack.
+fn refusal_of(came: &ObjectArrivals, fault: OrderFault) -> PullFault
+    requires { HasPlace came.now fault }
+    ensures { IsOrderRefusal came.now fault result }
+{
+    match fault {
+        OrderFault::ParentUnknown(id) => PullFault::Refused {
+            fault: Fault::ParentUnknown,
+            id,
+            at: first_place(came, &id).unwrap(),
+        },
+        OrderFault::Memory => PullFault::Memory,
+    }
+}
+
+// The ids of the commits that came.
+fn commit_ids(alloc: Global, came: &ObjectArrivals) -> Result<IdList, NoMemory>
+    ensures { IfOk result (λ ids. ids ≡ commits_among came.now) }
+{
+    let mut ids = IdList::new(alloc);
+    for item in came.as_slice() {
+        if item.kind == Kind::Commit {
+            ids.push(item.id)?;
+        }
+    }
+    Ok(ids)
+}
+
+// The ids of a list as a set.
+fn set_of(alloc: Global, ids: &IdList) -> Result<IdSet, NoMemory>
+    ensures { IfOk result (λ found. (id : text.Id) → has_id found id ≡ has_id ids.now id) }
+{
+    let mut found = IdSet::new(alloc);
+    for id in ids.as_slice() {
+        found.insert(*id)?;
+    }
+    Ok(found)
+}
