@@ -9,7 +9,8 @@ use Rattle.hg_model.specs.Reading as reading
 use Rattle.hg_model.specs.Reading.{bundle_reading}
 use Rattle.git_model.specs.Stream.{Placed, stream_reading}
 use Rattle.git_model.specs.Object.{Object}
-use Rattle.history_model.specs.Command.{CheckHg, CheckGit, Written, is_changesets, is_manifests, is_files, revision_counts, object_counts, written_of, outcome_of}
+use Rattle.history_model.specs.Command.{CheckHg, CheckGit, Written, is_manifests, is_files, revision_counts, object_counts, written_of, ComesTo}
+use Rattle.history_model.specs.Pull.{is_changesets}
 use Rattle.hg_bundle.specs.declared.arrival.Arrival.{Arrival}
 use Rattle.git_stream.specs.declared.arrival.ObjectArrival.{ObjectArrival}
 use Rattle.hg_bundle.specs.declared.arrival.RevKind.TheVariants.{Changeset, Manifest, File}
@@ -55,7 +56,7 @@ counts-objects objects = rw (counts commit objects, counts tree objects, counts 
 
 -- what a bundle brings to no revisions is counted
 pub bundle_told : (input : Option Bytes) (known : List Revision) (read : List Revision × List Arrival) (lines : Bytes) → known ≡ []
-    → IfSome input (λ bytes. bundle.Reads known bytes (Ok read)) → lines ≡ arrival_counts read.1 → IfSome input (λ bytes. outcome_of CheckHg bytes ≡ Written lines)
+    → IfSome input (λ bytes. bundle.Reads known bytes (Ok read)) → lines ≡ arrival_counts read.1 → IfSome input (λ bytes. ComesTo CheckHg bytes (Written lines))
 bundle_told None known read lines none reads made = tt
 bundle_told (Some bytes) known read lines none (arrivals, is, listed, stored) made =
     let from_none = subst (λ (k : List Revision). bundle_reading k bytes ≡ Ok arrivals) none is in
@@ -63,7 +64,7 @@ bundle_told (Some bytes) known read lines none (arrivals, is, listed, stored) ma
 
 -- what a stream brings to no objects is counted
 pub stream_told : (input : Option Bytes) (known : List Object) (read : List Object × List ObjectArrival) (lines : Bytes) → known ≡ []
-    → IfSome input (λ bytes. stream.Reads known bytes (Ok read)) → lines ≡ stream_counts read.1 → IfSome input (λ bytes. outcome_of CheckGit bytes ≡ Written lines)
+    → IfSome input (λ bytes. stream.Reads known bytes (Ok read)) → lines ≡ stream_counts read.1 → IfSome input (λ bytes. ComesTo CheckGit bytes (Written lines))
 stream_told None known read lines none reads made = tt
 stream_told (Some bytes) known read lines none (objects, is, listed, stored) made =
     let from_none = subst (λ (k : List Object). stream_reading k bytes ≡ Ok objects) none is in

@@ -6,7 +6,7 @@ use Rattle.text_model.specs.Fault.{Refusal, input_limit}
 use Rattle.git_model.specs.Stream.{Placed, stream_framing, stream_listing, stream_reading}
 use Rattle.git_model.proofs.StreamAgain.{stream_again}
 use Rattle.git_model.proofs.StreamTakes.{stream_takes}
-use Rattle.history_model.specs.Command.{ListGit, CheckGit, Written, Refused, written_unless, written_of, object_counts, outcome_of}
+use Rattle.history_model.specs.Command.{ListGit, CheckGit, Written, Refused, written_unless, written_of, object_counts, ComesTo}
 use Rattle.git_stream.proofs.StreamLaws.{brings_all, brings_only}
 use Rattle.bridge_cli.specs.Format.{ListsStream, IsNoStream, CountsStream, IsNoSoundStream}
 
@@ -16,7 +16,7 @@ same_output a b e = cc
 not_both : (output : Bytes) (why : Refusal) → Written output ≡ Refused why → ⊥
 not_both output why e = cc
 
-pub listed : (bytes output : Bytes) → outcome_of ListGit bytes ≡ Written output → ListsStream bytes output
+pub listed : (bytes output : Bytes) → ComesTo ListGit bytes (Written output) → ListsStream bytes output
 listed bytes output e = by (stream_framing bytes).bad refl
   where
     lines : Bytes
@@ -30,14 +30,14 @@ listed bytes output e = by (stream_framing bytes).bad refl
     }
     by (Some why) is = absurd (not_both output why (sym e ∙ ap (λ (x : Option Refusal). written_unless x lines) is))
 
-pub unlisted : (bytes : Bytes) (why : Refusal) → outcome_of ListGit bytes ≡ Refused why → IsNoStream bytes
+pub unlisted : (bytes : Bytes) (why : Refusal) → ComesTo ListGit bytes (Refused why) → IsNoStream bytes
 unlisted bytes why e objects fits =
     let whole = stream_again objects fits.fit (subst (λ (x : Bytes). length x ≤ input_limit) fits.is fits.fits) in
     let good : (stream_framing bytes).bad ≡ None = ap (λ (x : Bytes). (stream_framing x).bad) fits.is ∙ whole.all in
     let lines = stream_listing (stream_framing bytes).objects in
     not_both lines why (sym (ap (λ (x : Option Refusal). written_unless x lines) good) ∙ e)
 
-pub checked : (bytes output : Bytes) → outcome_of CheckGit bytes ≡ Written output → CountsStream bytes output
+pub checked : (bytes output : Bytes) → ComesTo CheckGit bytes (Written output) → CountsStream bytes output
 checked bytes output e = by (stream_reading [] bytes) refl
   where
     by : (read : Result (List Placed) Refusal) → stream_reading [] bytes ≡ read → CountsStream bytes output
@@ -50,7 +50,7 @@ checked bytes output e = by (stream_reading [] bytes) refl
         }
     by (Err why) is = absurd (not_both output why (sym e ∙ ap (written_of object_counts) is))
 
-pub unchecked : (bytes : Bytes) (why : Refusal) → outcome_of CheckGit bytes ≡ Refused why → IsNoSoundStream bytes
+pub unchecked : (bytes : Bytes) (why : Refusal) → ComesTo CheckGit bytes (Refused why) → IsNoSoundStream bytes
 unchecked bytes why e objects sound =
     let fits = sound.is in
     let all = brings_all [] objects fits.fit (subst (λ (x : Bytes). length x ≤ input_limit) fits.is fits.fits) sound.checked sound.added in

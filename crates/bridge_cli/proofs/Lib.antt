@@ -1,2 +1,3 @@
 mod CountLemmas
 mod FormatLemmas
+pub mod PullLemmas

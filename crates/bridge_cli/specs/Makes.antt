@@ -5,14 +5,14 @@ use Rattle.std.specs.Io.KnownBytes.{IsAtEnd}
 use Rattle.text_model.specs.Text.{Bytes}
 use Rattle.hg_model.specs.Bundle.{ListsBundle, IsNoBundle}
 use Rattle.bridge_io.specs.Causes.{Rose}
-use Rattle.history_model.specs.Command.{Command, Written, Refused, outcome_of}
+use Rattle.history_model.specs.Command.{Command, Written, Refused, ComesTo}
 use Rattle.bridge_cli.specs.Report.{refusal_value}
 use Rattle.bridge_cli.specs.declared.report.Report.{Report}
 use Rattle.bridge_cli.specs.declared.report.Report.TheVariants as code
 
 -- how a run ends of which nothing is written, where the input tells its bytes
 abbrev pub IsEndOf : Command → Option Bytes → Report → Type 0
-IsEndOf command input (code.Refused why) = IfSome input (λ bytes. outcome_of command bytes ≡ Refused (refusal_value why))
+IsEndOf command input (code.Refused why) = IfSome input (λ bytes. ComesTo command bytes (Refused (refusal_value why)))
 IsEndOf command input code.ReadFault = ⊤
 IsEndOf command input code.Memory = ⊤
 IsEndOf command input report = ⊥
@@ -20,7 +20,7 @@ IsEndOf command input report = ⊥
 -- the output is what the command comes to, with the input read to its end
 abbrev pub Makes : Command → Option Bytes → Option Bytes → Result (Vec ℕ) Report → Type 0
 Makes command input rest result = MatchResult result
-    (λ output. IsAtEnd rest × IfSome input (λ bytes. outcome_of command bytes ≡ Written output.items))
+    (λ output. IsAtEnd rest × IfSome input (λ bytes. ComesTo command bytes (Written output.items)))
     (IsEndOf command input)
 
 -- bytes that are refused are no bundle that this program reads

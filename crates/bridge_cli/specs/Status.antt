@@ -5,13 +5,15 @@ use Rattle.history_model.specs.Run as report
 use Rattle.bridge_cli.specs.declared.status.Status.{Status}
 use Rattle.bridge_cli.specs.declared.status.Status.TheVariants.{Done, Refused, Usage, ReadFault, WriteFault, SlotFault, StateBad, Memory, Mismatch}
 use Rattle.bridge_cli.specs.declared.words.Command.{Command}
-use Rattle.bridge_cli.specs.declared.words.Command.TheVariants.{ListHg, CheckHg, ListGit, CheckGit}
+use Rattle.bridge_cli.specs.declared.words.Command.TheVariants.{ListHg, CheckHg, ListGit, CheckGit, PullHg, PullGit}
 
 abbrev pub command_value : Command → command.Command
 command_value ListHg = command.ListHg
 command_value CheckHg = command.CheckHg
 command_value ListGit = command.ListGit
 command_value CheckGit = command.CheckGit
+command_value PullHg = command.PullHg
+command_value PullGit = command.PullGit
 
 -- the exit status of the program
 abbrev pub code_of : Status → ℕ

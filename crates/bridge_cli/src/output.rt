@@ -10,6 +10,8 @@ use crate::words::Command;
 use bridge_io::Source;
 use git_store::GitStore;
 use hg_store::HgStore;
+use pair_state::State;
+use pull_engine::{pull_git, pull_hg};
 use std::alloc::Global;
 
 /// The output of a command over an input, which is read to its end; or how the run ends without one.
@@ -27,6 +29,8 @@ pub fn output_of<I: Source>(
         Command::CheckHg => bundle_counts(alloc, input),
         Command::ListGit => stream_lines(alloc, input),
         Command::CheckGit => stream_counts(alloc, input),
+        Command::PullHg => commits_of_bundle(alloc, input),
+        Command::PullGit => changesets_of_stream(alloc, input),
     }
 }
 
@@ -73,6 +77,28 @@ fn stream_counts<I: Source>(alloc: Global, input: &mut I) -> Result<Vec<u8>, Rep
 {
     match git_stream::read_into(alloc, input, GitStore::new(alloc)) {
         Ok((_, arrivals)) => Ok(object_counts(alloc, &arrivals)?),
+        Err(fault) => Err(Report::from(fault)),
+    }
+}
+
+// The objects of the commits of a bundle's changesets.
+fn commits_of_bundle<I: Source>(alloc: Global, input: &mut I) -> Result<Vec<u8>, Report>
+    ensures makes { Makes model.PullHg (I.left input.old) (I.left input.new) result }
+    ensures input { LeavesCount (I.faults input.old) (I.faults input.new) result }
+{
+    match pull_hg(alloc, State::empty(alloc), input) {
+        Ok(pulled) => Ok(pulled.made),
+        Err(fault) => Err(Report::from(fault)),
+    }
+}
+
+// The bundle of the changesets of a stream's commits.
+fn changesets_of_stream<I: Source>(alloc: Global, input: &mut I) -> Result<Vec<u8>, Report>
+    ensures makes { Makes model.PullGit (I.left input.old) (I.left input.new) result }
+    ensures input { LeavesCount (I.faults input.old) (I.faults input.new) result }
+{
+    match pull_git(alloc, State::empty(alloc), input) {
+        Ok(pulled) => Ok(pulled.made),
         Err(fault) => Err(Report::from(fault)),
     }
 }

@@ -18,6 +18,10 @@ pub enum Command {
     ListGit,
     /// Check a stream and count its objects.
     CheckGit,
+    /// Take a bundle into the state, and write the objects of its commits.
+    PullHg,
+    /// Take a stream into the state, and write the bundle of its changesets.
+    PullGit,
 }
 
 /// The words of a command line, after the program's name.
@@ -80,6 +84,12 @@ fn command_named(word: &[u8]) -> Option<Command>
     }
     if b"check-git".as_slice() == word {
         return Some(Command::CheckGit);
+    }
+    if b"pull-hg".as_slice() == word {
+        return Some(Command::PullHg);
+    }
+    if b"pull-git".as_slice() == word {
+        return Some(Command::PullGit);
     }
     None
 }

@@ -8,6 +8,8 @@ mod inputs;
 #[cfg(test)]
 mod outside;
 #[cfg(test)]
+mod pulls;
+#[cfg(test)]
 mod run_over;
 #[cfg(test)]
 mod streams;
