@@ -1,4 +1,5 @@
-"""A Mercurial extension: commits a history of many shapes in one process, and lists all revisions of a repository."""
+"""A Mercurial extension: commits histories of many shapes in one process, and lists all revisions of a repository and all its files."""
+import hashlib
 import random
 
 from mercurial import context, registrar
@@ -8,6 +9,7 @@ command = registrar.command(cmdtable)
 
 ODD_NAMES = [b'a name with blanks', b'100%.txt', b'back\\slash', b'caf\xc3\xa9', b'latin-\xe9', b'~tilde', b'UPPER']
 USERS = [b'Ann <ann@x>', b'bob', b'carl@x', b'd<e>f', b'Zo\xc3\xab <zoe@x>']
+PLAIN_USERS = [b'Ann <ann@x>', b'bob', b'carl@x', b'Zo\xc3\xab <zoe@x>']
 ZONES = [0, 3600, -19800, 43200]
 TIPS = 4
 
@@ -33,6 +35,8 @@ class Tip:
 
 
 class History:
+    users = USERS
+
     def __init__(self, repo, seed):
         self.repo = repo
         self.random = random.Random(seed)
@@ -97,7 +101,7 @@ class History:
         elif what == 3:
             files[b'dir%d/sub/new%d' % (self.random.randrange(5), self.count)] = self.new_file()
         elif what == 4:
-            files[path] = self.new_file()
+            files[path] = self.replaced(files[path])
         else:
             files[path] = File(self.edited(files[path].data), files[path].flag)
 
@@ -106,6 +110,9 @@ class History:
         files[target] = File(files[path].data, files[path].flag, path)
         if not keeps:
             del files[path]
+
+    def replaced(self, file):
+        return self.new_file()
 
     def new_file(self):
         kind = self.random.randrange(12)
@@ -145,7 +152,7 @@ class History:
         parents = (parents + [self.repo.nullid] * 2)[:2]
         changeset = context.memctx(
             self.repo, parents, self.description(), sorted(changed), content,
-            self.random.choice(USERS), b'%d %d' % (1000 * self.count, self.random.choice(ZONES)), self.extra())
+            self.random.choice(self.users), b'%d %d' % (1000 * self.count, self.random.choice(ZONES)), self.extra())
         return self.repo.commitctx(changeset)
 
     def description(self):
@@ -157,13 +164,77 @@ class History:
         return {b'branch': b'stable', b'note': b'colon: newline\nbackslash\\ end'}
 
 
+class PlainHistory(History):
+    """A history of which Git keeps all: no copies, no extras, no user that Git can't hold, no merge of a file with one it comes from."""
+    users = PLAIN_USERS
+
+    def move(self, files, path, keeps):
+        files[b'moved/from%d-%d' % (self.count, self.random.randrange(1000))] = File(files[path].data + b'.', files[path].flag)
+        if not keeps:
+            del files[path]
+
+    def replaced(self, file):
+        """Another content: hg lists a file of a merge whose flag differs from the first parent's, though it is as in the second."""
+        return File(self.new_file().data, file.flag)
+
+    def extra(self):
+        return {}
+
+    def commit_merge(self):
+        first, second = self.random.sample(self.tips, 2)
+        if first.node == second.node:
+            return self.commit_change(first)
+        files = dict(first.files)
+        for path in sorted(second.files):
+            if path not in files:
+                files[path] = second.files[path]
+            elif not files[path].same(second.files[path]):
+                files[path] = self.of_both(path, first, second)
+        node = self.commit([first.node, second.node], first.files, files)
+        first.node, first.files = node, files
+        self.tips.remove(second)
+
+    def of_both(self, path, first, second):
+        """The file of the side that comes from the other's, or where neither does a new one."""
+        ours, theirs = first.files[path], second.files[path]
+        nodes = [self.repo[tip.node].filenode(path) for tip in (first, second)]
+        common = self.repo.file(path).commonancestorsheads(*nodes)
+        if common == [nodes[1]]:
+            return ours
+        if common == [nodes[0]]:
+            return theirs
+        return File(ours.data + theirs.data[:200] + b'%d' % self.count, ours.flag)
+
+
 @command(b'commit-history', [], b'COUNT SEED')
 def commit_history(ui, repo, count, seed):
     """commit COUNT changesets"""
+    commit_all(repo, History(repo, int(seed)), int(count))
+
+
+@command(b'commit-plain-history', [], b'COUNT SEED')
+def commit_plain_history(ui, repo, count, seed):
+    """commit COUNT changesets of which Git keeps all"""
+    commit_all(repo, PlainHistory(repo, int(seed)), int(count))
+
+
+def commit_all(repo, history, count):
     with repo.wlock(), repo.lock(), repo.transaction(b'commit-history'):
-        history = History(repo, int(seed))
-        while len(repo.changelog) < int(count):
+        while len(repo.changelog) < count:
             history.commit_next()
+
+
+@command(b'list-files', [], b'')
+def list_files(ui, repo):
+    """list the files of all changesets: node, path in hex, flag or `-`, and the id that the content has in Git"""
+    ids = {}
+    for rev in repo:
+        ctx = repo[rev]
+        for path, node, flag in sorted(ctx.manifest().iterentries()):
+            if (path, node) not in ids:
+                data = repo.file(path).read(node)
+                ids[path, node] = hashlib.sha1(b'blob %d\0' % len(data) + data).hexdigest().encode()
+            ui.write(b'%s %s %s %s\n' % (ctx.hex(), path.hex().encode(), flag or b'-', ids[path, node]))
 
 
 @command(b'list-revisions', [], b'')
