@@ -282,3 +282,7 @@ pub each_get : {X : Type 0} (P : X → Type 0) (xs : List X) (i : ℕ) (x : X) �
 each_get P [] i x at h = absurd (none_some at)
 each_get P (y ∷ xs) zero x at h = subst P (some_is at) h.0
 each_get P (y ∷ xs) (suc i) x at h = each_get P xs i x at h.1
+
+-- a revision that has a blob is known
+pub blob-known : (known : List Revision) (path : Bytes) (e : ManifestEntry) (blob : Id) → path ≡ e.path → IsFileBlob known path e.node blob → is_unknown known e ≡ false
+blob-known known path e blob is b = ap (λ (o : Option Revision). not (is_some o)) ((λ i. revision_of known (FilesAt (sym is i)) e.node) ∙ b.is_held)

@@ -4,3 +4,4 @@ pub mod SearchLemmas
 pub mod FreshLemmas
 pub mod Rising
 pub mod HeldCommits
+pub mod CursorLemmas

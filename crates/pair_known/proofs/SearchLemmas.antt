@@ -35,14 +35,14 @@ index_rises a b p below = by (slice_cmp nat_cmp a p) refl
 
 -- ---- paths that rise
 
-other_path : (a p : Bytes) → a ≢ p → bytes_eq a p ≡ false
+pub other_path : (a p : Bytes) → a ≢ p → bytes_eq a p ≡ false
 other_path a p h = by (bytes_eq a p) refl
   where
     by : (t : Bool) → bytes_eq a p ≡ t → bytes_eq a p ≡ false
     by true e = absurd (h ((bytes_eq-Decides a p).0 e))
     by false e = e
 
-apart : (a b : Bytes) → is_below a b ≡ true → a ≢ b
+pub apart : (a b : Bytes) → is_below a b ≡ true → a ≢ b
 apart a b below same = false≢true (sym (is_below-irreflexive b) ∙ ap (λ (x : Bytes). is_below x b) (sym same) ∙ below)
 
 equal_self : (p : Bytes) → slice_cmp nat_cmp p p ≡ Equal

@@ -1,13 +1,19 @@
 -- What drafts stand for, where a store holds what they don't bring themselves.
-use Rattle.std.specs.Prelude.{◌≡◌, List, ◌++◌, map}
+use Rattle.std.specs.Prelude.{◌≡◌, ℕ, List, ◌++◌, map, Option, Some, ⊤}
 use Rattle.text_model.specs.Lists.{Each}
 use Rattle.hg_model.specs.Revision.{Revision}
+use Rattle.text_model.specs.Id.{Id}
 use Rattle.hg_changeset.specs.Values.{changeset_value}
+use Rattle.hg_store.specs.Views.{IsView, IsViewFault}
+use Rattle.hg_store.specs.declared.view.View.{View}
+use Rattle.hg_store.specs.declared.fault.ViewFault.TheVariants.{ChangesetUnknown, ManifestUnknown, FileUnknown}
 use Rattle.view_model.specs.View.{ChangesetView}
 use Rattle.view_model.specs.Held.{IsFileHeld}
 use Rattle.pair_known.specs.Rows.{row_value}
 use Rattle.mark_code.specs.Values.{manifest_value}
 use Rattle.pair_known.specs.declared.hg_draft.HgDraft.{HgDraft}
+use Rattle.pair_known.specs.declared.draft_fault.DraftFault.{DraftFault}
+use Rattle.pair_known.specs.declared.draft_fault.DraftFault.TheVariants.{Unknown, Memory}
 
 -- the changeset has these fields and these files; each file revision is one that the draft brings, or else is held
 pub record IsHgDraft (known : List Revision) (d : HgDraft) (h : ChangesetView) : Type 0 where
@@ -16,3 +22,19 @@ pub record IsHgDraft (known : List Revision) (d : HgDraft) (h : ChangesetView) :
   pub manifest : h.manifest ≡ manifest_value d.manifest
   pub rows : d.rows ≡ map row_value h.rows
   pub files : Each (IsFileHeld (d.fresh ++ known)) h.rows
+
+-- the changeset, its manifest and the file revisions that this names are known
+abbrev pub HasView : List Revision → Id → Type 0
+HasView known node = (v : View) × IsView known node v
+
+-- why a changeset has no draft
+abbrev pub IsDraftFault : List Revision → Id → DraftFault → Type 0
+IsDraftFault known node (Unknown fault) = IsViewFault known node fault
+IsDraftFault known node Memory = ⊤
+
+-- the fault names the first line whose file revision is unknown, or memory ran out
+abbrev pub IsLineFault : Option ℕ → DraftFault → Type 0
+IsLineFault first (Unknown ChangesetUnknown) = ⊥
+IsLineFault first (Unknown ManifestUnknown) = ⊥
+IsLineFault first (Unknown (FileUnknown line)) = first ≡ Some line
+IsLineFault first Memory = ⊤

@@ -1,21 +1,24 @@
-ghost use Rattle.std.specs.Prelude.{◌≡◌, ◌==◌, ◌<◌, ◌++◌, [], ◌∷◌, List, length, map, slice_get, Some, OnOk, OnErr, IfOk, IsTrue};
+ghost use Rattle.std.specs.Prelude.{◌≡◌, [], List, map, None, OnOk, IfOk, IfErr};
 ghost use Rattle.text_model.specs.Lists.{Each};
-ghost use Rattle.hg_model.specs.Revision.{FilesAt, knows};
+ghost use Rattle.text_model.specs.Id as model;
+ghost use Rattle.hg_model.specs.Changeset as fields;
 ghost use Rattle.hg_changeset.specs.Values.{changeset_value};
-ghost use Rattle.hg_manifest.specs.Values.{manifest_entry};
+ghost use Rattle.hg_manifest.specs.Values.{file_flag};
+ghost use Rattle.hg_store.specs.Views.{IsChangesetOf, first_unknown};
 ghost use Rattle.view_model.specs.View.{ChangesetView, ManifestParents, Row, entry_of_row};
 ghost use Rattle.view_model.specs.Held.{IsChangesetHeld, IsManifestHeld, IsFileHeld};
 ghost use Rattle.pair_known.specs.Rows.{row_value};
 ghost use Rattle.mark_code.specs.Values.{manifest_value};
-ghost use Rattle.pair_known.specs.Drafts.{IsHgDraft};
+ghost use Rattle.pair_known.specs.Drafts.{HasView, IsHgDraft, IsDraftFault, IsLineFault};
 
+use crate::draft_fault::DraftFault;
 use crate::fresh_files::FreshFiles;
 use crate::hg_row::{HgRow, HgRows};
 use crate::known::Known;
 use bridge_text::{Bytes, Id, NoMemory};
 use hg_changeset::{Changeset, ChangesetFault};
 use hg_manifest::{Entry, Manifest};
-use hg_store::HgStore;
+use hg_store::{HgStore, ViewFault};
 use mark_code::ManifestRev;
 use std::alloc::Global;
 
@@ -36,33 +39,55 @@ pub struct HgDraft {
     pub fresh: FreshFiles,
 }
 
-/// The draft of a changeset that is held: its node has a view. No body is copied, and nothing is hashed.
-pub fn draft_of_changeset(alloc: Global, known: &Known, node: &Id) -> Result<HgDraft, NoMemory>
-    requires held { (h : ChangesetView) × IsChangesetHeld known.now.hg node.now h }
+/// The draft of a changeset, or why the node has no view: ChangesetUnknown, ManifestUnknown or FileUnknown, each exactly where `HgStore::view_of`
+/// says. Each file revision is looked up once; no body is copied, and nothing is hashed.
+pub fn draft_of_changeset(alloc: Global, known: &Known, node: &Id) -> Result<HgDraft, DraftFault>
+    ensures view { OnOk result (HasView known.now.hg node.now) }
     ensures draft { IfOk result (λ d. (h : ChangesetView) → IsChangesetHeld known.now.hg node.now h → IsHgDraft known.now.hg d h) }
     ensures nothing_fresh { IfOk result (λ d. d.fresh ≡ []) }
+    ensures fault { IfErr result (IsDraftFault known.now.hg node.now) }
 {
-    known.hg.check();
-    let view = match known.hg.view_of(node) {
-        Ok(view) => view,
-        Err(_) => unreachable!(),
+    match known.hg.changeset(node) {
+        Some((p1, p2, fields)) => draft_with(alloc, &known.hg, node, p1, p2, fields),
+        None => Err(DraftFault::Unknown(ViewFault::ChangesetUnknown)),
+    }
+}
+
+// The draft of a changeset that is known with these parents and fields.
+fn draft_with(
+    alloc: Global,
+    store: &HgStore,
+    node: &Id,
+    p1: Id,
+    p2: Id,
+    fields: &Changeset,
+) -> Result<HgDraft, DraftFault>
+    requires fields { IsChangesetOf store.now node.now p1 p2 (changeset_value fields.now) }
+    ensures view { OnOk result (HasView store.now node.now) }
+    ensures draft { IfOk result (λ d. (h : ChangesetView) → IsChangesetHeld store.now node.now h → IsHgDraft store.now d h) }
+    ensures nothing_fresh { IfOk result (λ d. d.fresh ≡ []) }
+    ensures fault { IfErr result (IsDraftFault store.now node.now) }
+{
+    store.check();
+    let Some(manifest) = store.manifest(&fields.manifest) else {
+        return Err(DraftFault::Unknown(ViewFault::ManifestUnknown));
     };
-    let changeset = read_changeset(alloc, &known.hg, node)?;
-    let rows = rows_of(alloc, &known.hg, view.manifest)?;
+    let rows = rows_of(alloc, store, manifest)?;
+    let changeset = read_changeset(alloc, store, node)?;
     Ok(HgDraft {
-        p1: view.p1,
-        p2: view.p2,
+        p1,
+        p2,
         changeset,
-        manifest: manifest_of_node(&known.hg, &view.manifest_node),
+        manifest: manifest_of_node(store, &fields.manifest),
         rows,
         fresh: FreshFiles::new(alloc),
     })
 }
 
-// The fields of a changeset that is held.
+// The fields of a changeset that is known.
 fn read_changeset(alloc: Global, store: &HgStore, node: &Id) -> Result<Changeset, NoMemory>
-    requires held { (h : ChangesetView) × IsChangesetHeld store.now node.now h }
-    ensures { IfOk result (λ x. (h : ChangesetView) → IsChangesetHeld store.now node.now h → h.fields ≡ changeset_value x) }
+    requires known { (p q : model.Id) × (x : fields.Changeset) × IsChangesetOf store.now node.now p q x }
+    ensures { IfOk result (λ made. (p q : model.Id) (x : fields.Changeset) → IsChangesetOf store.now node.now p q x → x ≡ changeset_value made) }
 {
     let text = store.text_of(node).unwrap();
     match Changeset::read(alloc, text) {
@@ -83,27 +108,30 @@ pub fn manifest_of_node(store: &HgStore, node: &Id) -> ManifestRev
     }
 }
 
-// The files of a manifest, whose file revisions are all known.
-fn rows_of(alloc: Global, store: &HgStore, manifest: &Manifest) -> Result<HgRows, NoMemory>
-    requires known { Each (λ e. IsTrue (knows store.now (FilesAt e.path) e.node)) manifest.now }
-    ensures { IfOk result (λ made. (rows : List Row) → map entry_of_row rows ≡ manifest.now → Each (IsFileHeld store.now) rows → made ≡ map row_value rows) }
+// The files of a manifest; or its first line whose file revision is unknown.
+fn rows_of(alloc: Global, store: &HgStore, manifest: &Manifest) -> Result<HgRows, DraftFault>
+    ensures known { OnOk result (first_unknown store.now manifest.now ≡ None) }
+    ensures rows { IfOk result (λ made. (rows : List Row) → map entry_of_row rows ≡ manifest.now → Each (IsFileHeld store.now) rows → made ≡ map row_value rows) }
+    ensures fault { IfErr result (IsLineFault (first_unknown store.now manifest.now)) }
 {
     let mut rows = HgRows::new(alloc);
-    for place in 0..manifest.len() {
-        let row = row_of(alloc, store, manifest.at(place))?;
+    for line in 0..manifest.len() {
+        let entry = manifest.at(line);
+        let Some(blob) = store.file_blob(entry.path.as_slice(), &entry.node) else {
+            return Err(DraftFault::Unknown(ViewFault::FileUnknown(line)));
+        };
+        let row = row_of(alloc, entry, blob)?;
         rows.push(row)?;
     }
     Ok(rows)
 }
 
-fn row_of(alloc: Global, store: &HgStore, entry: &Entry) -> Result<HgRow, NoMemory>
-    requires known { IsTrue (knows store.now (FilesAt entry.now.path) entry.now.node) }
-    ensures { IfOk result (λ made. (row : Row) → entry_of_row row ≡ manifest_entry entry.now → IsFileHeld store.now row → made ≡ row_value row) }
+// The file of an entry, with the id that its revision's body has as a blob.
+fn row_of(alloc: Global, entry: &Entry, blob: Id) -> Result<HgRow, NoMemory>
+    ensures { IfOk result (λ made. made ≡ record { path = entry.now.path; flag = file_flag entry.now.flag; node = entry.now.node; blob = blob }) }
 {
-    let path = entry.path.as_slice();
-    let blob = store.file_blob(path, &entry.node).unwrap();
     Ok(HgRow {
-        path: Bytes::of(alloc, path)?,
+        path: Bytes::of(alloc, entry.path.as_slice())?,
         flag: entry.flag,
         node: entry.node,
         blob,

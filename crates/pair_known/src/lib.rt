@@ -2,6 +2,8 @@
 //! drafts of members that are to be added.
 #![tactic(auto)]
 
+mod cursor;
+mod draft_fault;
 mod fault;
 mod fresh_blobs;
 mod fresh_files;
@@ -12,6 +14,8 @@ mod hg_row;
 mod known;
 mod partners;
 
+pub use cursor::Cursor;
+pub use draft_fault::DraftFault;
 pub use fault::PairFault;
 pub use fresh_blobs::{FreshBlob, FreshBlobs};
 pub use fresh_files::{FreshFile, FreshFiles};

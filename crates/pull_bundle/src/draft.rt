@@ -11,7 +11,7 @@ use crate::fault::TakeFault;
 use bridge_text::Id;
 use hg_store::ViewFault;
 use hg_view::views_are_held;
-use pair_known::{HgDraft, Known, draft_of_changeset};
+use pair_known::{DraftFault, HgDraft, Known, draft_of_changeset};
 use pull_outcome::Fault;
 use std::alloc::Global;
 
@@ -25,10 +25,15 @@ pub fn draft_of(alloc: Global, known: &Known, node: &Id) -> Result<HgDraft, Take
     ensures refused { IfErr result (IsTakeFault (λ name. (r : Revision) → revision_of known.now.hg Changesets node.now ≡ Some r → ViewLacks known.now.hg r name)) }
 {
     views_are_held(&known.hg, node);
-    match known.hg.view_of(node) {
-        Ok(_) => Ok(draft_of_changeset(alloc, known, node)?),
-        Err(ViewFault::ManifestUnknown) => Err(TakeFault::Refused(Fault::ManifestUnknown)),
-        Err(ViewFault::FileUnknown(_)) => Err(TakeFault::Refused(Fault::FileUnknown)),
-        Err(ViewFault::ChangesetUnknown) => unreachable!(),
+    match draft_of_changeset(alloc, known, node) {
+        Ok(draft) => Ok(draft),
+        Err(DraftFault::Unknown(ViewFault::ManifestUnknown)) => {
+            Err(TakeFault::Refused(Fault::ManifestUnknown))
+        }
+        Err(DraftFault::Unknown(ViewFault::FileUnknown(_))) => {
+            Err(TakeFault::Refused(Fault::FileUnknown))
+        }
+        Err(DraftFault::Unknown(ViewFault::ChangesetUnknown)) => unreachable!(),
+        Err(DraftFault::Memory) => Err(TakeFault::Memory),
     }
 }

@@ -1,29 +1,48 @@
-use Rattle.std.proofs.Common.{◌∷◌, ◌++◌, [], List, length, map, IsTrue, sym, ap, ◌∙◌, arith, take_all}
+use Rattle.std.proofs.Common.{◌≡◌, ◌∷◌, ◌++◌, [], true, false, not, List, length, map, sym, ap, subst, ◌∙◌, arith, take_all}
 use Rattle.std.specs.Prelude.{slice_get}
 use Rattle.std.proofs.lemmas.List.{length-map}
+use Rattle.std.proofs.lemmas.Option.{get_or_from_slice_get}
+use Rattle.text_model.specs.Text.{Bytes}
 use Rattle.hg_model.specs.Manifest.{ManifestEntry}
 use Rattle.hg_model.specs.Revision.{FilesAt, knows}
 use Rattle.hg_manifest.specs.Values.{manifest_entry}
+use Rattle.hg_store.specs.Known.{IsFileBlob}
+use Rattle.hg_store.specs.Views.{is_unknown}
+use Rattle.hg_store.proofs.ViewLemmas.{position-first, position-none, one_more}
 use Rattle.view_model.specs.View.{entry_of_row}
 use Rattle.pair_known.specs.Rows.{row_value}
-use Rattle.pair_known.proofs.HeldViews.{rows-more, each_get}
+use Rattle.pair_known.proofs.HeldViews.{rows-more, row-made, blob-known}
 use Rattle.pair_known.proofs.hg_draft.rows_of.Goals as goal
 
-pub row_of-requires : goal.row_of-requires
-row_of-requires c = record {
-  known = each_get (λ e. IsTrue (knows c.args.store.now (FilesAt e.path) e.node)) c.args.manifest.now c.loop-place.place (manifest_entry c.at.result.now) c.at.ensures c.requires.known;
-}
+pub returns-in_default-clause-fault : goal.returns-in_default-clause-fault
+returns-in_default-clause-fault c =
+    let known = c.args.store.now in
+    let e = manifest_entry c.at-entry.result.now in
+    let test : is_unknown known e ≡ true = ap not (ap (λ (p : Bytes). knows known (FilesAt p) e.node) (sym c.as_slice.ensures) ∙ c.in_default.ensures) in
+    position-first (is_unknown known) c.args.manifest.now c.loop-line.line e (omega (arith, c.loop-line-test.true, c.len-line-end.ensures))
+    (ap (is_unknown known) (get_or_from_slice_get c.args.manifest.now c.loop-line.line e e c.at-entry.ensures) ∙ test) (λ k. c.loop-line.invariant.known k e)
 
-pub loop-place-preserved : goal.loop-place-preserved
-loop-place-preserved c = λ rows same held.
-    let e = manifest_entry c.at.result.now in
-    let at = ap (λ (l : List ManifestEntry). slice_get l c.loop-place.place) same ∙ c.at.ensures in
-    c.in_ok-push.ensures.ok
-    ∙ (λ i. c.loop-place.invariant rows same held i ++ c.in_ok-row.row ∷ [])
-    ∙ sym (rows-more c.args.store.now c.in_ok-row.row rows c.loop-place.place e at held c.in_ok-row.ensures)
+pub loop-line-preserved : goal.loop-line-preserved
+loop-line-preserved c =
+    let known = c.args.store.now in
+    let e = manifest_entry c.at-entry.result.now in
+    let blob = c.in-Some.blob in
+    record {
+      known = one_more (is_unknown known) c.args.manifest.now c.loop-line.line e c.at-entry.ensures (blob-known known c.as_slice.result.now e blob c.as_slice.ensures c.in-Some.ensures) c.loop-line.invariant.known;
+      rows = λ rows same held.
+          let at = ap (λ (l : List ManifestEntry). slice_get l c.loop-line.line) same ∙ c.at-entry.ensures in
+          c.in_ok-push.ensures.ok
+          ∙ (λ i. c.loop-line.invariant.rows rows same held i ++ c.in_ok-row.row ∷ [])
+          ∙ sym (rows-more known c.in_ok-row.row rows c.loop-line.line e at held
+          (λ row same held. c.in_ok-row.ensures ∙ row-made known row e c.as_slice.result.now blob same held c.as_slice.ensures c.in-Some.ensures));
+    }
 
 pub returns : goal.returns
-returns c = λ rows same held.
-    let len = length-map rows entry_of_row in
-    c.loop-place.invariant rows same held
-    ∙ ap (map row_value) (take_all c.loop-place.place rows (omega (arith, len, ap length same, c.len-place-end.ensures, c.loop-place-test.false)))
+returns c = record {
+  known = position-none (is_unknown c.args.store.now) c.args.manifest.now (λ k d within. c.loop-line.invariant.known k d (omega (arith, within, c.loop-line-test.false, c.len-line-end.ensures)));
+  rows = λ rows same held.
+      let len = length-map rows entry_of_row in
+      c.loop-line.invariant.rows rows same held
+      ∙ ap (map row_value) (take_all c.loop-line.line rows (omega (arith, len, ap length same, c.len-line-end.ensures, c.loop-line-test.false)));
+  fault = tt;
+}

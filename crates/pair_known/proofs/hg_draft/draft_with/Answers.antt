@@ -1,0 +1,39 @@
+use Rattle.std.proofs.Common.{◌≡◌, ◌++◌, List, refl, sym, subst}
+use Rattle.text_model.specs.Lists.{Each}
+use Rattle.text_model.specs.Id.{Id}
+use Rattle.hg_model.specs.Revision.{Revision}
+use Rattle.hg_changeset.specs.Values.{changeset_value}
+use Rattle.hg_store.specs.Views.{IsView}
+use Rattle.hg_store.specs.declared.view.View.{View}
+use Rattle.view_model.specs.Held.{IsManifestHeld, IsFileHeld}
+use Rattle.pair_known.specs.Drafts.{HasView}
+use Rattle.pair_known.proofs.HeldViews.{view-agrees}
+use Rattle.pair_known.proofs.hg_draft.draft_with.Goals as goal
+
+-- what the look-ups lend
+lent : (c : goal.After-new) → HasView c.args.store.now c.args.node.now
+lent c = (
+  record { p1 = c.args.p1; p2 = c.args.p2; changeset = c.args.fields; manifest_node = (c.args.fields).now.manifest; manifest = c.in-Some.manifest },
+  record { changeset = c.requires.fields; manifest_node = refl; manifest = c.in-Some.ensures; files = c.in_ok-rows.ensures.known },
+)
+
+pub returns-clause-view : goal.returns-clause-view
+returns-clause-view c = lent c
+
+pub read_changeset-requires : goal.read_changeset-requires
+read_changeset-requires c = record { known = (c.args.p1, c.args.p2, changeset_value (c.args.fields).now, c.requires.fields) }
+
+pub returns-clause-draft : goal.returns-clause-draft
+unfolding lent
+returns-clause-draft c = λ h held.
+    let known = c.args.store.now in
+    let view = lent c in
+    let agrees = view-agrees known c.check.ensures c.args.node.now h held view.0 view.1 in
+    let manifest : IsManifestHeld known (view.0).manifest_node h.manifest h.rows = subst (λ (n : Id). IsManifestHeld known n h.manifest h.rows) agrees.node held.manifest in
+    record {
+      parents = (agrees.p, agrees.q);
+      fields = c.in_ok-changeset.ensures h.p h.q h.fields (record { revision = held.revision; is_held = held.is_held; first = held.parents.0; second = held.parents.1; fields = held.fields });
+      manifest = c.manifest_of_node.ensures h.manifest h.rows manifest;
+      rows = c.in_ok-rows.ensures.rows h.rows agrees.entries held.files;
+      files = subst (λ (fresh : List Revision). Each (IsFileHeld (fresh ++ known)) h.rows) (sym c.new.ensures) held.files;
+    }
