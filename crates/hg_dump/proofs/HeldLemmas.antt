@@ -16,13 +16,11 @@ use Rattle.hg_model.specs.Revision.{Group, Changesets, Manifests, FilesAt, Revis
 use Rattle.hg_model.proofs.ChangesetLemmas.{one_changeset}
 use Rattle.hg_model.proofs.ManifestLemmas.{one_manifest}
 use Rattle.hg_store.specs.Known.{IsAddedTo, AreAddedTo, AreAdded, HasFitPath, text_limit, text_of, manifest_text_of}
-use Rattle.hg_store.specs.Views.{IsChangesetOf, IsManifestOf, IsView, IsViewFault, is_unknown, first_unknown}
-use Rattle.hg_store.specs.declared.view.View.{View}
+use Rattle.hg_store.specs.Views.{IsChangesetOf, IsManifestOf, IsViewFault, is_unknown, first_unknown}
 use Rattle.hg_store.specs.declared.fault.ViewFault.{ViewFault}
 use Rattle.hg_store.specs.declared.fault.ViewFault.TheVariants.{ChangesetUnknown, ManifestUnknown, FileUnknown}
 use Rattle.hg_store.proofs.KeyLemmas.{same_group-is}
 use Rattle.hg_store.proofs.ViewLemmas.{position-none}
-use Rattle.hg_changeset.specs.Values.{changeset_value}
 use Rattle.view_model.specs.View.{ChangesetView, Row, ManifestParents, NoManifest, Over, changeset_node, entry_of_row}
 use Rattle.view_model.specs.Held.{IsFileHeld, IsManifestHeld, IsChangesetHeld, AreChangesetsHeld}
 use Rattle.view_model.specs.Dump.{own_revision, manifest_revision, file_revision, revisions_of, revisions_in}
@@ -148,12 +146,11 @@ module _ (known : List Revision) (added : AreAdded known) (node : Id) (h : Chang
   file-marks link [] = refl
   file-marks link (row ∷ rows) = ap (λ (l : List Mark). file_mark link (entry_of_row row) ∷ l) (file-marks link rows)
 
-  pub held-marks : (v : View) → IsView known node v → marks_of h ≡ view_marks node v.manifest_node (v.manifest).now
+  pub held-marks : (p q : Id) (x : Changeset) (es : List ManifestEntry) → IsChangesetOf known node p q x → IsManifestOf known x.manifest es → marks_of h ≡ view_marks node x.manifest es
   unfolding revisions_of
-  held-marks v is =
-      let fields = same_fields v.p1 v.p2 (changeset_value (v.changeset).now) is.changeset in
-      let manifest : v.manifest_node ≡ (h.fields).manifest = is.manifest_node ∙ ap (λ (x : Changeset). x.manifest) fields in
-      let entries = same_entries v.manifest_node (v.manifest).now manifest is.manifest in
+  held-marks p q x es changeset of =
+      let manifest : x.manifest ≡ (h.fields).manifest = ap (λ (y : Changeset). y.manifest) (same_fields p q x changeset) in
+      let entries = same_entries x.manifest es manifest of in
       ap (λ (l : List Mark). own_mark (changeset_node h) ∷ l)
       (map-append mark_of (manifest_revision h h.manifest) (map (file_revision (changeset_node h)) h.rows)
       ∙ (λ i. manifest-marks h.manifest held.manifest i ++ file-marks (changeset_node h) h.rows i))
@@ -169,11 +166,13 @@ module _ (known : List Revision) (added : AreAdded known) (node : Id) (h : Chang
   each-known : (rows : List Row) → Each (IsFileHeld known) rows → position (is_unknown known) (map entry_of_row rows) ≡ None
   each-known rows is = position-none (is_unknown known) (map entry_of_row rows) (known-at rows is)
 
+  pub held-has_manifest : (p q : Id) (x : Changeset) → IsChangesetOf known node p q x → manifest_text_of known x.manifest ≡ None → ⊥
+  held-has_manifest p q x changeset unknown =
+      none_some (sym unknown ∙ ap (λ (y : Changeset). manifest_text_of known y.manifest) (same_fields p q x changeset) ∙ held-manifest.is_held)
+
   pub held-has_view : (e : ViewFault) → IsViewFault known node e → ⊥
   held-has_view ChangesetUnknown f = true≢false (sym (ap is_some held.is_held) ∙ f)
-  held-has_view ManifestUnknown f =
-      let fields = same_fields f.p f.q f.fields f.changeset in
-      none_some (sym f.unknown ∙ ap (manifest_text_of known) (ap (λ (x : Changeset). x.manifest) fields) ∙ held-manifest.is_held)
+  held-has_view ManifestUnknown f = held-has_manifest f.p f.q f.fields f.changeset f.unknown
   held-has_view (FileUnknown line) f =
       let fields = same_fields f.p f.q f.fields f.changeset in
       let entries = same_entries (f.fields).manifest f.entries (ap (λ (x : Changeset). x.manifest) fields) f.manifest in

@@ -1,14 +1,14 @@
 // What changesets refer to.
-ghost use Rattle.std.specs.Prelude.{◌≡◌, ◌∷◌, [], false, Bool, List, map, take, drop, length, ◌≤◌, IfOk, OnOk, if◌then◌else◌, ℕ, bytes_eq};
+ghost use Rattle.std.specs.Prelude.{◌≡◌, ◌∷◌, [], false, Bool, List, map, take, drop, length, ◌≤◌, IfOk, OnOk, OnSome, if◌then◌else◌, ℕ, bytes_eq};
 ghost use Rattle.std.specs.Bool.{OnTrue};
 ghost use Rattle.text_model.specs.Id.{has_id};
 ghost use Rattle.hg_model.specs.Revision as model;
 ghost use Rattle.hg_store.specs.Groups.{group_value};
 ghost use Rattle.view_model.specs.View.{ChangesetView};
 ghost use Rattle.hg_manifest.specs.Values.{manifest_entry};
-ghost use Rattle.view_model.specs.Held.{AreChangesetsHeld};
+ghost use Rattle.view_model.specs.Held.{IsChangesetHeld, AreChangesetsHeld};
 ghost use Rattle.hg_dump.specs.Referred.{referred, nothing};
-ghost use Rattle.hg_dump.specs.Marks.{file_mark, manifest_marks, view_marks, marks_in, IsMet, Met, meet};
+ghost use Rattle.hg_dump.specs.Marks.{file_mark, manifest_marks, view_marks, marks_of, marks_in, IsMet, Met, meet};
 ghost use Rattle.hg_dump.specs.State.{files_at, referred_in, met_of, Steps, StepsAfter, IsLineMet, HasLine};
 
 use crate::references::{Reference, References};
@@ -84,13 +84,9 @@ impl Brought {
     {
         store.check();
         for node in nodes {
-            match store.view_of(node) {
-                Ok(view) => {
-                    self.refer_view(node, &view.manifest_node, view.manifest, previous, is_new)?;
-                    previous = view.manifest;
-                }
-                Err(_) => return Ok(()),
-            }
+            let (manifest_node, manifest) = manifest_of(store, node);
+            self.refer_view(node, &manifest_node, manifest, previous, is_new)?;
+            previous = manifest;
         }
         Ok(())
     }
@@ -139,8 +135,9 @@ impl Brought {
         let mut place = 0;
         for line in 0..manifest.len() {
             let entry = manifest.at(line);
-            place = place_of(previous, place, entry.path.as_slice());
-            self.refer_line(entry, stands_at(previous, place, entry), link, is_new)?;
+            let (is_met, next) = walk_to(previous, place, entry);
+            self.refer_line(entry, is_met, link, is_new)?;
+            place = next;
         }
         Ok(())
     }
@@ -194,25 +191,59 @@ impl Brought {
     }
 }
 
+// The manifest of a changeset that is held, with its node. The file revisions that it names are not looked up.
+fn manifest_of<'a>(store: &'a HgStore, node: &Id) -> (Id, &'a Manifest)
+    requires held { (h : ChangesetView) × IsChangesetHeld store.now node.now h }
+    ensures { (h : ChangesetView) → IsChangesetHeld store.now node.now h → marks_of h ≡ view_marks node.now result.0 result.1.now }
+{
+    store.check();
+    let Some((_, _, changeset)) = store.changeset(node) else {
+        unreachable!();
+    };
+    match store.manifest(&changeset.manifest) {
+        Some(manifest) => (changeset.manifest, manifest),
+        None => unreachable!(),
+    }
+}
+
+// Whether a line with the path and the node of this one stands in a manifest from a place on, and the place where the walk for the next
+// line begins. Most lines stand right at the place: for them no paths are put in order.
+fn walk_to(manifest: &Manifest, from: usize, entry: &Entry) -> (bool, usize)
+    ensures { OnTrue result.0 (HasLine manifest.now (manifest_entry entry.now)) }
+{
+    if let Some(next) = place_behind(manifest, from, entry) {
+        return (true, next);
+    }
+    let place = place_of(manifest, from, entry.path.as_slice());
+    match place_behind(manifest, place, entry) {
+        Some(next) => (true, next),
+        None => (false, place),
+    }
+}
+
+// The place behind this one, if a line with the path and the node of the entry stands here.
+fn place_behind(manifest: &Manifest, place: usize, entry: &Entry) -> Option<usize>
+    ensures { OnSome result (HasLine manifest.now (manifest_entry entry.now)) }
+{
+    if place >= manifest.len() {
+        return None;
+    }
+    let other = manifest.at(place);
+    if other.node == entry.node && other.path.as_slice() == entry.path.as_slice() {
+        Some(place + 1)
+    } else {
+        None
+    }
+}
+
 // The first place from this one on where no path below the given one stands.
 fn place_of(manifest: &Manifest, from: usize, path: &[u8]) -> usize {
     for place in from..manifest.len() {
-        if manifest.at(place).path.as_slice() >= path {
+        if manifest.at(place).path.as_slice().cmp(path).is_ge() {
             return place;
         }
     }
     manifest.len()
-}
-
-// Whether a line with the path and the node of this one stands at a place of a manifest.
-fn stands_at(manifest: &Manifest, place: usize, entry: &Entry) -> bool
-    ensures { OnTrue result (HasLine manifest.now (manifest_entry entry.now)) }
-{
-    if place >= manifest.len() {
-        return false;
-    }
-    let other = manifest.at(place);
-    other.node == entry.node && other.path.as_slice() == entry.path.as_slice()
 }
 
 fn refer_file(

@@ -17,6 +17,6 @@ loop-line-preserved c =
     let a = c.args.self.now in
     let b = c.loop-line.self in
     let d = c.refer_line.new.self in
-    let one : StepsAfter before is_new (file_mark link e ∷ []) b d = λ s is met. c.in_ok-refer_line.ensures s is (met-line s before e c.stands_at.result c.stands_at.ensures met) in
+    let one : StepsAfter before is_new (file_mark link e ∷ []) b d = λ s is met. c.in_ok-refer_line.ensures s is (met-line s before e c.walk_to-is_met.result.0 c.walk_to-is_met.ensures met) in
     subst (λ (ms : List Mark). StepsAfter before is_new ms a d) (sym (map-take-push (file_mark link) entries i e c.at-entry.ensures))
     (after-append before is_new (map (file_mark link) (take i entries)) (file_mark link e ∷ []) a b d c.loop-line.invariant one)

@@ -1,12 +1,11 @@
 use Rattle.std.proofs.Common.{◌≡◌, ◌&&◌, ℕ, zero, suc, Bool, true, false, List, [], ◌∷◌, Some, refl, sym, ◌∙◌}
 use Rattle.std.specs.Prelude.{bytes_eq, slice_get}
-use Rattle.std.specs.Bool.{OnTrue}
 use Rattle.std.proofs.lemmas.Slice.Eq.{bytes_eq-Decides}
 use Rattle.hg_model.specs.Manifest.{ManifestEntry}
 use Rattle.hg_manifest.specs.Values.{manifest_entry}
 use Rattle.hg_dump.specs.State.{HasLine}
 use Rattle.hg_dump.proofs.ListLemmas.{some_is, none_some}
-use Rattle.hg_dump.proofs.brought.stands_at.Goals as goal
+use Rattle.hg_dump.proofs.brought.place_behind.Goals as goal
 
 has-line : (entries : List ManifestEntry) (i : ℕ) (o e : ManifestEntry) → slice_get entries i ≡ Some o → bytes_eq e.path o.path ≡ true → bytes_eq e.node o.node ≡ true → HasLine entries e
 has-line [] i o e at path node = absurd (none_some at)
@@ -20,15 +19,11 @@ has-line (x ∷ xs) (suc i) o e at path node = more (bytes_eq e.path x.path && b
     more true t rest = rw t refl
     more false t rest = rw t rest
 
-by : (b : Bool) (P : b ≡ true → Type 0) (Q : Type 0) → ((e : b ≡ true) → Q) → OnTrue b Q
-by true P Q f = f refl
-by false P Q f = tt
-
-pub returns-then-eq : goal.returns-then-eq
-returns-then-eq c =
+pub returns-then-eq-2 : goal.returns-then-eq-2
+returns-then-eq-2 c =
     let other = c.at-other.result.now in
     let entry = c.args.entry.now in
-    by c.eq-then-eq.result (λ e. Unit {0}) (HasLine c.args.manifest.now (manifest_entry entry))
-    (λ t. has-line c.args.manifest.now c.args.place (manifest_entry other) (manifest_entry entry) c.at-other.ensures
-    ((bytes_eq-Decides entry.path other.path).1 (sym ((bytes_eq-Decides other.path entry.path).0 ((λ i. bytes_eq (sym c.as_slice.ensures i) (sym c.as_slice-then-eq.ensures i)) ∙ sym c.eq-then-eq.ensures ∙ t))))
-    ((bytes_eq-Decides entry.node other.node).1 (sym ((bytes_eq-Decides other.node entry.node).0 (sym c.if-eq.ensures)))))
+    let path : bytes_eq other.path entry.path ≡ true = (λ i. bytes_eq (sym c.as_slice.ensures i) (sym c.as_slice-then-eq.ensures i)) ∙ sym c.if-eq-2.ensures in
+    has-line c.args.manifest.now c.args.place (manifest_entry other) (manifest_entry entry) c.at-other.ensures
+    ((bytes_eq-Decides entry.path other.path).1 (sym ((bytes_eq-Decides other.path entry.path).0 path)))
+    ((bytes_eq-Decides entry.node other.node).1 (sym ((bytes_eq-Decides other.node entry.node).0 (sym c.if-eq.ensures))))
