@@ -1,23 +1,24 @@
 -- The text of a row's revision, and the blobs that are brought.
-use Rattle.std.proofs.Common.{◌≡◌, ◌≤◌, ℕ, Result, Err, true, false, true≢false, List, [], ◌∷◌, ◌++◌, length, Option, Some, None, refl, sym, ap, subst, ◌∙◌}
+use Rattle.std.proofs.Common.{◌≡◌, ◌≤◌, ℕ, Result, Err, true, false, true≢false, List, [], ◌∷◌, ◌++◌, length, Option, Some, None, refl, sym, ap, subst, ◌∙◌, arith}
 use Rattle.std.specs.Prelude.{IsTrue, is_some, option_map, slice_get}
 use Rattle.view_model.specs.Held.{IsFileHeld}
 use Rattle.std.specs.Option.{option_or}
+use Rattle.std.proofs.lemmas.List.{length-append}
 use Rattle.std.proofs.lemmas.List.Folds.{find-append}
 use Rattle.std.proofs.lemmas.Slice.Eq.{bytes_eq-Decides}
 use Rattle.text_model.specs.Lists.{SomeOf}
 use Rattle.text_model.specs.Text.{Bytes}
 use Rattle.text_model.specs.Id.{Id}
 use Rattle.text_model.proofs.EachLemmas.{Each-append, Each-weaker}
-use Rattle.hg_model.specs.FileText.{IsFileText, lacks_second_mark}
+use Rattle.hg_model.specs.FileText.{IsFileText, mark, lacks_second_mark}
 use Rattle.hg_model.specs.Revision.{Revision, FilesAt, revision_of, is_of}
 use Rattle.hg_filelog.proofs.MarkLemmas.{one_pair, lacks-never}
-use Rattle.hg_store.specs.Known.{text_of}
+use Rattle.hg_store.specs.Known.{AreAdded, text_of}
 use Rattle.git_model.specs.Object.{Object, object_at, knows_object, has_id}
 use Rattle.view_model.specs.View.{Row, TreeRow, text_limit}
 use Rattle.pair_known.specs.Rows.{RowValue, row_value}
 use Rattle.pair_known.specs.Ruled.{blob_of_row}
-use Rattle.pair_known.proofs.HeldViews.{some_is, none_some}
+use Rattle.pair_known.proofs.HeldViews.{some_is, none_some, held-as}
 use Rattle.commit_rule.specs.Parts.{IsRowOf, AreRowsOf, AreBrought}
 use Rattle.commit_rule.proofs.ListLemmas.{some-left, some-last, get-unmap, each-at}
 
@@ -25,6 +26,11 @@ use Rattle.commit_rule.proofs.ListLemmas.{some-left, some-last, get-unmap, each-
 
 revision-in : (xs ys : List Revision) (path : Bytes) (node : Id) (o : Option Revision) → revision_of xs (FilesAt path) node ≡ o → revision_of (xs ++ ys) (FilesAt path) node ≡ option_or o (revision_of ys (FilesAt path) node)
 revision-in xs ys path node o e = find-append (is_of (FilesAt path) node) xs ys ∙ ap (λ (p : Option Revision). option_or p (revision_of ys (FilesAt path) node)) e
+
+-- a text has the bytes of its body
+body-in : (text : Bytes) (meta : Option Bytes) (body : Bytes) → IsFileText text meta body → length body ≤ length text
+body-in text None body h = omega (arith, ap length h.1)
+body-in text (Some meta) body h = omega (arith, ap length h.1, length-append (meta ++ mark) body)
 
 module _ (fresh known : List Revision) (value : RowValue) (r : Row) (is : IsRowOf (fresh ++ known) value r) where
   place : revision_of (fresh ++ known) (FilesAt value.path) value.node ≡ Some is.1.revision
@@ -35,12 +41,20 @@ module _ (fresh known : List Revision) (value : RowValue) (r : Row) (is : IsRowO
       let same : f ≡ is.1.revision = some_is (sym (revision-in fresh known value.path value.node (Some f) (sym at)) ∙ place) in
       subst (λ (x : Revision). IsFileText x.text (r.revision).meta (r.revision).body) (sym same) is.1.text
 
+  stored-revision : None ≡ revision_of fresh (FilesAt value.path) value.node → revision_of known (FilesAt value.path) value.node ≡ Some is.1.revision
+  stored-revision none = sym (revision-in fresh known value.path value.node None (sym none)) ∙ place
+
   pub stored-there : None ≡ revision_of fresh (FilesAt value.path) value.node → text_of known (FilesAt value.path) value.node ≡ Some is.1.revision.text
-  stored-there none =
-      ap (option_map (λ (x : Revision). x.text)) (sym (revision-in fresh known value.path value.node None (sym none)) ∙ place)
+  stored-there none = ap (option_map (λ (x : Revision). x.text)) (stored-revision none)
 
   pub stored-text : (text : Bytes) → None ≡ revision_of fresh (FilesAt value.path) value.node → Some text ≡ text_of known (FilesAt value.path) value.node → IsFileText text (r.revision).meta (r.revision).body
   stored-text text none at = subst (λ (x : Bytes). IsFileText x (r.revision).meta (r.revision).body) (sym (some_is (at ∙ stored-there none))) is.1.text
+
+  -- the body of a revision that was added to the store is short, as its text is
+  pub stored-short : AreAdded known → None ≡ revision_of fresh (FilesAt value.path) value.node → length (r.revision).body ≤ text_limit
+  stored-short added none =
+      let short = (held-as known added (FilesAt value.path) value.node is.1.revision (stored-revision none)).short in
+      omega (arith, short, body-in is.1.revision.text (r.revision).meta (r.revision).body is.1.text)
 
 pub one-body : (text : Bytes) (meta other : Option Bytes) (body rest : Bytes) → IsFileText text meta body → IsFileText text other rest → body ≡ rest
 one-body text meta other body rest a b = (one_pair meta other body rest a.0 b.0 (sym a.1 ∙ b.1)).1
@@ -110,6 +124,10 @@ both-some f g (Some x) (Some y) e = refl
 pub one-some : {X Z : Type 0} (f : X → Z) (a : Option X) (b : Option Z) → option_map f a ≡ b → is_some a ≡ is_some b
 one-some f None b e = ap is_some e
 one-some f (Some x) b e = ap is_some e
+
+pub one-none : {X Z : Type 0} (f : X → Z) (a : Option X) (b : Option Z) → option_map f a ≡ b → is_some a ≡ false → None ≡ b
+one-none f None b e h = e
+one-none f (Some x) b e h = absurd (true≢false h)
 
 -- ---- a row at a place
 

@@ -1,4 +1,4 @@
-ghost use Rattle.std.specs.Prelude.{◌≡◌, ◌++◌, ◌∷◌, [], ◌≤◌, List, map, length, Err, IfOk, OnOk};
+ghost use Rattle.std.specs.Prelude.{◌≡◌, ◌++◌, ◌∷◌, [], ◌≤◌, List, map, length, Err, IfOk, IsTrue, OnOk};
 ghost use Rattle.text_model.specs.Lists.{Each};
 ghost use Rattle.hg_model.specs.FileText.{IsFileText};
 ghost use Rattle.view_model.specs.View.{Row, text_limit};
@@ -39,7 +39,17 @@ fn body_of<'a>(known: &'a Known, h: &'a HgDraft, row: &HgRow) -> &'a [u8]
     }
 }
 
+// Whether the revision of a row stands in the store, and not in the draft. The store takes no text above the limit, so
+// the body needs no look.
+fn is_stored(known: &Known, h: &HgDraft, row: &HgRow) -> bool
+    ensures { IsTrue result → (r : Row) → IsRowOf (h.now.fresh ++ known.now.hg) row.now r → length (r.revision).body ≤ text_limit }
+{
+    known.hg.check();
+    h.fresh.get(row.path.as_slice(), &row.node).is_none()
+}
+
 // Appends the blob of a row, unless it is there or the store holds it. PairLimit comes exactly where it is too large.
+// No text is looked up for a revision of the store whose blob is known, as most rows have.
 fn add_blob(
     alloc: Global,
     known: &Known,
@@ -52,11 +62,15 @@ fn add_blob(
         → AreBrought known.now.git fresh.new (map tree_row_of rows ++ tree_row_of r ∷ [])) }
     ensures limit { result ≡ Err PairLimit → (r : Row) → IsRowOf (h.now.fresh ++ known.now.hg) row.now r → length (r.revision).body ≤ text_limit → ⊥ }
 {
+    let is_known = known.git.content(&row.blob).is_some();
+    if is_known && is_stored(known, h, row) {
+        return Ok(());
+    }
     let body = body_of(known, h, row);
     if body.len() > MOST_BYTES {
         return Err(PairFault::PairLimit);
     }
-    if known.git.content(&row.blob).is_some() {
+    if is_known {
         return Ok(());
     }
     if fresh.get(&row.blob).is_some() {
