@@ -1,4 +1,4 @@
-ghost use Rattle.std.specs.Prelude.{◌≡◌, ◌≤◌, ◌<◌, ◌++◌, ◌↔◌, List, ℕ, length, map, Some, Err, IfOk, OnOk, IsTrue, bytes_eq};
+ghost use Rattle.std.specs.Prelude.{◌≡◌, ◌≤◌, ◌<◌, ◌++◌, ◌↔◌, List, ℕ, [], length, map, Some, Err, IfOk, OnOk, IsTrue, bytes_eq};
 ghost use Rattle.text_model.specs.Id as id;
 ghost use Rattle.hg_model.specs.Manifest.{entry_text, manifest_text, flag_text, IsManifest};
 ghost use Rattle.hg_manifest.specs.Values.{file_flag, manifest_entry};
@@ -21,6 +21,9 @@ use std::alloc::Global;
 
 /// The most bytes of a text.
 const MOST_BYTES: usize = 1 << 26;
+
+/// The most bytes of a line beside its path: a NUL, the digits of a node, the letter of a flag and an LF.
+const MOST_BESIDE: usize = 43;
 
 /// The manifest of a changeset, and its node.
 #[derive(Drop)]
@@ -128,13 +131,26 @@ fn lines_of(alloc: Global, rows: &HgRows) -> Result<Bytes, PairFault>
     ensures short { IfOk result (λ text. length text ≤ text_limit) }
     ensures limit { result ≡ Err PairLimit → text_limit < length (manifest_text (map entry_of_value rows.now)) }
 {
-    let mut out = Vec::new(alloc);
+    let mut out = room_for(alloc, rows.as_slice())?;
     put_rows(&mut out, rows.as_slice())?;
     let text = Bytes::keep(out);
     if text.len() > MOST_BYTES {
         return Err(PairFault::PairLimit);
     }
     Ok(text)
+}
+
+// No bytes, with room for the lines of rows, so that none are moved while others are added.
+fn room_for(alloc: Global, rows: &[HgRow]) -> Result<Vec<u8>, NoMemory>
+    ensures { IfOk result (λ out. out.items ≡ []) }
+{
+    let mut room: usize = 0;
+    for row in rows {
+        room = room
+            .saturating_add(row.path.len())
+            .saturating_add(MOST_BESIDE);
+    }
+    Ok(Vec::with_capacity(alloc, room)?)
 }
 
 // Adds the lines of rows.

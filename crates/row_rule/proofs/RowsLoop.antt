@@ -42,6 +42,10 @@ pub entry-in : (known : List Revision) (manifest : List ManifestEntry) (rows : L
 entry-in known manifest rows path e same held is =
     subst (λ (o : Option ManifestEntry). IsRevisionAt known path o (revision_at rows path)) (sym (is ∙ ap (λ (l : List ManifestEntry). find (λ x. bytes_eq x.path path) l) (sym same))) (entry-there known rows path held)
 
+-- what a walk through a parent's entries finds
+pub seen : (manifest walk : List ManifestEntry) (p q : Bytes) (e : Option ManifestEntry) → walk ≡ manifest → p ≡ q → e ≡ find (λ x. bytes_eq x.path p) walk → e ≡ find (λ x. bytes_eq x.path q) manifest
+seen manifest walk p q e same path is = is ∙ (λ i. find (λ x. bytes_eq x.path (path i)) (same i))
+
 -- ---- looking behind what is brought for other paths
 
 other : (path p : Bytes) → (path ≡ p → ⊥) → bytes_eq path p ≡ false

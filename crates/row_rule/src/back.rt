@@ -14,7 +14,7 @@ use bridge_text::Id;
 use hg_filelog::split;
 use hg_manifest::Entry;
 use hg_store::HgStore;
-use pair_known::{HgRow, HgRows};
+use pair_known::{Cursor, HgRow, HgRows};
 
 /// What stands before and behind metadata.
 const MARK: &[u8] = b"\x01\n";
@@ -25,10 +25,12 @@ pub fn are_ruled(store: &HgStore, rows: &HgRows, first: &Parent<'_>, second: &Pa
     ensures { (ps : Parents) (hs : List Row) → AreHeldRows store.now rows.now first.now second.now ps hs
         → (IsTrue result ↔ SameRows (rule.ruled_rows ps (map rule.tree_row_of hs)) hs) }
 {
+    let mut first_walk = Cursor::new(first.manifest);
+    let mut second_walk = Cursor::new(second.manifest);
     let rows = rows.as_slice();
     for row in rows {
-        let in_first = first.manifest.get(row.path.as_slice());
-        let in_second = second.manifest.get(row.path.as_slice());
+        let in_first = first_walk.get(row.path.as_slice());
+        let in_second = second_walk.get(row.path.as_slice());
         if !is_ruled(store, row, in_first, in_second) {
             return false;
         }

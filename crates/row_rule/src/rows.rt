@@ -13,7 +13,7 @@ ghost use Rattle.row_rule.specs.Rows.{AreRows, AreRuledRows};
 use crate::parents::Parent;
 use crate::revision::{RuledRow, rule_row};
 use bridge_text::NoMemory;
-use pair_known::{FreshFiles, GitDraft, HgRows, Known, PairFault};
+use pair_known::{Cursor, FreshFiles, GitDraft, HgRows, Known, PairFault};
 use std::alloc::Global;
 
 /// The files of the changeset that the rule gives, and the file revisions that the store doesn't hold.
@@ -56,10 +56,12 @@ pub fn rule_rows(
         rows: HgRows::new(alloc),
         fresh: FreshFiles::new(alloc),
     };
+    let mut first_walk = Cursor::new(first.manifest);
+    let mut second_walk = Cursor::new(second.manifest);
     let files = c.files.as_slice();
     for file in files {
-        let in_first = first.manifest.get(file.path());
-        let in_second = second.manifest.get(file.path());
+        let in_first = first_walk.get(file.path());
+        let in_second = second_walk.get(file.path());
         let made = rule_row(alloc, known, c, file, in_first, in_second)?;
         ruled.fresh.check();
         ruled.push(made)?;

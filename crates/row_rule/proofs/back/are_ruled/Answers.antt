@@ -6,6 +6,7 @@ use Rattle.text_model.specs.Lists.{Each}
 use Rattle.view_model.specs.View.{Row, SameRow, SameRows}
 use Rattle.pair_known.specs.Rows.{RowValue, row_value}
 use Rattle.row_rule.proofs.BackLemmas.{again, rows-again, each-same, each-more, not-here}
+use Rattle.row_rule.proofs.RowsLoop.{seen}
 use Rattle.row_rule.proofs.BackStep.{here}
 use Rattle.row_rule.proofs.back.are_ruled.Goals as goal
 
@@ -17,19 +18,23 @@ returns-then-not-is_ruled c = λ ps hs are.
     let at = here c.args.store.now c.args.rows.now c.args.first.now c.args.second.now ps hs are c.loop-row.row-index c.row-item.result
     (item-at c.args.rows.now c.as_slice-rows.result.now c.loop-row.row-index c.row-item.result c.as_slice-rows.ensures c.loop-row-test.true c.row-item.is)
     c.as_slice.result.now c.as_slice-in-loop-row.result.now (c.as_slice.ensures ∙ ap (λ (x : RowValue). x.path) c.row.view_is) (c.as_slice-in-loop-row.ensures ∙ ap (λ (x : RowValue). x.path) c.row.view_is)
-    c.get-in_first.result c.get-in_second.result c.get-in_first.ensures c.get-in_second.ensures c.is_ruled.result c.is_ruled.ensures in
+    c.get-in_first.result c.get-in_second.result (seen (c.args.first.now.manifest).now c.loop-row.first_walk _ _ _ c.loop-row.invariant.first_seen refl c.get-in_first.ensures.entry) (seen (c.args.second.now.manifest).now c.loop-row.second_walk _ _ _ c.loop-row.invariant.second_seen refl c.get-in_second.ensures.entry) c.is_ruled.result c.is_ruled.ensures in
     not-here ps hs c.loop-row.row-index c.is_ruled.result at c.if-not-is_ruled.true
 
 pub loop-row-preserved : goal.loop-row-preserved
-loop-row-preserved c = λ ps hs are.
-    let at = here c.args.store.now c.args.rows.now c.args.first.now c.args.second.now ps hs are c.loop-row.row-index c.row-item.result
-    (item-at c.args.rows.now c.as_slice-rows.result.now c.loop-row.row-index c.row-item.result c.as_slice-rows.ensures c.loop-row-test.true c.row-item.is)
-    c.as_slice.result.now c.as_slice-in-loop-row.result.now (c.as_slice.ensures ∙ ap (λ (x : RowValue). x.path) c.row.view_is) (c.as_slice-in-loop-row.ensures ∙ ap (λ (x : RowValue). x.path) c.row.view_is)
-    c.get-in_first.result c.get-in_second.result c.get-in_first.ensures c.get-in_second.ensures c.is_ruled.result c.is_ruled.ensures in
-    each-more ps hs c.loop-row.row-index c.is_ruled.result at c.if-not-is_ruled.false (c.loop-row.invariant ps hs are)
+loop-row-preserved c = record {
+  first_seen = c.get-in_first.ensures.same ∙ c.loop-row.invariant.first_seen;
+  second_seen = c.get-in_second.ensures.same ∙ c.loop-row.invariant.second_seen;
+  back = λ ps hs are.
+      let at = here c.args.store.now c.args.rows.now c.args.first.now c.args.second.now ps hs are c.loop-row.row-index c.row-item.result
+      (item-at c.args.rows.now c.as_slice-rows.result.now c.loop-row.row-index c.row-item.result c.as_slice-rows.ensures c.loop-row-test.true c.row-item.is)
+      c.as_slice.result.now c.as_slice-in-loop-row.result.now (c.as_slice.ensures ∙ ap (λ (x : RowValue). x.path) c.row.view_is) (c.as_slice-in-loop-row.ensures ∙ ap (λ (x : RowValue). x.path) c.row.view_is)
+      c.get-in_first.result c.get-in_second.result (seen (c.args.first.now.manifest).now c.loop-row.first_walk _ _ _ c.loop-row.invariant.first_seen refl c.get-in_first.ensures.entry) (seen (c.args.second.now.manifest).now c.loop-row.second_walk _ _ _ c.loop-row.invariant.second_seen refl c.get-in_second.ensures.entry) c.is_ruled.result c.is_ruled.ensures in
+      each-more ps hs c.loop-row.row-index c.is_ruled.result at c.if-not-is_ruled.false (c.loop-row.invariant.back ps hs are);
+}
 
 pub returns : goal.returns
 returns c = λ ps hs are.
     let n : length hs ≡ length c.args.rows.now = sym (ap length are.of_rows ∙ length-map hs row_value) in
-    let each = subst (Each (λ h. SameRow (again ps h) h)) (take_all c.loop-row.row-index hs (omega (arith, n, ap length c.as_slice-rows.ensures, c.loop-row-test.false))) (c.loop-row.invariant ps hs are) in
+    let each = subst (Each (λ h. SameRow (again ps h) h)) (take_all c.loop-row.row-index hs (omega (arith, n, ap length c.as_slice-rows.ensures, c.loop-row-test.false))) (c.loop-row.invariant.back ps hs are) in
     ((λ _. subst (λ (l : List Row). SameRows l hs) (sym (rows-again ps hs)) (each-same ps hs each)), (λ _. refl))

@@ -1,29 +1,21 @@
-use Rattle.std.proofs.Common.{◌≡◌, ◌<◌, ◌+◌, ◌++◌, ℕ, List, Option, Some, Err, false, length, get_or, sym, ap, subst, ◌∙◌, arith, take_all}
+use Rattle.std.proofs.Common.{◌≡◌, ◌<◌, ◌+◌, ◌++◌, ℕ, List, Some, Err, false, length, get_or, sym, ap, subst, ◌∙◌, arith, take_all}
 use Rattle.std.specs.Prelude.{slice_get}
 use Rattle.std.proofs.lemmas.Option.{slice_get-get_or}
 use Rattle.std.proofs.lemmas.List.{length-map}
 use Rattle.std.proofs.lemmas.Result.{err_from_is_err_and}
 use Rattle.text_model.specs.Lists.{Each}
-use Rattle.text_model.specs.Text.{Bytes}
 use Rattle.git_model.specs.Unfold.{FileRow}
-use Rattle.hg_model.specs.Manifest.{ManifestEntry}
 use Rattle.hg_store.specs.Known.{knows_same}
 use Rattle.view_model.specs.Held.{file_row_of}
-use Rattle.std.specs.List.{find}
-use Rattle.std.proofs.Common.{bytes_eq}
-use Rattle.row_rule.specs.declared.parents.Parent.{Parent}
 use Rattle.row_rule.specs.Rows.{AreRuledRows}
 use Rattle.row_rule.proofs.NewRow.{errs}
-use Rattle.row_rule.proofs.RowsLoop.{IsAhead, ahead-more, ahead-here, fresh-rises}
+use Rattle.row_rule.proofs.RowsLoop.{seen, IsAhead, ahead-more, ahead-here, fresh-rises}
 use Rattle.row_rule.proofs.RowsStep.{fresh-path, all-new, content-at, row-of, not_short, one_more}
 use Rattle.row_rule.proofs.rows.rule_rows.Goals as goal
 
 -- the file at a place of a list
 file-at : (files list : List FileRow) (i : ℕ) (file : FileRow) → list ≡ files → i < length list → file ≡ get_or list i file → slice_get files i ≡ Some file
 file-at files list i file same below is = ap (λ (l : List FileRow). slice_get l i) (sym same) ∙ slice_get-get_or list i file below ∙ ap Some (sym is)
-
-abbrev found : Parent → Bytes → Option ManifestEntry
-found parent p = find (λ x. bytes_eq x.path p) (parent.manifest).now
 
 pub rule_row-requires : goal.rule_row-requires
 rule_row-requires c =
@@ -37,8 +29,8 @@ returns-in_err-made-clause-limit c = λ e ps ts are short.
     let at = file-at c.args.c.now.files c.as_slice-files.result.now c.loop-file.file-index c.file-item.result c.as_slice-files.ensures.rows c.loop-file-test.true c.file-item.is in
     let p = err_from_is_err_and c.from_residual.result c.from_residual.ensures.1 in
     let up = c.as_slice-files.ensures.files.in_order in
-    let is = row-of c.args.known.now.hg (c.args.c.now.fresh ++ c.args.known.now.git) c.args.c.now.files c.args.first.now c.args.second.now ps ts are c.loop-file.file-index c.file-item.result at up c.get-in_first.result c.get-in_second.result (c.get-in_first.ensures ∙ ap (λ (p : Bytes). found c.args.first.now p) c.path.ensures) (c.get-in_second.ensures ∙ ap (λ (p : Bytes). found c.args.second.now p) c.path-in-loop-file.ensures) in
-    not_short c.args.known.now.hg (c.args.c.now.fresh ++ c.args.known.now.git) c.args.c.now.files c.args.first.now c.args.second.now ps ts are c.loop-file.file-index c.file-item.result at up c.get-in_first.result c.get-in_second.result (c.get-in_first.ensures ∙ ap (λ (p : Bytes). found c.args.first.now p) c.path.ensures) (c.get-in_second.ensures ∙ ap (λ (p : Bytes). found c.args.second.now p) c.path-in-loop-file.ensures)
+    let is = row-of c.args.known.now.hg (c.args.c.now.fresh ++ c.args.known.now.git) c.args.c.now.files c.args.first.now c.args.second.now ps ts are c.loop-file.file-index c.file-item.result at up c.get-in_first.result c.get-in_second.result (seen (c.args.first.now.manifest).now c.loop-file.first_walk _ _ _ c.loop-file.invariant.first_seen c.path.ensures c.get-in_first.ensures.entry) (seen (c.args.second.now.manifest).now c.loop-file.second_walk _ _ _ c.loop-file.invariant.second_seen c.path-in-loop-file.ensures c.get-in_second.ensures.entry) in
+    not_short c.args.known.now.hg (c.args.c.now.fresh ++ c.args.known.now.git) c.args.c.now.files c.args.first.now c.args.second.now ps ts are c.loop-file.file-index c.file-item.result at up c.get-in_first.result c.get-in_second.result (seen (c.args.first.now.manifest).now c.loop-file.first_walk _ _ _ c.loop-file.invariant.first_seen c.path.ensures c.get-in_first.ensures.entry) (seen (c.args.second.now.manifest).now c.loop-file.second_walk _ _ _ c.loop-file.invariant.second_seen c.path-in-loop-file.ensures c.get-in_second.ensures.entry)
     (c.in_err-made.ensures.limit (errs _ _ (ap Err (sym p.2) ∙ sym p.1 ∙ e)) _ _ _ is) short
 
 pub push-requires : goal.push-requires
@@ -58,12 +50,14 @@ loop-file-preserved c =
     let up = c.as_slice-files.ensures.files.in_order in
     let made = c.in_ok-made.made in
     record {
+      first_seen = c.get-in_first.ensures.same ∙ c.loop-file.invariant.first_seen;
+      second_seen = c.get-in_second.ensures.same ∙ c.loop-file.invariant.second_seen;
       ahead = subst (IsAhead files (i + 1)) (sym c.in_ok-push.ensures.fresh) (ahead-more files up i file at c.loop-file.ruled.fresh made.fresh c.loop-file.invariant.ahead (fresh-path known file.path made.fresh c.in_ok-made.ensures.fresh));
       new = subst (Each (λ r. knows_same known r ≡ false)) (sym c.in_ok-push.ensures.fresh) (all-new known file.path c.loop-file.ruled.fresh made.fresh c.loop-file.invariant.new c.in_ok-made.ensures.fresh);
       ruled = λ ps ts are.
-          one_more known objects files c.args.first.now c.args.second.now ps ts are i file at up c.get-in_first.result c.get-in_second.result (c.get-in_first.ensures ∙ ap (λ (p : Bytes). found c.args.first.now p) c.path.ensures) (c.get-in_second.ensures ∙ ap (λ (p : Bytes). found c.args.second.now p) c.path-in-loop-file.ensures) c.loop-file.ruled c.push.new.self made c.in_ok-push.ensures.rows c.in_ok-push.ensures.fresh
+          one_more known objects files c.args.first.now c.args.second.now ps ts are i file at up c.get-in_first.result c.get-in_second.result (seen (c.args.first.now.manifest).now c.loop-file.first_walk _ _ _ c.loop-file.invariant.first_seen c.path.ensures c.get-in_first.ensures.entry) (seen (c.args.second.now.manifest).now c.loop-file.second_walk _ _ _ c.loop-file.invariant.second_seen c.path-in-loop-file.ensures c.get-in_second.ensures.entry) c.loop-file.ruled c.push.new.self made c.in_ok-push.ensures.rows c.in_ok-push.ensures.fresh
           c.loop-file.invariant.ahead c.in_ok-made.ensures.fresh (c.loop-file.invariant.ruled ps ts are)
-          (c.in_ok-made.ensures.ok _ _ _ (row-of known objects files c.args.first.now c.args.second.now ps ts are i file at up c.get-in_first.result c.get-in_second.result (c.get-in_first.ensures ∙ ap (λ (p : Bytes). found c.args.first.now p) c.path.ensures) (c.get-in_second.ensures ∙ ap (λ (p : Bytes). found c.args.second.now p) c.path-in-loop-file.ensures)));
+          (c.in_ok-made.ensures.ok _ _ _ (row-of known objects files c.args.first.now c.args.second.now ps ts are i file at up c.get-in_first.result c.get-in_second.result (seen (c.args.first.now.manifest).now c.loop-file.first_walk _ _ _ c.loop-file.invariant.first_seen c.path.ensures c.get-in_first.ensures.entry) (seen (c.args.second.now.manifest).now c.loop-file.second_walk _ _ _ c.loop-file.invariant.second_seen c.path-in-loop-file.ensures c.get-in_second.ensures.entry)));
     }
 
 pub returns-clause-ok : goal.returns-clause-ok
