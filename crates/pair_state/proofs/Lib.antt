@@ -17,3 +17,5 @@ pub mod SlotLemmas
 pub mod ParentRows
 pub mod PushChangeset
 pub mod KeptLemmas
+pub mod ParentManifest
+pub mod LineLemmas

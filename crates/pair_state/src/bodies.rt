@@ -13,7 +13,7 @@ use git_object::Objects;
 use hg_filelog::{split, splits_exactly};
 use hg_manifest::Manifest;
 use hg_store::HgStore;
-use pair_known::{HgDraft, HgRow, HgRows, Known};
+use pair_known::{Cursor, HgDraft, HgRow, HgRows, Known};
 
 // Whether the blob of each file of a changeset is its body. A file with the revision that a parent has needs no look at its
 // body: that of the parent is a blob of the store.
@@ -24,9 +24,19 @@ pub fn have_bodies(known: &Known, h: &HgDraft) -> bool
     ensures yes { result ≡ true → (xs : List Row) → AreAsked known.now.hg known.now.git h.now.rows xs → Each (λ x. IsKnown known.now.git (body_blob x)) xs }
     ensures otherwise { result ≡ false → (xs : List Row) → AreAsked known.now.hg known.now.git h.now.rows xs → SomeOf xs (λ x. IsElse known.now.git (body_blob x)) }
 {
-    let first = manifest_of(&known.hg, &h.p1);
-    let second = manifest_of(&known.hg, &h.p2);
+    let first = walk_of(&known.hg, &h.p1);
+    let second = walk_of(&known.hg, &h.p2);
     have_blobs(known, &h.rows, first, second)
+}
+
+// A walk through the manifest of a parent; none for the null id.
+fn walk_of<'a>(hg: &'a HgStore, parent: &Id) -> Option<Cursor<'a>>
+    ensures { IfSome result (λ entries. (is_null parent.now ≡ false) × ((w : ChangesetView) → IsChangesetHeld hg.now parent.now w → map entry_of_row w.rows ≡ entries)) }
+{
+    match manifest_of(hg, parent) {
+        Some(manifest) => Some(Cursor::new(manifest)),
+        None => None,
+    }
 }
 
 // The manifest of a parent; none for the null id.
@@ -37,52 +47,60 @@ fn manifest_of<'a>(hg: &'a HgStore, parent: &Id) -> Option<&'a Manifest>
     if parent.is_null() {
         return None;
     }
-    match hg.view_of(parent) {
-        Ok(view) => Some(view.manifest),
-        Err(_) => None,
-    }
+    let Some((_, _, changeset)) = hg.changeset(parent) else {
+        return None;
+    };
+    hg.manifest(&changeset.manifest)
 }
 
 fn have_blobs(
     known: &Known,
     rows: &HgRows,
-    first: Option<&Manifest>,
-    second: Option<&Manifest>,
+    mut first: Option<Cursor<'_>>,
+    mut second: Option<Cursor<'_>>,
 ) -> bool
     requires rows { (xs : List Row) × AreAsked known.now.hg known.now.git rows.now xs }
-    requires first { IfSome first (λ m. AreBlobs known.now.hg known.now.git m.now) }
-    requires second { IfSome second (λ m. AreBlobs known.now.hg known.now.git m.now) }
+    requires first { IfSome first (λ entries. AreBlobs known.now.hg known.now.git entries) }
+    requires second { IfSome second (λ entries. AreBlobs known.now.hg known.now.git entries) }
     ensures yes { result ≡ true → (xs : List Row) → AreAsked known.now.hg known.now.git rows.now xs → Each (λ x. IsKnown known.now.git (body_blob x)) xs }
     ensures otherwise { result ≡ false → (xs : List Row) → AreAsked known.now.hg known.now.git rows.now xs → SomeOf xs (λ x. IsElse known.now.git (body_blob x)) }
 {
     let list = rows.as_slice();
     for row in list {
-        if !has_blob(known, row, first, second) {
+        if !has_blob(known, row, &mut first, &mut second) {
             return false;
         }
     }
     true
 }
 
-fn has_blob(known: &Known, row: &HgRow, first: Option<&Manifest>, second: Option<&Manifest>) -> bool
+fn has_blob(
+    known: &Known,
+    row: &HgRow,
+    first: &mut Option<Cursor<'_>>,
+    second: &mut Option<Cursor<'_>>,
+) -> bool
     requires row { (x : Row) × AreAsked known.now.hg known.now.git (row.now ∷ []) (x ∷ []) }
-    requires first { IfSome first (λ m. AreBlobs known.now.hg known.now.git m.now) }
-    requires second { IfSome second (λ m. AreBlobs known.now.hg known.now.git m.now) }
+    requires first { IfSome first.old (λ entries. AreBlobs known.now.hg known.now.git entries) }
+    requires second { IfSome second.old (λ entries. AreBlobs known.now.hg known.now.git entries) }
     ensures yes { result ≡ true → (x : Row) → AreAsked known.now.hg known.now.git (row.now ∷ []) (x ∷ []) → IsKnown known.now.git (body_blob x) }
     ensures otherwise { result ≡ false → (x : Row) → AreAsked known.now.hg known.now.git (row.now ∷ []) (x ∷ []) → IsElse known.now.git (body_blob x) }
+    ensures first { first.new ≡ first.old }
+    ensures second { second.new ≡ second.old }
 {
     is_kept(known, row, first) || is_kept(known, row, second) || has_body(known, row)
 }
 
 // Whether a parent has the file with the same revision.
-fn is_kept(known: &Known, row: &HgRow, parent: Option<&Manifest>) -> bool
-    requires parent { IfSome parent (λ m. AreBlobs known.now.hg known.now.git m.now) }
-    ensures { result ≡ true → (x : Row) → AreAsked known.now.hg known.now.git (row.now ∷ []) (x ∷ []) → IsKnown known.now.git (body_blob x) }
+fn is_kept(known: &Known, row: &HgRow, parent: &mut Option<Cursor<'_>>) -> bool
+    requires parent { IfSome parent.old (λ entries. AreBlobs known.now.hg known.now.git entries) }
+    ensures kept { result ≡ true → (x : Row) → AreAsked known.now.hg known.now.git (row.now ∷ []) (x ∷ []) → IsKnown known.now.git (body_blob x) }
+    ensures same { parent.new ≡ parent.old }
 {
-    let Some(manifest) = parent else {
+    let Some(walk) = parent else {
         return false;
     };
-    match manifest.get(row.path.as_slice()) {
+    match walk.get(row.path.as_slice()) {
         Some(entry) => entry.node == row.node,
         None => false,
     }

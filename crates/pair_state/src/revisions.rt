@@ -1,5 +1,6 @@
 // Revisions of a changeset that come to a store.
-ghost use Rattle.std.specs.Prelude.{◌≡◌, ◌≤◌, true, ◌++◌, ◌∷◌, [], Err, OnOk, IfOk, IfSome, IsTrue, List, map, length};
+ghost use Rattle.std.specs.Prelude.{◌≡◌, ◌≤◌, ◌-◌, ◌^◌, min, true, ◌++◌, ◌∷◌, [], Err, OnOk, IfOk, IfSome, IsTrue, List, map, length};
+ghost use Rattle.std.specs.List.{flat_map};
 ghost use Rattle.std.specs.Io.{StartsWith};
 ghost use Rattle.text_model.specs.Id.{node_id};
 ghost use Rattle.hg_model.specs.Revision.{Revision};
@@ -102,16 +103,35 @@ pub fn add_manifest(alloc: Global, hg: &mut HgStore, d: &HgDraft, link: Id) -> R
     }
 }
 
-// The lines of files, without room for more.
+// The lines of files, in room that is just theirs.
 fn lines_of(alloc: Global, rows: &HgRows) -> Result<Vec<u8>, NoMemory>
     ensures { IfOk result (λ text. (xs : List Row) → rows.now ≡ map row_value xs → text.items ≡ rows_text xs) }
 {
-    let mut text = Vec::new(alloc);
     let list = rows.as_slice();
+    let mut text = Vec::with_capacity(alloc, lines_len(list))?;
     for row in list {
         put_line(&mut text, row)?;
     }
-    Ok(Vec::from_slice(alloc, &text)?)
+    Ok(text)
+}
+
+// How long the lines of files are together; or the greatest number, where that is less.
+fn lines_len(rows: &[HgRow]) -> usize
+    ensures { result ≡ min (length (flat_map line_of rows.now)) (2 ^ 64 - 1) }
+{
+    let mut len: usize = 0;
+    for row in rows {
+        len = len.saturating_add(line_len(row));
+    }
+    len
+}
+
+// How long the line of a file is: beside its path and its flag it has NUL, the 40 digits of its node, and LF.
+fn line_len(row: &HgRow) -> usize
+    ensures { result ≡ length (line_of row.now) }
+{
+    let _bytes = row.node.bytes();
+    row.path.as_slice().len() + flag_bytes(row.flag).len() + 42
 }
 
 fn put_line(out: &mut Vec<u8>, row: &HgRow) -> Result<(), NoMemory>

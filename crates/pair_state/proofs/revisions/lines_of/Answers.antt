@@ -6,7 +6,6 @@ use Rattle.pair_state.proofs.revisions.lines_of.Goals as goal
 
 pub returns : goal.returns
 returns c = λ xs same.
-    c.in_ok-from_slice.ensures.items ∙ c.deref.ensures.value
-    ∙ c.loop-row.invariant
+    c.loop-row.invariant
     ∙ ap (flat_map line_of) (take_all c.loop-row.row-index c.as_slice-list.result.now (omega (arith, c.loop-row-test.false)) ∙ c.as_slice-list.ensures ∙ same)
     ∙ lines-are xs
