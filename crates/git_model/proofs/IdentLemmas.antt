@@ -1,6 +1,6 @@
 -- A line has an ident exactly where it is the line of one.
 use Rattle.std.proofs.Common.{◌≡◌, ◌≢◌, ◌<◌, ◌≤◌, ◌+◌, ◌-◌, ◌^◌, ◌==◌, ℕ, Bool, true, false, not, [], ◌∷◌, ◌++◌, length, take, drop, Option, Some, None, decimal, refl, sym, ap, subst, ◌∙◌, arith, append_assoc, eqb-true, eq-eqb, true≢false, take-append-drop}
-use Rattle.std.specs.Prelude.{◌&&◌, ◌||◌}
+use Rattle.std.specs.Prelude.{◌&&◌}
 use Rattle.std.specs.List.{list_all, ends_with}
 use Rattle.std.specs.Cmp.Lexicographic.{pointwise}
 use Rattle.std.proofs.lemmas.List.{take_at, drop_at, length-append}
@@ -11,19 +11,9 @@ use Rattle.text_model.proofs.CutLemmas.{cut_of-at, cut_of-takes}
 use Rattle.text_model.proofs.LackLemmas.{Lacks-by_test, has_byte-lacks}
 use Rattle.text_model.proofs.DecimalLemmas.{is_decimal-decimal, digits-is_decimal, decimal_below-decimal, decimal_below-takes}
 use Rattle.text_model.proofs.TestLemmas.{both}
+use Rattle.text_model.proofs.Options.{some_is, none_some, not_true, or_parts, or_neither}
 use Rattle.git_model.specs.Commit.{Ident, ident_text, is_zone, IsIdent, IsIdentLine, name_before_space, seconds_and_zone, behind_space, ident_by, ident_of}
-use Rattle.git_model.proofs.OptionLemmas.{none_some, some_is, and_then-some, if-some}
-
-or_false : (a b : Bool) → (a || b) ≡ false → (a ≡ false) × (b ≡ false)
-or_false true b h = absurd (true≢false h)
-or_false false b h = (refl, h)
-
-neither : (a b : Bool) → a ≡ false → b ≡ false → (a || b) ≡ false
-neither a b x y = rw (x, y) refl
-
-not_true : (a : Bool) → not a ≡ true → a ≡ false
-not_true true h = absurd (true≢false (sym h))
-not_true false h = refl
+use Rattle.git_model.proofs.OptionLemmas.{and_then-some, if-some}
 
 -- the line in the order in which it is cut
 regroup : (n e d z : Bytes) → n ++ (32 ∷ 60 ∷ []) ++ e ++ (62 ∷ 32 ∷ []) ++ d ++ 32 ∷ z ≡ (n ++ 32 ∷ []) ++ 60 ∷ (e ++ 62 ∷ (32 ∷ (d ++ 32 ∷ z)))
@@ -59,8 +49,8 @@ moment s z small zone =
 pub ident_of-text : (i : Ident) → IsIdent i → ident_of (ident_text i) ≡ Some i
 unfolding ident_of
 ident_of-text i is =
-    let name = or_false (has_byte 60 i.name) (has_byte 62 i.name) is.name in
-    let email = or_false (has_byte 60 i.email) (has_byte 62 i.email) is.email in
+    let name = or_parts (has_byte 60 i.name) (has_byte 62 i.name) is.name in
+    let email = or_parts (has_byte 60 i.email) (has_byte 62 i.email) is.email in
     let front : Lacks 60 (i.name ++ 32 ∷ []) = Each-append (λ x. x ≢ 60) i.name (32 ∷ []) (Lacks-by_test 60 i.name name.0) (λ e. true≢false (sym (eq-eqb 32 60 e)), tt) in
     rw (
       regroup i.name i.email (decimal i.seconds) i.zone,
@@ -90,7 +80,7 @@ named : (text name : Bytes) → name_before_space text ≡ Some name → Named t
 named text name e =
     let r = if-some (ends_with ◌==◌ text (32 ∷ []) && not (has_byte 62 text)) (Some (take (length text - 1) text)) name e in
     let t = both (ends_with ◌==◌ text (32 ∷ [])) (not (has_byte 62 text)) r.0 in
-    let whole : text ≡ name ++ 32 ∷ [] = last_space text t.0 ∙ ap (λ (l : Bytes). l ++ 32 ∷ []) (some_is (take (length text - 1) text) name r.1) in
+    let whole : text ≡ name ++ 32 ∷ [] = last_space text t.0 ∙ ap (λ (l : Bytes). l ++ 32 ∷ []) (some_is r.1) in
     record {
       whole = whole;
       clean = Each-front (λ x. x ≢ 62) name (32 ∷ []) (subst (Lacks 62) whole (Lacks-by_test 62 text (not_true (has_byte 62 text) t.1)));
@@ -107,7 +97,7 @@ moment_in text m e =
     let cut = and_then-some _ (cut_of 32 text) m e in
     let number = and_then-some _ (decimal_below (2 ^ 62 + 1) cut.0.0) m cut.2 in
     let zoned = if-some (is_zone cut.0.1) (Some (number.0, cut.0.1)) m number.2 in
-    let is : (number.0, cut.0.1) ≡ m = some_is (number.0, cut.0.1) m zoned.1 in
+    let is : (number.0, cut.0.1) ≡ m = some_is zoned.1 in
     let parts = cut_of-takes 32 text cut.0.0 cut.0.1 cut.1 in
     let digits = decimal_below-takes (2 ^ 62 + 1) cut.0.0 number.0 (omega arith) number.1 in
     subst (λ (x : ℕ × Bytes). Moment (32 ∷ text) x.0 x.1) is (record {
@@ -117,7 +107,7 @@ moment_in text m e =
     })
 
 behind : (text : Bytes) (m : ℕ × Bytes) → behind_space text ≡ Some m → Moment text m.0 m.1
-behind [] m e = absurd (none_some m e)
+behind [] m e = absurd (none_some e)
 behind (b ∷ bytes) m e =
     let r = if-some (b == 32) (seconds_and_zone bytes) m e in
     subst (λ (x : ℕ). Moment (x ∷ bytes) m.0 m.1) (sym (eqb-true b 32 r.0)) (moment_in bytes m r.1)
@@ -130,15 +120,15 @@ record Parts (name : Option Bytes) (email : Bytes) (moment : Option (ℕ × Byte
   pub its_moment : moment ≡ Some (i.seconds, i.zone)
 
 parts_of : (name : Option Bytes) (email : Bytes) (m : Option (ℕ × Bytes)) (i : Ident) → ident_by name email m ≡ Some i → Parts name email m i
-parts_of None email None i e = absurd (none_some i e)
-parts_of None email (Some m) i e = absurd (none_some i e)
-parts_of (Some name) email None i e = absurd (none_some i e)
+parts_of None email None i e = absurd (none_some e)
+parts_of None email (Some m) i e = absurd (none_some e)
+parts_of (Some name) email None i e = absurd (none_some e)
 parts_of (Some name) email (Some m) i e = by (has_byte 60 email) refl
   where
     by : (t : Bool) → has_byte 60 email ≡ t → Parts (Some name) email (Some m) i
-    by true t = absurd (none_some i (sym (rw t refl) ∙ e))
+    by true t = absurd (none_some (sym (rw t refl) ∙ e))
     by false t =
-        let is : record { name = name; email = email; seconds = m.0; zone = m.1 } ≡ i = some_is _ i (sym (rw t refl) ∙ e) in
+        let is : record { name = name; email = email; seconds = m.0; zone = m.1 } ≡ i = some_is (sym (rw t refl) ∙ e) in
         record { its_name = ap (λ (x : Ident). Some x.name) is; its_email = ap (λ (x : Ident). x.email) is; clean = t; its_moment = ap (λ (x : Ident). Some (x.seconds, x.zone)) is }
 
 pub ident_of-takes : (text : Bytes) (i : Ident) → ident_of text ≡ Some i → IsIdentLine text i
@@ -155,8 +145,8 @@ ident_of-takes text i e =
     let tail : second.0.0 ++ 62 ∷ second.0.1 ≡ i.email ++ 62 ∷ (32 ∷ (decimal i.seconds ++ 32 ∷ i.zone)) = λ j. parts.its_email j ++ 62 ∷ m.whole j in
     let clean_email : has_byte 62 i.email ≡ false = has_byte-lacks 62 i.email (subst (Lacks 62) parts.its_email b.1) in (
       record {
-        name = neither (has_byte 60 i.name) (has_byte 62 i.name) (has_byte-lacks 60 i.name no_open) (has_byte-lacks 62 i.name n.clean);
-        email = neither (has_byte 60 i.email) (has_byte 62 i.email) (sym (ap (has_byte 60) parts.its_email) ∙ parts.clean) clean_email;
+        name = or_neither (has_byte 60 i.name) (has_byte 62 i.name) (has_byte-lacks 60 i.name no_open) (has_byte-lacks 62 i.name n.clean);
+        email = or_neither (has_byte 60 i.email) (has_byte 62 i.email) (sym (ap (has_byte 60) parts.its_email) ∙ parts.clean) clean_email;
         seconds = m.small;
         zone = m.zoned;
       },

@@ -16,3 +16,7 @@ pub mod StreamLemmas
 pub mod StreamLine
 pub mod StreamTakes
 pub mod StreamWords
+pub mod RowOrder
+pub mod ResidueLemmas
+pub mod FitLemmas
+pub mod SortLemmas

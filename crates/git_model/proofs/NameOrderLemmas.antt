@@ -1,25 +1,16 @@
 -- The order of names, where one may begin with the other.
-use Rattle.std.proofs.Common.{◌≡◌, ◌==◌, Bool, true, false, [], ◌∷◌, ◌++◌, length, take, drop, refl, sym, ap, ◌∙◌, Ordering, Less, Equal, Greater, nat_cmp, is_lt, true≢false, eq-eqb, eqb-true, take-append-drop}
+use Rattle.std.proofs.Common.{◌≡◌, ◌==◌, Bool, true, false, [], ◌∷◌, ◌++◌, length, take, drop, refl, sym, ap, ◌∙◌, Ordering, Less, Equal, Greater, nat_cmp, is_lt, true≢false, eq-eqb, take-append-drop}
 use Rattle.std.specs.Ordering.{ordering_then}
 use Rattle.std.specs.Cmp.Lexicographic.{slice_cmp, pointwise}
 use Rattle.std.proofs.lemmas.Cmp.{nat_cmp_total, tied_itself, ranked}
 use Rattle.text_model.specs.Text.{Bytes, is_below}
-use Rattle.text_model.proofs.TestLemmas.{both}
+use Rattle.git_model.proofs.WordLemmas.{exact}
 
 -- what begins alike is ordered by the rest
 pub below-front : (base xs ys : Bytes) → is_below (base ++ xs) (base ++ ys) ≡ is_below xs ys
 below-front [] xs ys = refl
 below-front (b ∷ base) xs ys =
     ap (λ (o : Ordering). is_lt (ordering_then o (slice_cmp nat_cmp (base ++ xs) (base ++ ys)))) (tied_itself nat_cmp_total b) ∙ below-front base xs ys
-
-exact : (xs ys : Bytes) → pointwise ◌==◌ xs ys ≡ true → xs ≡ ys
-exact [] [] h = refl
-exact [] (y ∷ ys) h = absurd cc
-exact (x ∷ xs) [] h = absurd cc
-exact (x ∷ xs) (y ∷ ys) h =
-    let p = both (x == y) (pointwise ◌==◌ xs ys) h in
-    let rest = exact xs ys p.1 in
-    λ i. eqb-true x y p.0 i ∷ rest i
 
 -- what has the name as its front goes on from it
 pub goes_on : (name text : Bytes) → pointwise ◌==◌ (take (length name) text) name ≡ true → text ≡ name ++ drop (length name) text

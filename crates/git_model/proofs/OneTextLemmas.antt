@@ -9,8 +9,8 @@ use Rattle.text_model.specs.Cuts.{Lacks, cut_of}
 use Rattle.text_model.proofs.CutLemmas.{cut_of-at}
 use Rattle.text_model.proofs.LackLemmas.{Lacks-by_test}
 use Rattle.text_model.proofs.HexLemmas.{hex-injective}
+use Rattle.text_model.proofs.Options.{some_is}
 use Rattle.git_model.specs.Commit.{Commit, parent_line, AreHeaders, IsCommitText}
-use Rattle.git_model.proofs.OptionLemmas.{some_is}
 use Rattle.git_model.proofs.CommitLemmas.{id_line-lacks, word-lacks, line-then, commit_lines, commit_text-lines, parent_ids-text}
 
 -- two texts whose first lines are cut off are equal part by part
@@ -20,7 +20,7 @@ pub record SameCut (front rest other_front other_rest : Bytes) : Type 0 where
 
 pub same_cut : (f r g s : Bytes) → Lacks lf f → Lacks lf g → f ++ lf ∷ r ≡ g ++ lf ∷ s → SameCut f r g s
 same_cut f r g s lf_f lf_g e =
-    let is : (f, r) ≡ (g, s) = some_is (f, r) (g, s) (sym (cut_of-at lf f r lf_f) ∙ ap (cut_of lf) e ∙ cut_of-at lf g s lf_g) in
+    let is : (f, r) ≡ (g, s) = some_is (sym (cut_of-at lf f r lf_f) ∙ ap (cut_of lf) e ∙ cut_of-at lf g s lf_g) in
     record { front_is = ap (λ (p : Bytes × Bytes). p.0) is; rest_is = ap (λ (p : Bytes × Bytes). p.1) is }
 
 -- what stands behind the same front

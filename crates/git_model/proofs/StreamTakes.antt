@@ -15,6 +15,7 @@ use Rattle.text_model.proofs.LineLemmas.{first_line-is_cut}
 use Rattle.text_model.proofs.CutLemmas.{cut_of-takes}
 use Rattle.text_model.proofs.HexLemmas.{id_of_hex-takes, id_of_hex-some}
 use Rattle.text_model.proofs.DecimalLemmas.{decimal-number_of}
+use Rattle.text_model.proofs.Options.{some_none}
 use Rattle.git_model.specs.Object.{Object}
 use Rattle.git_model.specs.Stream.{object_text, LineReading, NoLine, Header, BadLine, header_by, header_of, is_kind_word, kind_of, size_limit, is_missing, line_size, unless_bad, line_by, line_reading, or_line, body_fault, ObjectReading, NoObject, Found, BadObject, with_content, object_behind, object_reading, IsFit, IsFitStream, StreamFraming, put_placed, stream_text, stream_from, stream_framing}
 use Rattle.git_model.proofs.StreamWords.{words, kind_of-takes}
@@ -306,9 +307,6 @@ unfolding stream_text
 takes_from zero at bytes begins enough all = absurd (omega (arith, enough))
 takes_from (suc n) at bytes begins enough all = by (object_reading at bytes) refl (takes_from n)
   where
-    none_some : (why : Refusal) → Some why ≡ None → ⊥
-    none_some why e = cc
-
     by : (reading : ObjectReading) → object_reading at bytes ≡ reading
         → ((place : ℕ) (rest : Bytes) → place ≤ input_limit → length rest < n → (stream_from n place rest).bad ≡ None → TakesAll place rest (objects_of (stream_from n place rest)))
         → TakesAll at bytes (objects_of (stream_from (suc n) at bytes))
@@ -317,7 +315,7 @@ takes_from (suc n) at bytes begins enough all = by (object_reading at bytes) ref
         let step = stream_end n at bytes r in
         subst (λ (f : StreamFraming). TakesAll at bytes (objects_of f)) (sym step)
         (record { is = end; fit = tt; fits = omega (arith, begins, ap (λ (l : Bytes). length l) end) })
-    by (BadObject why) r others = absurd (none_some why (sym (ap (λ (f : StreamFraming). f.bad) (stream_refused n at bytes why r)) ∙ all))
+    by (BadObject why) r others = absurd (some_none (sym (ap (λ (f : StreamFraming). f.bad) (stream_refused n at bytes why r)) ∙ all))
     by (Found o) r others =
         let it = object_takes at bytes o r in
         let size : length bytes ≡ length (object_text o) + length it.rest = ap (λ (l : Bytes). length l) it.is ∙ length-append (object_text o) it.rest in

@@ -9,6 +9,7 @@ use Rattle.text_model.specs.Fault.{Refusal, refusal, refusal_at}
 use Rattle.text_model.specs.Fault as fault
 use Rattle.text_model.proofs.TestLemmas.{both, differs}
 use Rattle.text_model.proofs.CutLemmas.{cut_of-takes, cut_of-none}
+use Rattle.text_model.proofs.Options.{some_is, none_some}
 use Rattle.git_model.specs.Stream.{BadLine, header_of, header_by, is_kind_word, find_kind, kind_of, size_limit}
 
 -- the words between the spaces
@@ -44,9 +45,6 @@ words-some text = by (cut_of sp text) refl
 
 -- ---- what three words say
 
-some_is : {T : Type 0} (x y : T) → Some x ≡ Some y → x ≡ y
-some_is x y h = cc
-
 -- the words of this form, whose id is this
 pub header_said : (at : ℕ) (digits word size : Bytes) (id : Id) → id_of_hex digits ≡ Some id → (is_kind_word word && is_decimal size) ≡ true
     → header_of at (digits ∷ word ∷ size ∷ []) ≡ header_by at id (number_of size) (kind_of word)
@@ -54,13 +52,10 @@ header_said at digits word size id named form = by (is_hex_id digits) refl
   where
     by : (t : Bool) → is_hex_id digits ≡ t → header_of at (digits ∷ word ∷ size ∷ []) ≡ header_by at id (number_of size) (kind_of word)
     by true t =
-        let is : bytes_of_digits digits ≡ id = some_is (bytes_of_digits digits) id (sym (rw t refl) ∙ named) in
+        let is : bytes_of_digits digits ≡ id = some_is (sym (rw t refl) ∙ named) in
         let parts = both (is_kind_word word) (is_decimal size) form in
         rw (t, parts.0, parts.1, is) refl
-    by false t = absurd (none_some id (sym (rw t refl) ∙ named))
-      where
-        none_some : (y : Id) → None ≡ Some y → ⊥
-        none_some y h = cc
+    by false t = absurd (none_some (sym (rw t refl) ∙ named))
 
 -- digits that name no id
 pub header_no_id : (at : ℕ) (digits word size : Bytes) → id_of_hex digits ≡ None → header_of at (digits ∷ word ∷ size ∷ []) ≡ BadLine (refusal_at fault.Line at)
@@ -112,14 +107,11 @@ same_bytes (x ∷ xs) (y ∷ ys) h =
     rw (first, others) refl
 
 found_kind : (word : Bytes) (kinds : List ObjectKind) (kind : ObjectKind) → find_kind word kinds ≡ Some kind → word ≡ kind_word kind
-found_kind word [] kind e = absurd (none_some kind e)
-  where
-    none_some : (y : ObjectKind) → None ≡ Some y → ⊥
-    none_some y h = cc
+found_kind word [] kind e = absurd (none_some e)
 found_kind word (k ∷ ks) kind e = by (bytes_eq (kind_word k) word) refl (found_kind word ks kind)
   where
     by : (t : Bool) → bytes_eq (kind_word k) word ≡ t → (find_kind word ks ≡ Some kind → word ≡ kind_word kind) → word ≡ kind_word kind
-    by true t others = sym (same_bytes (kind_word k) word t) ∙ ap kind_word (some_is k kind (sym (rw t refl) ∙ e))
+    by true t others = sym (same_bytes (kind_word k) word t) ∙ ap kind_word (some_is (sym (rw t refl) ∙ e))
     by false t others = others (sym (rw t refl) ∙ e)
 
 -- the word of a kind

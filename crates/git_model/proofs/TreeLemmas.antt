@@ -1,5 +1,5 @@
 -- The content of a tree, entry by entry.
-use Rattle.std.proofs.Common.{◌≡◌, ◌≤◌, ◌+◌, ◌&&◌, Bool, true, false, not, List, ◌∷◌, ◌++◌, length, take, drop, Option, Some, Ok, Err, refl, sym, ap, ◌∙◌, arith, length-append, length-take, true≢false, nat_lt, take-append-drop, ltb-false}
+use Rattle.std.proofs.Common.{◌≡◌, ◌≤◌, ◌+◌, ◌&&◌, Bool, true, false, not, List, ◌∷◌, ◌++◌, length, take, drop, Option, Some, Ok, Err, refl, sym, ap, ◌∙◌, arith, length-append, length-take, nat_lt, take-append-drop, ltb-false}
 use Rattle.std.specs.Prelude.{if◌then◌else◌}
 use Rattle.text_model.specs.Text.{Bytes, sp, nul}
 use Rattle.text_model.specs.Cuts.{cut_of}
@@ -8,8 +8,9 @@ use Rattle.text_model.specs.Fault.{FaultName}
 use Rattle.text_model.specs.Fault as fault
 use Rattle.text_model.proofs.TestLemmas.{both}
 use Rattle.text_model.proofs.CutLemmas.{cut_of-takes}
+use Rattle.text_model.proofs.Options.{some_is, none_some, not_true}
 use Rattle.git_model.specs.Tree.{Mode, mode_of, TreeEntry, RawEntry, raw_size, entry_and_rest, first_entry, is_octal, rises_behind, has_name, judged_name, judged}
-use Rattle.git_model.proofs.OptionLemmas.{none_some, some_is, and_then-some}
+use Rattle.git_model.proofs.OptionLemmas.{and_then-some}
 
 -- ---- the entry at the beginning
 
@@ -26,14 +27,14 @@ within : (mode name tail : Bytes) (p : RawEntry × Bytes) → entry_and_rest mod
 within mode name tail p h = by (nat_lt (length tail) 20) refl
   where
     by : (t : Bool) → nat_lt (length tail) 20 ≡ t → cut_off mode name tail ≡ p
-    by true t = absurd (none_some p (sym (rw t refl) ∙ h))
-    by false t = some_is (cut_off mode name tail) p (sym (rw t refl) ∙ h)
+    by true t = absurd (none_some (sym (rw t refl) ∙ h))
+    by false t = some_is (sym (rw t refl) ∙ h)
 
 long_enough : (mode name tail : Bytes) (p : RawEntry × Bytes) → entry_and_rest mode name tail ≡ Some p → 20 ≤ length tail
 long_enough mode name tail p h = by (nat_lt (length tail) 20) refl
   where
     by : (t : Bool) → nat_lt (length tail) 20 ≡ t → 20 ≤ length tail
-    by true t = absurd (none_some p (sym (rw t refl) ∙ h))
+    by true t = absurd (none_some (sym (rw t refl) ∙ h))
     by false t = ltb-false (length tail) 20 t
 
 pub first_entry-takes : (content : Bytes) (e : RawEntry) (rest : Bytes) → first_entry content ≡ Some (e, rest) → HasEntry content e rest
@@ -65,10 +66,6 @@ judged-shape before e h =
     let one = both (is_octal e.mode && rises_behind before e) (not (has_name before e.name)) h in
     let two = both (is_octal e.mode) (rises_behind before e) one.0 in
     rw (two.0, two.1, not_true (has_name before e.name) one.1) refl
-  where
-    not_true : (b : Bool) → not b ≡ true → b ≡ false
-    not_true true k = absurd (true≢false (sym k))
-    not_true false k = refl
 
 pub judged-mode : (before : List TreeEntry) (e : RawEntry) (mode : Mode) → (is_octal e.mode && rises_behind before e && not (has_name before e.name)) ≡ true → Some mode ≡ mode_of e.mode
     → judged before e ≡ (if is_fit_name e.name then Ok (record { mode = mode; name = e.name; id = e.id }) else Err fault.NameUnfit)

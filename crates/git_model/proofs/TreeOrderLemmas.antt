@@ -9,6 +9,7 @@ use Rattle.text_model.specs.Text.{Bytes, is_below}
 use Rattle.text_model.proofs.EachLemmas.{Each-weaker}
 use Rattle.text_model.proofs.TestLemmas.{both, or_true}
 use Rattle.text_model.proofs.OrderLemmas.{is_below-chain, is_below-irreflexive, is_below-one_way}
+use Rattle.text_model.proofs.Options.{not_true, or_neither}
 use Rattle.git_model.specs.Tree.{is_directory, TreeEntry, RawEntry, order_name, sort_name, raw_sort_name, is_directory_text, is_entry_below, rises_behind, has_name, is_file_named}
 use Rattle.git_model.proofs.NameOrderLemmas.{below-front}
 
@@ -56,13 +57,6 @@ last_below (x ∷ y ∷ ys) e r h =
 
 -- ---- a name that comes twice is that of a file first, and of a directory then
 
-not_true : (b : Bool) → not b ≡ true → b ≡ false
-not_true true h = absurd (true≢false (sym h))
-not_true false h = refl
-
-neither : (a b : Bool) → a ≡ false → b ≡ false → (a || b) ≡ false
-neither a b x y = rw (x, y) refl
-
 not_one : (a b : Bytes) → (a ≡ b → ⊥) → bytes_eq a b ≡ false
 not_one a b h = by (bytes_eq a b) refl
   where
@@ -107,7 +101,7 @@ module _ (e : RawEntry) where
   new_by true directory [] h = refl
   new_by true directory (x ∷ xs) h = λ i. directory_new directory x h.0 i || new_by true directory xs h.1 i
   new_by false file [] h = refl
-  new_by false file (x ∷ xs) h = neither (bytes_eq x.name e.name) (has_name xs e.name) (file_new file x h.0) (new_by false file xs h.1)
+  new_by false file (x ∷ xs) h = or_neither (bytes_eq x.name e.name) (has_name xs e.name) (file_new file x h.0) (new_by false file xs h.1)
 
   -- the test of names among the entries before asks for files alone, and only for a directory
   pub name_again : (xs : List TreeEntry) → rises is_entry_below xs ≡ true → rises_behind xs e ≡ true → has_name xs e.name ≡ (is_directory_text e.mode && list_any (is_file_named e.name) xs)
@@ -148,7 +142,7 @@ file_key name x h =
 
 no_file : (name : Bytes) (xs : List TreeEntry) → ((k : ℕ) (d : TreeEntry) → k < length xs → is_file_named name (get_or xs k d) ≡ false) → list_any (is_file_named name) xs ≡ false
 no_file name [] h = refl
-no_file name (x ∷ xs) h = neither (is_file_named name x) (list_any (is_file_named name) xs) (h 0 x (omega arith)) (no_file name xs (λ k d lt. h (suc k) d (omega arith)))
+no_file name (x ∷ xs) h = or_neither (is_file_named name x) (list_any (is_file_named name) xs) (h 0 x (omega arith)) (no_file name xs (λ k d lt. h (suc k) d (omega arith)))
 
 some_file : (name : Bytes) (xs : List TreeEntry) (k : ℕ) (d : TreeEntry) → k < length xs → is_file_named name (get_or xs k d) ≡ true → list_any (is_file_named name) xs ≡ true
 some_file name [] k d lt h = absurd (omega arith)

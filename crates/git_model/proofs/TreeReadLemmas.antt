@@ -14,8 +14,8 @@ use Rattle.text_model.specs.Fault as fault
 use Rattle.text_model.proofs.ByteLemmas.{IsBytes-front, IsBytes-rest}
 use Rattle.text_model.proofs.EachLemmas.{Each-push}
 use Rattle.text_model.proofs.TestLemmas.{both}
-use Rattle.git_model.specs.Tree.{Mode, File, Exec, Link, Directory, is_directory, mode_text, modes, find_mode, mode_of, TreeEntry, tree_entry_text, tree_text, is_entry_below, has_distinct, IsTree, IsTreeText, RawEntry, raw_size, first_entry, is_octal, is_directory_text, raw_sort_name, order_name, sort_name, rises_behind, has_name, judged_name, judged, entries_fault, tree_fault, tree_entries_from, tree_entries}
-use Rattle.git_model.proofs.OptionLemmas.{none_some, some_is}
+use Rattle.text_model.proofs.Options.{some_is, none_some, not_true, not_false, or_parts, or_false}
+use Rattle.git_model.specs.Tree.{Mode, File, GroupFile, Exec, Link, Directory, Gitlink, is_directory, mode_text, modes, find_mode, mode_of, TreeEntry, tree_entry_text, tree_text, is_entry_below, has_distinct, IsTree, IsTreeText, RawEntry, raw_size, first_entry, is_octal, is_directory_text, raw_sort_name, order_name, sort_name, rises_behind, has_name, judged_name, judged, entries_fault, tree_fault, tree_entries_from, tree_entries}
 use Rattle.git_model.proofs.TreeOrderLemmas.{last_of_more}
 use Rattle.git_model.proofs.TreeLemmas.{HasEntry, first_entry-takes}
 
@@ -49,14 +49,6 @@ pub record Fits (before : List TreeEntry) (raw : RawEntry) (e : TreeEntry) : Typ
   pub name_is : raw.name ≡ e.name
   pub id_is : raw.id ≡ e.id
 
-not_false : (b : Bool) → not b ≡ false → b ≡ true
-not_false true h = refl
-not_false false h = absurd (true≢false h)
-
-neither : (a b : Bool) → (a || b) ≡ false → (a ≡ false) × (b ≡ false)
-neither true b h = absurd (true≢false h)
-neither false b h = (refl, h)
-
 fits_by : (before : List TreeEntry) (raw : RawEntry) (e : TreeEntry) → rises_behind before raw ≡ true → has_name before raw.name ≡ false → (m : Option Mode) → mode_of raw.mode ≡ m → judged_name m raw ≡ Ok e → Fits before raw e
 fits_by before raw e above new None is h = absurd (err_ok fault.ModeOut e h)
 fits_by before raw e above new (Some mode) is h = by (is_fit_name raw.name) refl
@@ -73,24 +65,26 @@ judged-takes before raw e h = by (not (is_octal raw.mode) || not (rises_behind b
     by : (t : Bool) → (not (is_octal raw.mode) || not (rises_behind before raw) || has_name before raw.name) ≡ t → Fits before raw e
     by true t = absurd (err_ok fault.ObjectShape e (sym (rw t refl) ∙ h))
     by false t =
-        let one = neither (not (is_octal raw.mode) || not (rises_behind before raw)) (has_name before raw.name) t in
-        let two = neither (not (is_octal raw.mode)) (not (rises_behind before raw)) one.0 in
+        let one = or_parts (not (is_octal raw.mode) || not (rises_behind before raw)) (has_name before raw.name) t in
+        let two = or_parts (not (is_octal raw.mode)) (not (rises_behind before raw)) one.0 in
         fits_by before raw e (not_false (rises_behind before raw) two.1) one.1 (mode_of raw.mode) refl (sym (rw t refl) ∙ h)
 
 -- the text of the mode that was found
 find_mode-takes : (text : Bytes) (ms : List Mode) (mode : Mode) → find_mode text ms ≡ Some mode → mode_text mode ≡ text
-find_mode-takes text [] mode h = absurd (none_some mode h)
+find_mode-takes text [] mode h = absurd (none_some h)
 find_mode-takes text (m ∷ ms) mode h = by (bytes_eq (mode_text m) text) refl (find_mode-takes text ms mode)
   where
     by : (t : Bool) → bytes_eq (mode_text m) text ≡ t → (find_mode text ms ≡ Some mode → mode_text mode ≡ text) → mode_text mode ≡ text
-    by true t later = ap mode_text (sym (some_is m mode (sym (rw t refl) ∙ h))) ∙ (bytes_eq-Decides (mode_text m) text).0 t
+    by true t later = ap mode_text (sym (some_is (sym (rw t refl) ∙ h))) ∙ (bytes_eq-Decides (mode_text m) text).0 t
     by false t later = later (sym (rw t refl) ∙ h)
 
-directory_is : (mode : Mode) → is_directory_text (mode_text mode) ≡ is_directory mode
+pub directory_is : (mode : Mode) → is_directory_text (mode_text mode) ≡ is_directory mode
 directory_is File = refl
+directory_is GroupFile = refl
 directory_is Exec = refl
 directory_is Link = refl
 directory_is Directory = refl
+directory_is Gitlink = refl
 
 -- the name in the order is that of the entry
 same_key : (before : List TreeEntry) (raw : RawEntry) (e : TreeEntry) → Fits before raw e → raw_sort_name raw ≡ sort_name e.mode e.name
@@ -197,10 +191,6 @@ rises-push (x ∷ y ∷ ys) raw e up above same =
 
 any-push : (name : Bytes) (xs : List TreeEntry) (e : TreeEntry) → list_any (bytes_eq name) (names_of (xs ++ e ∷ [])) ≡ (list_any (bytes_eq name) (names_of xs) || bytes_eq name e.name)
 any-push name [] e = or_false (bytes_eq name e.name)
-  where
-    or_false : (b : Bool) → (b || false) ≡ b
-    or_false true = refl
-    or_false false = refl
 any-push name (x ∷ xs) e = ap (λ (b : Bool). bytes_eq name x.name || b) (any-push name xs e) ∙ or_assoc (bytes_eq name x.name) (list_any (bytes_eq name) (names_of xs)) (bytes_eq name e.name)
   where
     or_assoc : (a b c : Bool) → (a || (b || c)) ≡ ((a || b) || c)
@@ -211,12 +201,8 @@ distinct-push : (xs : List TreeEntry) (e : TreeEntry) → has_distinct (names_of
 distinct-push [] e h new = refl
 distinct-push (x ∷ xs) e h new =
     let parts = both (not (list_any (bytes_eq x.name) (names_of xs))) (has_distinct (names_of xs)) h in
-    let news = neither (bytes_eq x.name e.name) (has_name xs e.name) new in
+    let news = or_parts (bytes_eq x.name e.name) (has_name xs e.name) new in
     rw (any-push x.name xs e, not_true (list_any (bytes_eq x.name) (names_of xs)) parts.0, news.0) (distinct-push xs e parts.1 news.1)
-  where
-    not_true : (b : Bool) → not b ≡ true → b ≡ false
-    not_true true k = absurd (true≢false (sym k))
-    not_true false k = refl
 
 -- the text of an entry as it stands
 entry_whole : (rest : Bytes) (before : List TreeEntry) (raw : RawEntry) (after : Bytes) (e : TreeEntry) → HasEntry rest raw after → Fits before raw e → rest ≡ tree_entry_text e ++ after

@@ -1,6 +1,6 @@
 -- The content of a tree fits, and is that of one tree.
-use Rattle.std.proofs.Common.{◌≡◌, ◌≤◌, ◌&&◌, ℕ, Bool, true, false, not, List, [], ◌∷◌, ◌++◌, length, Some, None, Ok, refl, sym, ap, subst, ◌∙◌, arith, append_assoc, append-nil, length-append, bytes_eq, true≢false, nat_lt}
-use Rattle.std.specs.Prelude.{◌||◌, IsTrue}
+use Rattle.std.proofs.Common.{◌≡◌, ◌≤◌, ◌&&◌, ℕ, Bool, true, false, not, List, [], ◌∷◌, ◌++◌, length, Some, None, Ok, refl, sym, ap, subst, ◌∙◌, arith, append_assoc, append-nil, length-append, bytes_eq, nat_lt}
+use Rattle.std.specs.Prelude.{IsTrue}
 use Rattle.std.specs.List.{list_any}
 use Rattle.std.proofs.lemmas.Bool.Decides.{nat_tests}
 use Rattle.std.proofs.lemmas.List.{take_at, drop_at}
@@ -13,14 +13,11 @@ use Rattle.text_model.proofs.EachLemmas.{Each-rest}
 use Rattle.text_model.proofs.TestLemmas.{both}
 use Rattle.text_model.proofs.CutLemmas.{cut_of-at}
 use Rattle.text_model.proofs.LackLemmas.{Lacks-by_test}
-use Rattle.git_model.specs.Tree.{Mode, File, Exec, Link, Directory, mode_text, mode_of, TreeEntry, tree_entry_text, tree_text, is_entry_below, has_distinct, IsTree, IsTreeText, RawEntry, first_entry, is_octal, rises_behind, has_name, judged, tree_fault, tree_entries, is_directory_text, is_directory, order_name, sort_name}
+use Rattle.text_model.proofs.Options.{not_true, or_parts}
+use Rattle.git_model.specs.Tree.{Mode, File, GroupFile, Exec, Link, Directory, Gitlink, mode_text, mode_of, TreeEntry, tree_entry_text, tree_text, is_entry_below, has_distinct, IsTree, IsTreeText, RawEntry, first_entry, is_octal, rises_behind, has_name, judged, tree_fault, tree_entries, order_name, sort_name}
 use Rattle.git_model.proofs.TreeOrderLemmas.{last_of_more}
 use Rattle.git_model.proofs.TreeLemmas.{judged-ok}
-use Rattle.git_model.proofs.TreeReadLemmas.{ReadTo, read_none, read_more, read_all_fits, read_all_entries, names_of}
-
-not_true : (b : Bool) → not b ≡ true → b ≡ false
-not_true true k = absurd (true≢false (sym k))
-not_true false k = refl
+use Rattle.git_model.proofs.TreeReadLemmas.{directory_is, ReadTo, read_none, read_more, read_all_fits, read_all_entries, names_of}
 
 -- an entry as it stands in a content
 abbrev pub raw_of : TreeEntry → RawEntry
@@ -28,27 +25,27 @@ raw_of e = record { mode = mode_text e.mode; name = e.name; id = e.id }
 
 mode_lacks : (mode : Mode) → Lacks sp (mode_text mode)
 mode_lacks File = Lacks-by_test sp (mode_text File) refl
+mode_lacks GroupFile = Lacks-by_test sp (mode_text GroupFile) refl
 mode_lacks Exec = Lacks-by_test sp (mode_text Exec) refl
 mode_lacks Link = Lacks-by_test sp (mode_text Link) refl
 mode_lacks Directory = Lacks-by_test sp (mode_text Directory) refl
+mode_lacks Gitlink = Lacks-by_test sp (mode_text Gitlink) refl
 
 mode_of-text : (mode : Mode) → Some mode ≡ mode_of (mode_text mode)
 mode_of-text File = refl
+mode_of-text GroupFile = refl
 mode_of-text Exec = refl
 mode_of-text Link = refl
 mode_of-text Directory = refl
+mode_of-text Gitlink = refl
 
 is_octal-text : (mode : Mode) → is_octal (mode_text mode) ≡ true
 is_octal-text File = refl
+is_octal-text GroupFile = refl
 is_octal-text Exec = refl
 is_octal-text Link = refl
 is_octal-text Directory = refl
-
-directory_is : (mode : Mode) → is_directory_text (mode_text mode) ≡ is_directory mode
-directory_is File = refl
-directory_is Exec = refl
-directory_is Link = refl
-directory_is Directory = refl
+is_octal-text Gitlink = refl
 
 -- a fit name has no NUL
 fit-lacks : (name : Bytes) → is_fit_name name ≡ true → Lacks nul name
@@ -93,13 +90,9 @@ above_last (x ∷ []) e later h = by later h
 above_last (x ∷ y ∷ ys) e later h =
     last_of_more x y ys (raw_of e) ∙ above_last (y ∷ ys) e later (both (is_entry_below x y) (rises is_entry_below (y ∷ (ys ++ e ∷ later))) h).1
 
-neither : (a b : Bool) → (a || b) ≡ false → (a ≡ false) × (b ≡ false)
-neither true b h = absurd (true≢false h)
-neither false b h = (refl, h)
-
 not_among : (name : Bytes) (xs : List TreeEntry) (e : TreeEntry) (later : List TreeEntry) → list_any (bytes_eq name) (names_of (xs ++ e ∷ later)) ≡ false → bytes_eq name e.name ≡ false
-not_among name [] e later h = (neither (bytes_eq name e.name) (list_any (bytes_eq name) (names_of later)) h).0
-not_among name (x ∷ xs) e later h = not_among name xs e later (neither (bytes_eq name x.name) (list_any (bytes_eq name) (names_of (xs ++ e ∷ later))) h).1
+not_among name [] e later h = (or_parts (bytes_eq name e.name) (list_any (bytes_eq name) (names_of later)) h).0
+not_among name (x ∷ xs) e later h = not_among name xs e later (or_parts (bytes_eq name x.name) (list_any (bytes_eq name) (names_of (xs ++ e ∷ later))) h).1
 
 new_name : (before : List TreeEntry) (e : TreeEntry) (later : List TreeEntry) → has_distinct (names_of (before ++ e ∷ later)) ≡ true → has_name before e.name ≡ false
 new_name [] e later h = refl

@@ -6,14 +6,15 @@ use Rattle.text_model.specs.Text.{Bytes}
 use Rattle.text_model.specs.Id.{Id, IsId, hex, bytes_of_digits}
 use Rattle.text_model.proofs.TestLemmas.{both}
 use Rattle.text_model.proofs.HexLemmas.{is_hex_id-hex, id_of_hex-some, id_of_hex-hex}
+use Rattle.text_model.proofs.Options.{some_is}
 use Rattle.git_model.specs.Commit.{begins, is_id_line}
-use Rattle.git_model.proofs.OptionLemmas.{some_is}
 
 same : (xs : Bytes) → pointwise ◌==◌ xs xs ≡ true
 same [] = refl
 same (x ∷ xs) = rw (eq-eqb x x refl, same xs) refl
 
-exact : (xs ys : Bytes) → pointwise ◌==◌ xs ys ≡ true → xs ≡ ys
+-- texts that are equal byte by byte are one
+pub exact : (xs ys : Bytes) → pointwise ◌==◌ xs ys ≡ true → xs ≡ ys
 exact [] [] h = refl
 exact [] (y ∷ ys) h = absurd cc
 exact (x ∷ xs) [] h = absurd cc
@@ -36,4 +37,4 @@ pub is_id_line-hex : (word : Bytes) (id : Id) → IsId id → is_id_line word (w
 is_id_line-hex word id is = rw (begins-word word (hex id), behind-word word (hex id)) (is_hex_id-hex id is)
 
 pub bytes_of_digits-hex : (id : Id) → IsId id → bytes_of_digits (hex id) ≡ id
-bytes_of_digits-hex id is = some_is (bytes_of_digits (hex id)) id (sym (id_of_hex-some (hex id) (is_hex_id-hex id is)) ∙ id_of_hex-hex id is)
+bytes_of_digits-hex id is = some_is (sym (id_of_hex-some (hex id) (is_hex_id-hex id is)) ∙ id_of_hex-hex id is)

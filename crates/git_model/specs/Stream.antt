@@ -1,6 +1,7 @@
 -- The output of `git cat-file --batch`: objects one after another, each with a line of its own, as that command's manual has it.
-use Rattle.std.specs.Prelude.{◌≡◌, ℕ, zero, suc, ◌+◌, ◌^◌, ◌≤◌, Bool, not, ◌&&◌, ◌==◌, nat_le, nat_lt, if◌then◌else◌, List, [], ◌∷◌, ◌++◌, length, map, take, drop, slice_index, Option, Some, None, option_map, Result, Ok, Err, codes, decimal, bytes_eq, count_by}
+use Rattle.std.specs.Prelude.{◌≡◌, ℕ, zero, suc, ◌+◌, ◌≤◌, Bool, not, ◌&&◌, ◌==◌, nat_le, nat_lt, if◌then◌else◌, List, [], ◌∷◌, ◌++◌, length, map, take, drop, slice_index, Option, Some, None, option_map, Result, Ok, Err, codes, decimal, bytes_eq, count_by}
 use Rattle.std.specs.List.{flat_map, list_all, slice_split, ends_with}
+use Rattle.text_model.specs.Limits.{commit_limit, text_limit}
 use Rattle.text_model.specs.Lists.{Each}
 use Rattle.text_model.specs.Text.{Bytes, IsBytes, lf, sp, line, spaced, first_line, is_decimal, number_of}
 use Rattle.text_model.specs.Id.{Id, IsId, hex, is_hex_id, bytes_of_digits, ObjectKind, blob, tree, commit, tag, kind_word, same_kind, object_id}
@@ -55,8 +56,8 @@ abbrev pub kind_of : Bytes → Option ObjectKind
 kind_of word = find_kind word (blob ∷ tree ∷ commit ∷ tag ∷ [])
 
 abbrev pub size_limit : ObjectKind → ℕ
-size_limit commit = 2 ^ 24
-size_limit _ = 2 ^ 26
+size_limit commit = commit_limit
+size_limit _ = text_limit
 
 -- what the line of an object says, or why it is refused; there is no line where the input is at its end
 pub data LineReading : Type 0 where

@@ -10,21 +10,25 @@ use Rattle.text_model.specs.Path.{is_fit_name}
 use Rattle.text_model.specs.Fault.{FaultName}
 use Rattle.text_model.specs.Fault as fault
 
--- a plain file, one that can be run, a symbolic link, a directory
+-- a plain file, one that its group may write, one that can be run, a symbolic link, a directory, and a commit of another repository
 pub data Mode : Type 0 where
   File : Mode
+  GroupFile : Mode
   Exec : Mode
   Link : Mode
   Directory : Mode
+  Gitlink : Mode
 
 abbrev pub mode_text : Mode → Bytes
 mode_text File = codes "100644"
+mode_text GroupFile = codes "100664"
 mode_text Exec = codes "100755"
 mode_text Link = codes "120000"
 mode_text Directory = codes "40000"
+mode_text Gitlink = codes "160000"
 
 abbrev pub modes : List Mode
-modes = File ∷ Exec ∷ Link ∷ Directory ∷ []
+modes = File ∷ GroupFile ∷ Exec ∷ Link ∷ Directory ∷ Gitlink ∷ []
 
 abbrev pub is_directory : Mode → Bool
 is_directory Directory = true
@@ -33,6 +37,7 @@ is_directory _ = false
 -- an entry of the mode is a blob's
 abbrev pub is_blob_mode : Mode → Bool
 is_blob_mode Directory = false
+is_blob_mode Gitlink = false
 is_blob_mode _ = true
 
 pub record TreeEntry : Type 0 where

@@ -1,28 +1,19 @@
 -- Changeset texts: each is that of one changeset, and a text is one exactly where it has no fault.
-use Rattle.std.proofs.Common.{◌≡◌, ◌≢◌, ◌<◌, ◌+◌, ◌-◌, ◌&&◌, ◌||◌, ◌==◌, ℕ, Bool, true, false, true≢false, List, [], ◌∷◌, ◌++◌, length, Option, Some, None, refl, sym, ap, subst, ◌∙◌, append_assoc, append-nil, length-append, arith, eqb, eqb-true, eq-eqb}
-use Rattle.std.specs.Prelude.{if◌then◌else◌}
-use Rattle.std.specs.List.{flat_map, starts_with}
+use Rattle.std.proofs.Common.{◌≡◌, ◌≢◌, ◌+◌, ◌==◌, ℕ, Bool, true, false, true≢false, List, [], ◌∷◌, ◌++◌, length, Option, Some, None, refl, sym, ap, subst, ◌∙◌, append_assoc, length-append, arith, eqb-true, eq-eqb}
+use Rattle.std.specs.List.{flat_map}
 use Rattle.text_model.specs.Lists.{Each}
 use Rattle.text_model.specs.Text.{Bytes, IsBytes, lf, has_byte, has_piece, line, first_line}
-use Rattle.text_model.specs.Id.{Id, IsId, hex, is_hex_id, id_of_hex}
-use Rattle.text_model.specs.Cuts.{Lacks, cut_of}
-use Rattle.text_model.proofs.TestLemmas.{both, differs, or_true}
+use Rattle.text_model.specs.Id.{Id, IsId, hex, is_hex_id}
+use Rattle.text_model.specs.Cuts.{Lacks}
+use Rattle.text_model.proofs.TestLemmas.{differs}
 use Rattle.text_model.proofs.ByteLemmas.{IsBytes-front, IsBytes-rest}
 use Rattle.text_model.proofs.CutLemmas.{cut_of-takes}
 use Rattle.text_model.proofs.LineLemmas.{first_line-at, first_line-is_cut}
-use Rattle.text_model.proofs.HexLemmas.{id_of_hex-hex, id_of_hex-takes, id_of_hex-some, is_hex_id-hex, hex-injective, hex-lacks}
+use Rattle.text_model.proofs.HexLemmas.{id_of_hex-takes, id_of_hex-some, is_hex_id-hex, hex-injective, hex-lacks}
 use Rattle.text_model.proofs.LackLemmas.{Lacks-by_test, has_byte-lacks}
-use Rattle.hg_model.specs.Changeset.{DateLine, Raw, IsDateLine, date_text, date_of, Changeset, changeset_text, IsChangeset, IsChangesetText, has_blank_line, files_fault, date_fault, user_fault, manifest_fault, changeset_fault}
+use Rattle.text_model.proofs.Options.{some_is, some_none}
+use Rattle.hg_model.specs.Changeset.{DateLine, IsDateLine, date_text, date_of, Changeset, changeset_text, IsChangeset, IsChangesetText, has_blank_line, files_fault, date_fault, user_fault, manifest_fault, changeset_fault}
 use Rattle.hg_model.proofs.DateLemmas.{date_text-lacks_lf, date_of-text, date_of-is}
-
-none_some : {X : Type 0} (x : X) → None ≡ Some x → ⊥
-none_some x h = cc
-
-some_none : {X : Type 0} (x : X) → Some x ≡ None → ⊥
-some_none x h = cc
-
-some_is : {X : Type 0} (x y : X) → Some x ≡ Some y → x ≡ y
-some_is x y h = cc
 
 -- a file's line without its LF
 abbrev pub IsFile : Bytes → Type 0
@@ -54,7 +45,7 @@ first_line-takes text front rest e =
 -- two texts that begin with lines have these in common where they are one
 one_line : (text other rest more : Bytes) → Lacks lf text → Lacks lf other → line text ++ rest ≡ line other ++ more → (text ≡ other) × (rest ≡ more)
 one_line text other rest more h k e =
-    let same : (text, rest) ≡ (other, more) = some_is {X = Bytes × Bytes} (text, rest) (other, more) (sym (first_line-line text rest h) ∙ ap first_line e ∙ first_line-line other more k) in
+    let same : (text, rest) ≡ (other, more) = some_is (sym (first_line-line text rest h) ∙ ap first_line e ∙ first_line-line other more k) in
     (ap (λ (p : Bytes × Bytes). p.0) same, ap (λ (p : Bytes × Bytes). p.1) same)
 
 -- ---- the lines of files, and the blank line behind them
@@ -287,7 +278,7 @@ no_fault-files end rest e = by (has_blank_line rest) refl
   where
     by : (t : Bool) → has_blank_line rest ≡ t → has_blank_line rest ≡ true
     by true t = t
-    by false t = absurd (some_none end (sym (rw t refl) ∙ e))
+    by false t = absurd (some_none {x = end} (sym (rw t refl) ∙ e))
 
 -- a text behind whose date line nothing is wrong
 record DateRead (text : Bytes) : Type 0 where
@@ -301,7 +292,7 @@ no_fault-date : (at end : ℕ) (text : Bytes) → date_fault at end (first_line 
 no_fault-date at end text e = by (first_line text) refl
   where
     by : (r : Option (Bytes × Bytes)) → first_line text ≡ r → DateRead text
-    by None r = absurd (some_none at (sym (ap (date_fault at end) r) ∙ e))
+    by None r = absurd (some_none (sym (ap (date_fault at end) r) ∙ e))
     by (Some p) r =
         let l = first_line-takes text p.0 p.1 r in
         record { date = p.0; rest = p.1; whole = l.whole; plain = l.plain; blank = no_fault-files end p.1 (sym (ap (date_fault at end) r) ∙ e) }
@@ -318,7 +309,7 @@ no_fault-user : (at end : ℕ) (text : Bytes) → user_fault at end (first_line 
 no_fault-user at end text e = by (first_line text) refl
   where
     at_line : (p : Bytes × Bytes) → first_line text ≡ Some p → (t : Bool) → (length p.0 == 0) ≡ t → UserRead text
-    at_line p r true t = absurd (some_none at (sym (fault-empty_user at end text p.0 p.1 r t) ∙ e))
+    at_line p r true t = absurd (some_none (sym (fault-empty_user at end text p.0 p.1 r t) ∙ e))
     at_line p r false t =
         let l = first_line-takes text p.0 p.1 r in
         record {
@@ -331,7 +322,7 @@ no_fault-user at end text e = by (first_line text) refl
         }
 
     by : (r : Option (Bytes × Bytes)) → first_line text ≡ r → UserRead text
-    by None r = absurd (some_none at (sym (ap (user_fault at end) r) ∙ e))
+    by None r = absurd (some_none (sym (ap (user_fault at end) r) ∙ e))
     by (Some p) r = at_line p r (length p.0 == 0) refl
 
 record ManifestRead (text : Bytes) : Type 0 where
@@ -356,10 +347,10 @@ no_fault-manifest text e = by (first_line text) refl
           id = id.0;
           read = no_fault-user 41 (length text) p.1 (sym (fault-user text p.0 p.1 r t) ∙ e);
         }
-    at_line p r false t = absurd (some_none 0 (sym (fault-no_id text p.0 p.1 r t) ∙ e))
+    at_line p r false t = absurd (some_none (sym (fault-no_id text p.0 p.1 r t) ∙ e))
 
     by : (r : Option (Bytes × Bytes)) → first_line text ≡ r → ManifestRead text
-    by None r = absurd (some_none 0 (sym (fault-no_manifest_line text r) ∙ e))
+    by None r = absurd (some_none (sym (fault-no_manifest_line text r) ∙ e))
     by (Some p) r = at_line p r (is_hex_id p.0) refl
 
 -- a text of these lines is a changeset's

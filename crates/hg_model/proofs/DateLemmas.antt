@@ -1,26 +1,21 @@
 -- Date lines: each text without LF is one, and of one date line alone.
-use Rattle.std.proofs.Common.{◌≡◌, ◌≢◌, ◌<◌, ◌≤◌, ◌+◌, ◌^◌, ◌&&◌, ◌==◌, ℕ, zero, suc, Bool, true, false, true≢false, List, [], ◌∷◌, ◌++◌, length, get_or, Option, Some, None, option_map, decimal, refl, sym, ap, subst, ◌∙◌, append_assoc, append-nil, arith, eqb, eqb-true, eq-eqb, leb, leb-true}
-use Rattle.std.specs.Prelude.{if◌then◌else◌, ℤ, pos, negsuc, neg_ℤ, ◌≤ℤ◌, nat_le}
+use Rattle.std.proofs.Common.{◌≡◌, ◌≢◌, ◌<◌, ◌≤◌, ◌+◌, ◌^◌, ◌==◌, ℕ, zero, suc, Bool, true, false, List, [], ◌∷◌, ◌++◌, length, Option, Some, None, option_map, decimal, refl, sym, ap, subst, ◌∙◌, append_assoc, append-nil, arith, eqb-true, leb-true}
+use Rattle.std.specs.Prelude.{ℤ, pos, negsuc, neg_ℤ, ◌≤ℤ◌, nat_le}
 use Rattle.std.specs.Option.{option_and_then, unwrap_or}
 use Rattle.std.specs.List.{list_all}
 use Rattle.std.proofs.lemmas.Int.{ints}
 use Rattle.std.proofs.lemmas.Fmt.{decimal_nonempty}
-use Rattle.text_model.specs.Text.{Bytes, IsBytes, has_byte, sp, is_digit, is_decimal, decimal_below, signed_decimal}
+use Rattle.text_model.specs.Text.{Bytes, IsBytes, has_byte, sp, is_digit, decimal_below, signed_decimal}
 use Rattle.text_model.specs.Cuts.{Lacks, cut_of}
 use Rattle.text_model.proofs.TestLemmas.{both, differs}
-use Rattle.text_model.proofs.ByteLemmas.{IsBytes-front, IsBytes-rest}
+use Rattle.text_model.proofs.ByteLemmas.{IsBytes-rest}
 use Rattle.text_model.proofs.EachLemmas.{Each-append}
-use Rattle.text_model.proofs.CutLemmas.{cut_of-at, cut_of-takes, cut_of-none}
-use Rattle.text_model.proofs.DecimalLemmas.{DigitsOf, digits-is_decimal, is_decimal-decimal, decimal_below-decimal, decimal_below-takes}
-use Rattle.text_model.proofs.LackLemmas.{Lacks-by_test, has_byte-lacks}
+use Rattle.text_model.proofs.CutLemmas.{cut_of-at, cut_of-takes}
+use Rattle.text_model.proofs.DecimalLemmas.{digits-is_decimal, is_decimal-decimal, decimal_below-decimal, decimal_below-takes}
+use Rattle.text_model.proofs.LackLemmas.{Lacks-by_test}
+use Rattle.text_model.proofs.Options.{none_some, some_is}
 use Rattle.hg_model.specs.Changeset.{Extra, AreExtras, extras_text, extra_text, extras_of, DateLine, Plain, Raw, IsPlainDate, IsDateLine, plain_date_text, date_text, negative_of, signed_of, date_in_zone, date_behind_time, plain_date_of, date_of}
-use Rattle.hg_model.proofs.ExtrasLemmas.{extras_of-text, extras_of-takes, ReadExtras, escaped-lacks_lf}
-
-none_some : {X : Type 0} (x : X) → None ≡ Some x → ⊥
-none_some x h = cc
-
-some_is : {X : Type 0} (x y : X) → Some x ≡ Some y → x ≡ y
-some_is x y h = cc
+use Rattle.hg_model.proofs.ExtrasLemmas.{extras_of-text, extras_of-takes, escaped-lacks_lf}
 
 -- ---- signed decimals
 
@@ -70,30 +65,30 @@ signed_of-text most (negsuc n) top h =
     ap (option_and_then negative_of) read ∙ ap negative_of next
 
 negative-takes : (size : ℕ) (z : ℤ) → negative_of size ≡ Some z → signed_decimal z ≡ 45 ∷ decimal size
-negative-takes zero z e = absurd (none_some z e)
+negative-takes zero z e = absurd (none_some e)
 negative-takes (suc n) z e =
     let next : n + 1 ≡ suc n = omega arith in
-    ap signed_decimal (sym (some_is (negsuc n) z e)) ∙ ap (λ (m : ℕ). 45 ∷ decimal m) next
+    ap signed_decimal (sym (some_is e)) ∙ ap (λ (m : ℕ). 45 ∷ decimal m) next
 
 negative-within : (most size : ℕ) (z : ℤ) → size < most + 1 → negative_of size ≡ Some z → IsWithin most z
-negative-within most zero z lt e = absurd (none_some z e)
-negative-within most (suc n) z lt e = subst (IsWithin most) (some_is (negsuc n) z e) (omega (arith, lt))
+negative-within most zero z lt e = absurd (none_some e)
+negative-within most (suc n) z lt e = subst (IsWithin most) (some_is e) (omega (arith, lt))
 
 -- what reads as a number is what is written of it
 pub signed_of-takes : (most : ℕ) (text : Bytes) (z : ℤ) → most < 2 ^ 63 → signed_of most text ≡ Some z → (text ≡ signed_decimal z) × IsWithin most z
-signed_of-takes most [] z top e = absurd (none_some z e)
+signed_of-takes most [] z top e = absurd (none_some e)
 signed_of-takes most (b ∷ text) z top e = by (b == 45) refl (decimal_below (most + 1) text) refl (decimal_below (most + 1) (b ∷ text)) refl
   where
     by : (p : Bool) → (b == 45) ≡ p → (r : Option ℕ) → decimal_below (most + 1) text ≡ r → (s : Option ℕ) → decimal_below (most + 1) (b ∷ text) ≡ s → (b ∷ text ≡ signed_decimal z) × IsWithin most z
-    by true p None r s s' = absurd (none_some z (sym (ap (option_and_then negative_of) r) ∙ sym (rw p refl) ∙ e))
+    by true p None r s s' = absurd (none_some {x = z} (sym (ap (option_and_then negative_of) r) ∙ sym (rw p refl) ∙ e))
     by true p (Some n) r s s' =
         let read = decimal_below-takes (most + 1) text n (omega (arith, top)) r in
         let is : negative_of n ≡ Some z = sym (ap (option_and_then negative_of) r) ∙ sym (rw p refl) ∙ e in
         ((λ i. eqb-true b 45 p i ∷ read.0 i) ∙ sym (negative-takes n z is), negative-within most n z read.1 is)
-    by false p r r' None s = absurd (none_some z (sym (ap (option_map pos) s) ∙ sym (rw p refl) ∙ e))
+    by false p r r' None s = absurd (none_some {x = z} (sym (ap (option_map pos) s) ∙ sym (rw p refl) ∙ e))
     by false p r r' (Some n) s =
         let read = decimal_below-takes (most + 1) (b ∷ text) n (omega (arith, top)) s in
-        let is : pos n ≡ z = some_is (pos n) z (sym (ap (option_map pos) s) ∙ sym (rw p refl) ∙ e) in
+        let is : pos n ≡ z = some_is {x = pos n} {y = z} (sym (ap (option_map pos) s) ∙ sym (rw p refl) ∙ e) in
         (read.0 ∙ ap signed_decimal is, subst (IsWithin most) is (omega (arith, read.1)))
 
 -- ---- plain dates
@@ -184,10 +179,10 @@ in_zone-takes : (time : ℤ) (zone : Bytes) (extras : List Extra) (date : DateLi
 in_zone-takes time zone extras date e = by (signed_of (2 ^ 31) zone) refl
   where
     by : (r : Option ℤ) → signed_of (2 ^ 31) zone ≡ r → (tz : ℤ) × (date ≡ Plain time tz extras) × (zone ≡ signed_decimal tz) × IsWithin (2 ^ 31) tz
-    by None r = absurd (none_some date (sym (ap (option_map (λ z. Plain time z extras)) r) ∙ e))
+    by None r = absurd (none_some (sym (ap (option_map (λ z. Plain time z extras)) r) ∙ e))
     by (Some tz) r =
         let read = signed_of-takes (2 ^ 31) zone tz (omega arith) r in
-        (tz, sym (some_is (Plain time tz extras) date (sym (ap (option_map (λ z. Plain time z extras)) r) ∙ e)), read.0, read.1)
+        (tz, sym (some_is (sym (ap (option_map (λ z. Plain time z extras)) r) ∙ e)), read.0, read.1)
 
 zone-takes : (time : ℤ) (text : Bytes) (date : DateLine) → IsBytes text → date_behind_time time text (cut_of sp text) ≡ Some date → ReadZone time text date
 unfolding zone_text
@@ -200,7 +195,7 @@ zone-takes time text date bytes e = by (cut_of sp text) refl
     by (Some p) r = items p r (extras_of p.1) refl
       where
         items : (p : Bytes × Bytes) → cut_of sp text ≡ Some p → (x : Option (List Extra)) → extras_of p.1 ≡ x → ReadZone time text date
-        items p r None x = absurd (none_some date (sym (ap (option_and_then (date_in_zone time p.0)) x) ∙ sym (ap (date_behind_time time text) r) ∙ e))
+        items p r None x = absurd (none_some (sym (ap (option_and_then (date_in_zone time p.0)) x) ∙ sym (ap (date_behind_time time text) r) ∙ e))
         items p r (Some all) x =
             let t = cut_of-takes sp text p.0 p.1 r in
             let after : IsBytes p.1 = (IsBytes-rest p.0 (sp ∷ p.1) (subst IsBytes t.0 bytes)).1 in
@@ -221,7 +216,7 @@ unfolding plain_date_of
 plain_date_of-takes text date bytes e = by (cut_of sp text) refl
   where
     timed : (p : Bytes × Bytes) → cut_of sp text ≡ Some p → (t : Option ℤ) → signed_of (2 ^ 62) p.0 ≡ t → option_and_then (λ t. date_behind_time t p.1 (cut_of sp p.1)) t ≡ Some date → ReadPlain text date
-    timed p r None t h = absurd (none_some date h)
+    timed p r None t h = absurd (none_some h)
     timed p r (Some time) t h =
         let c = cut_of-takes sp text p.0 p.1 r in
         let after : IsBytes p.1 = (IsBytes-rest p.0 (sp ∷ p.1) (subst IsBytes c.0 bytes)).1 in
@@ -237,7 +232,7 @@ plain_date_of-takes text date bytes e = by (cut_of sp text) refl
         }
 
     by : (r : Option (Bytes × Bytes)) → cut_of sp text ≡ r → ReadPlain text date
-    by None r = absurd (none_some date (sym (ap (option_and_then (λ (p : Bytes × Bytes). option_and_then (λ t. date_behind_time t p.1 (cut_of sp p.1)) (signed_of (2 ^ 62) p.0))) r) ∙ e))
+    by None r = absurd (none_some (sym (ap (option_and_then (λ (p : Bytes × Bytes). option_and_then (λ t. date_behind_time t p.1 (cut_of sp p.1)) (signed_of (2 ^ 62) p.0))) r) ∙ e))
     by (Some p) r =
         let whole : option_and_then (λ t. date_behind_time t p.1 (cut_of sp p.1)) (signed_of (2 ^ 62) p.0) ≡ Some date =
         sym (ap (option_and_then (λ (p : Bytes × Bytes). option_and_then (λ t. date_behind_time t p.1 (cut_of sp p.1)) (signed_of (2 ^ 62) p.0))) r) ∙ e in
@@ -282,7 +277,7 @@ date_of-is text bytes plain = by (plain_date_of text) refl
     by : (r : Option DateLine) → plain_date_of text ≡ r → IsDateLine (date_of text) × (date_text (date_of text) ≡ text)
     by None e =
         subst (λ (d : DateLine). IsDateLine d × (date_text d ≡ text)) (sym (date_of-by text None e))
-        ((bytes, plain, λ time tz extras is spelled. none_some (Plain time tz extras) (sym e ∙ ap plain_date_of spelled ∙ plain_date_of-text time tz extras is)), refl)
+        ((bytes, plain, λ time tz extras is spelled. none_some (sym e ∙ ap plain_date_of spelled ∙ plain_date_of-text time tz extras is)), refl)
     by (Some date) e =
         let p = plain_date_of-takes text date bytes e in
         subst (λ (d : DateLine). IsDateLine d × (date_text d ≡ text)) (sym (date_of-by text (Some date) e ∙ p.whole)) (p.is, sym p.spelled)

@@ -14,23 +14,14 @@ use Rattle.text_model.proofs.HexLemmas.{id_of_hex-hex, id_of_hex-takes, hex-lack
 use Rattle.text_model.proofs.LackLemmas.{Lacks-by_test, has_byte-lacks, Lacks-append}
 use Rattle.text_model.proofs.LineLemmas.{whole_lines-line}
 use Rattle.text_model.proofs.TestLemmas.{differs}
+use Rattle.text_model.proofs.Options.{none_some, not_true, some_is}
 use Rattle.hg_model.specs.Manifest.{Flag, Regular, Executable, Symlink, ManifestEntry, flag_text, entry_text, flag_of, entry_of_line, path_of_line}
-
-some_is : {A : Type 0} (x y : A) → Some x ≡ Some y → x ≡ y
-some_is x y e = cc
-
-none_some : {A : Type 0} (x : A) → None ≡ Some x → ⊥
-none_some x e = cc
 
 -- ---- the part of a path that is fit
 
 pub record Plain (path : Bytes) : Type 0 where
   pub no_nul : Lacks 0 path
   pub no_lf : Lacks 10 path
-
-not_true : (b : Bool) → not b ≡ true → b ≡ false
-not_true true e = sym e
-not_true false e = refl
 
 -- a fit path has no NUL and no LF
 pub is_fit_path-plain : (path : Bytes) → is_fit_path path ≡ true → Plain path
@@ -92,10 +83,10 @@ flag_takes text f e = by (bytes_eq text (codes "\n")) (bytes_eq text (codes "x\n
   where
     by : (a b d : Bool) → bytes_eq text (codes "\n") ≡ a → bytes_eq text (codes "x\n") ≡ b → bytes_eq text (codes "l\n") ≡ d
         → (if a then Some Regular else if b then Some Executable else if d then Some Symlink else None) ≡ Some f → text ≡ flag_text f ++ 10 ∷ []
-    by true b d p q r h = (bytes_eq-Decides text (codes "\n")).0 p ∙ ap (λ (x : Flag). flag_text x ++ 10 ∷ []) (some_is Regular f h)
-    by false true d p q r h = (bytes_eq-Decides text (codes "x\n")).0 q ∙ ap (λ (x : Flag). flag_text x ++ 10 ∷ []) (some_is Executable f h)
-    by false false true p q r h = (bytes_eq-Decides text (codes "l\n")).0 r ∙ ap (λ (x : Flag). flag_text x ++ 10 ∷ []) (some_is Symlink f h)
-    by false false false p q r h = absurd (none_some f h)
+    by true b d p q r h = (bytes_eq-Decides text (codes "\n")).0 p ∙ ap (λ (x : Flag). flag_text x ++ 10 ∷ []) (some_is h)
+    by false true d p q r h = (bytes_eq-Decides text (codes "x\n")).0 q ∙ ap (λ (x : Flag). flag_text x ++ 10 ∷ []) (some_is h)
+    by false false true p q r h = (bytes_eq-Decides text (codes "l\n")).0 r ∙ ap (λ (x : Flag). flag_text x ++ 10 ∷ []) (some_is h)
+    by false false false p q r h = absurd (none_some h)
 
 flag_lacks : (f : Flag) → Lacks 10 (flag_text f)
 flag_lacks Regular = tt
@@ -127,8 +118,8 @@ tail_takes front tail e h = by (id_of_hex (take 40 tail)) (flag_of (drop 40 tail
   where
     by : (n : Option Id) (f : Option Flag) → id_of_hex (take 40 tail) ≡ n → flag_of (drop 40 tail) ≡ f
         → option_and_then (λ node. option_map (λ flag. record { path = front; node = node; flag = flag }) f) n ≡ Some e → IsTail front tail e
-    by None f p q k = absurd (none_some e k)
-    by (Some node) None p q k = absurd (none_some e k)
+    by None f p q k = absurd (none_some k)
+    by (Some node) None p q k = absurd (none_some k)
     by (Some node) (Some flag) p q k =
         let digits = id_of_hex-takes (take 40 tail) node p in
         let end = flag_takes (drop 40 tail) flag q in
@@ -138,13 +129,13 @@ tail_takes front tail e h = by (id_of_hex (take 40 tail)) (flag_of (drop 40 tail
           node = digits.0;
           tail_is = sym (take-append-drop 40 tail) ∙ (λ i. digits.1 i ++ end i);
         } in
-        subst (λ (x : ManifestEntry). IsTail front tail x) {x = made} (some_is made e k) is
+        subst (λ (x : ManifestEntry). IsTail front tail x) {x = made} (some_is k) is
 
 pub entry_of_line-takes : (text : Bytes) (e : ManifestEntry) → entry_of_line text ≡ Some e → Spelled text e
 entry_of_line-takes text e h = by (cut_of 0 text) refl
   where
     by : (cut : Option (Bytes × Bytes)) → cut_of 0 text ≡ cut → Spelled text e
-    by None c = absurd (none_some e (sym (entry_of_line-none text c) ∙ h))
+    by None c = absurd (none_some (sym (entry_of_line-none text c) ∙ h))
     by (Some cut) c =
         let t = tail_takes cut.0 cut.1 e (sym (entry_of_line-cut text cut.0 cut.1 c) ∙ h) in
         record {

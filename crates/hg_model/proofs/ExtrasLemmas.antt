@@ -1,27 +1,20 @@
 -- Extras: what is written of items reads as these items, and what reads as items is what is written of them.
-use Rattle.std.proofs.Common.{◌≡◌, ◌≢◌, ◌<◌, ◌+◌, ◌&&◌, ◌==◌, ℕ, Bool, true, false, not, true≢false, List, [], ◌∷◌, ◌++◌, length, map, Option, Some, None, option_map, refl, sym, ap, subst, ◌∙◌, append_assoc, append-nil, length-append, arith, eqb, eqb-true, IsTrue}
-use Rattle.std.specs.Prelude.{if◌then◌else◌}
+use Rattle.std.proofs.Common.{◌≡◌, ◌≢◌, ◌<◌, ◌==◌, ℕ, Bool, true, false, true≢false, List, [], ◌∷◌, ◌++◌, length, map, Option, Some, None, option_map, refl, sym, ap, subst, ◌∙◌, append_assoc, append-nil, length-append, arith, eqb-true}
 use Rattle.std.specs.Option.{option_and_then}
 use Rattle.std.specs.List.{flat_map, slice_split}
-use Rattle.std.proofs.lemmas.List.{map-append}
 use Rattle.std.proofs.lemmas.List.Concat.{flat_map-append}
 use Rattle.text_model.specs.Lists.{Each, rises}
 use Rattle.text_model.specs.Text.{Bytes, IsBytes, has_byte, is_below, nul}
 use Rattle.text_model.specs.Cuts.{Lacks, cut_of}
 use Rattle.text_model.proofs.TestLemmas.{both, differs}
 use Rattle.text_model.proofs.ByteLemmas.{IsBytes-front, IsBytes-rest}
-use Rattle.text_model.proofs.EachLemmas.{Each-append, Each-push, Each-front, Each-rest}
+use Rattle.text_model.proofs.EachLemmas.{Each-append, Each-push, Each-rest}
 use Rattle.text_model.proofs.CutLemmas.{cut_of-at, cut_of-takes}
 use Rattle.text_model.proofs.LackLemmas.{Lacks-by_test, has_byte-lacks}
+use Rattle.text_model.proofs.Options.{none_some, some_is}
 use Rattle.hg_model.specs.Changeset.{Extra, extra_byte, extra_text, extras_text, AreExtras, is_literal, spelled_byte, unescaped, extra_of_sides, extra_of, last_key, key_rises, with_extra, extras_from, extras_of}
 
 -- ---- the escapes
-
-none_some : {X : Type 0} (x : X) → None ≡ Some x → ⊥
-none_some x h = cc
-
-some_is : {X : Type 0} (x y : X) → Some x ≡ Some y → x ≡ y
-some_is x y h = cc
 
 -- what a byte is to the escapes
 data Kind : ℕ → Type 0 where
@@ -100,11 +93,11 @@ spelled_byte-takes c byte e = by (c == 92) refl (c == 110) refl (c == 114) refl 
     of_letter letter spelled is text same = ap extra_byte (sym same) ∙ text ∙ ap (λ (x : ℕ). 92 ∷ x ∷ []) (sym is)
 
     by : (p : Bool) → (c == 92) ≡ p → (q : Bool) → (c == 110) ≡ q → (r : Bool) → (c == 114) ≡ r → (s : Bool) → (c == 48) ≡ s → extra_byte byte ≡ 92 ∷ c ∷ []
-    by true p q q' r r' s s' = of_letter 92 92 (eqb-true c 92 p) refl (some_is 92 byte (sym (rw p refl) ∙ e))
-    by false p true q' r r' s s' = of_letter 110 10 (eqb-true c 110 q') refl (some_is 10 byte (sym (rw (p, q') refl) ∙ e))
-    by false p false q' true r' s s' = of_letter 114 13 (eqb-true c 114 r') refl (some_is 13 byte (sym (rw (p, q', r') refl) ∙ e))
-    by false p false q' false r' true s' = of_letter 48 0 (eqb-true c 48 s') refl (some_is 0 byte (sym (rw (p, q', r', s') refl) ∙ e))
-    by false p false q' false r' false s' = absurd (none_some byte (sym (rw (p, q', r', s') refl) ∙ e))
+    by true p q q' r r' s s' = of_letter 92 92 (eqb-true c 92 p) refl (some_is {x = 92} {y = byte} (sym (rw p refl) ∙ e))
+    by false p true q' r r' s s' = of_letter 110 10 (eqb-true c 110 q') refl (some_is {x = 10} {y = byte} (sym (rw (p, q') refl) ∙ e))
+    by false p false q' true r' s s' = of_letter 114 13 (eqb-true c 114 r') refl (some_is {x = 13} {y = byte} (sym (rw (p, q', r') refl) ∙ e))
+    by false p false q' false r' true s' = of_letter 48 0 (eqb-true c 48 s') refl (some_is {x = 0} {y = byte} (sym (rw (p, q', r', s') refl) ∙ e))
+    by false p false q' false r' false s' = absurd (none_some {x = byte} (sym (rw (p, q', r', s') refl) ∙ e))
 
 -- one byte more in front
 onto : (byte : ℕ) (front text raw : Bytes) → extra_byte byte ≡ front → option_map (λ (bytes : Bytes). byte ∷ bytes) (unescaped text) ≡ Some raw
@@ -112,32 +105,32 @@ onto : (byte : ℕ) (front text raw : Bytes) → extra_byte byte ≡ front → o
 onto byte front text raw spelled e takes = by (unescaped text) refl
   where
     by : (r : Option Bytes) → unescaped text ≡ r → front ++ text ≡ flat_map extra_byte raw
-    by None u = absurd (none_some raw (sym (ap (option_map (λ (bytes : Bytes). byte ∷ bytes)) u) ∙ e))
+    by None u = absurd (none_some (sym (ap (option_map (λ (bytes : Bytes). byte ∷ bytes)) u) ∙ e))
     by (Some more) u =
-        let same : byte ∷ more ≡ raw = some_is (byte ∷ more) raw (sym (ap (option_map (λ (bytes : Bytes). byte ∷ bytes)) u) ∙ e) in
+        let same : byte ∷ more ≡ raw = some_is (sym (ap (option_map (λ (bytes : Bytes). byte ∷ bytes)) u) ∙ e) in
         (λ i. sym spelled i ++ takes more u i) ∙ ap (flat_map extra_byte) same
 
 -- what spells bytes is what is written of them
 pub unescaped-takes : (text raw : Bytes) → unescaped text ≡ Some raw → text ≡ flat_map extra_byte raw
-unescaped-takes [] raw e = ap (flat_map extra_byte) (some_is [] raw (sym unescaped-none ∙ e))
+unescaped-takes [] raw e = ap (flat_map extra_byte) (some_is (sym unescaped-none ∙ e))
 unescaped-takes (b ∷ []) raw e = by (b == 92) refl (is_literal b) refl
   where
     by : (p : Bool) → (b == 92) ≡ p → (q : Bool) → is_literal b ≡ q → b ∷ [] ≡ flat_map extra_byte raw
-    by true p q q' = absurd (none_some raw (sym unescaped-alone ∙ ap (λ (c : ℕ). unescaped (c ∷ [])) (sym (eqb-true b 92 p)) ∙ e))
-    by false p true q = onto b (b ∷ []) [] raw (extra_byte-literal b q) (sym (unescaped-literal b [] q) ∙ e) (λ more u. ap (flat_map extra_byte) (some_is [] more (sym unescaped-none ∙ u)))
-    by false p false q = absurd (none_some raw (sym (unescaped-bad b [] p q) ∙ e))
+    by true p q q' = absurd (none_some (sym unescaped-alone ∙ ap (λ (c : ℕ). unescaped (c ∷ [])) (sym (eqb-true b 92 p)) ∙ e))
+    by false p true q = onto b (b ∷ []) [] raw (extra_byte-literal b q) (sym (unescaped-literal b [] q) ∙ e) (λ more u. ap (flat_map extra_byte) (some_is (sym unescaped-none ∙ u)))
+    by false p false q = absurd (none_some (sym (unescaped-bad b [] p q) ∙ e))
 unescaped-takes (b ∷ c ∷ rest) raw e = by (b == 92) refl (is_literal b) refl (spelled_byte c) refl (unescaped-takes rest) (unescaped-takes (c ∷ rest))
   where
     by : (p : Bool) → (b == 92) ≡ p → (q : Bool) → is_literal b ≡ q → (r : Option ℕ) → spelled_byte c ≡ r → ((more : Bytes) → unescaped rest ≡ Some more → rest ≡ flat_map extra_byte more) → ((more : Bytes) → unescaped (c ∷ rest) ≡ Some more → c ∷ rest ≡ flat_map extra_byte more)
         → b ∷ c ∷ rest ≡ flat_map extra_byte raw
-    by true p q q' None r two one = absurd (none_some raw (sym (ap (option_and_then (λ byte. option_map (λ (bytes : Bytes). byte ∷ bytes) (unescaped rest))) r) ∙ sym (unescaped-pair c rest) ∙ ap (λ (x : ℕ). unescaped (x ∷ c ∷ rest)) (sym (eqb-true b 92 p)) ∙ e))
+    by true p q q' None r two one = absurd (none_some (sym (ap (option_and_then (λ byte. option_map (λ (bytes : Bytes). byte ∷ bytes) (unescaped rest))) r) ∙ sym (unescaped-pair c rest) ∙ ap (λ (x : ℕ). unescaped (x ∷ c ∷ rest)) (sym (eqb-true b 92 p)) ∙ e))
     by true p q q' (Some byte) r two one =
         ap (λ (x : ℕ). x ∷ c ∷ rest) (eqb-true b 92 p)
         ∙ onto byte (92 ∷ c ∷ []) rest raw (spelled_byte-takes c byte r)
         (sym (ap (option_and_then (λ byte. option_map (λ (bytes : Bytes). byte ∷ bytes) (unescaped rest))) r) ∙ sym (unescaped-pair c rest) ∙ ap (λ (x : ℕ). unescaped (x ∷ c ∷ rest)) (sym (eqb-true b 92 p)) ∙ e)
         two
     by false p true q r r' two one = onto b (b ∷ []) (c ∷ rest) raw (extra_byte-literal b q) (sym (unescaped-literal b (c ∷ rest) q) ∙ e) one
-    by false p false q r r' two one = absurd (none_some raw (sym (unescaped-bad b (c ∷ rest) p q) ∙ e))
+    by false p false q r r' two one = absurd (none_some (sym (unescaped-bad b (c ∷ rest) p q) ∙ e))
 
 -- ---- what an escaped text lacks
 
@@ -236,11 +229,11 @@ sides-takes : (left right : Bytes) (e : Extra) → Lacks 58 left → extra_of_si
 sides-takes left right e lacks h = by (length left == 0) refl (unescaped left) refl (unescaped right) refl
   where
     by : (p : Bool) → (length left == 0) ≡ p → (k : Option Bytes) → unescaped left ≡ k → (v : Option Bytes) → unescaped right ≡ v → ReadExtra (left ++ 58 ∷ right) e
-    by true p k k' v v' = absurd (none_some e (sym (rw p refl) ∙ h))
-    by false p None k' v v' = absurd (none_some e (sym (rw (p, k') refl) ∙ h))
-    by false p (Some key) k' None v' = absurd (none_some e (sym (rw (p, k', v') refl) ∙ h))
+    by true p k k' v v' = absurd (none_some {x = e} (sym (rw p refl) ∙ h))
+    by false p None k' v v' = absurd (none_some {x = e} (sym (rw (p, k') refl) ∙ h))
+    by false p (Some key) k' None v' = absurd (none_some {x = e} (sym (rw (p, k', v') refl) ∙ h))
     by false p (Some key) k' (Some value) v' =
-        let same : record { key = key; value = value } ≡ e = some_is {X = Extra} (record { key = key; value = value }) e (sym (rw (p, k', v') refl) ∙ h) in
+        let same : record { key = key; value = value } ≡ e = some_is {X = Extra} {x = record { key = key; value = value }} {y = e} (sym (rw (p, k', v') refl) ∙ h) in
         let key_is : left ≡ flat_map extra_byte key = unescaped-takes left key k' in
         let value_is : right ≡ flat_map extra_byte value = unescaped-takes right value v' in
         subst (ReadExtra (left ++ 58 ∷ right)) same (record {
@@ -254,7 +247,7 @@ unfolding extra_of
 extra_of-takes text e h = by (cut_of 58 text) refl
   where
     by : (r : Option (Bytes × Bytes)) → cut_of 58 text ≡ r → ReadExtra text e
-    by None c = absurd (none_some e (sym (ap (option_and_then extra_of_sides) c) ∙ h))
+    by None c = absurd (none_some (sym (ap (option_and_then extra_of_sides) c) ∙ h))
     by (Some p) c =
         let t = cut_of-takes 58 text p.0 p.1 c in
         subst (λ (x : Bytes). ReadExtra x e) (sym t.0) (sides-takes p.0 p.1 e t.1 (sym (ap (option_and_then extra_of_sides) c) ∙ h))
@@ -339,12 +332,12 @@ with_extra-takes : (es : List Extra) (e : Extra) (all : List Extra) → with_ext
 with_extra-takes es e all h = by (key_rises (last_key es) e.key) refl
   where
     by : (t : Bool) → key_rises (last_key es) e.key ≡ t → (key_rises (last_key es) e.key ≡ true) × (all ≡ es ++ e ∷ [])
-    by true t = (t, sym (some_is (es ++ e ∷ []) all (sym (rw t refl) ∙ h)))
-    by false t = absurd (none_some all (sym (rw t refl) ∙ h))
+    by true t = (t, sym (some_is {x = es ++ e ∷ []} {y = all} (sym (rw t refl) ∙ h)))
+    by false t = absurd (none_some {x = all} (sym (rw t refl) ∙ h))
 
 takes_from : (es : List Extra) (texts : List Bytes) (all : List Extra) → AreExtras es → Each IsBytes texts → extras_from es texts ≡ Some all → TakenFrom es texts all
 takes_from es [] all h bytes e =
-    let same : es ≡ all = some_is es all e in
+    let same : es ≡ all = some_is e in
     record { more = []; whole = sym same ∙ sym (append-nil es); texts_are = refl; are = subst AreExtras same h }
 takes_from es (text ∷ texts) all h bytes e = by (extra_of text) refl (λ now are. takes_from now texts all are bytes.1)
   where
@@ -352,7 +345,7 @@ takes_from es (text ∷ texts) all h bytes e = by (extra_of text) refl (λ now a
     at r x = sym (ap (λ (r : Option Extra). option_and_then (λ more. extras_from more texts) (option_and_then (with_extra es) r)) x) ∙ e
 
     after : (x : Extra) → extra_of text ≡ Some x → (w : Option (List Extra)) → with_extra es x ≡ w → ((now : List Extra) → AreExtras now → extras_from now texts ≡ Some all → TakenFrom now texts all) → TakenFrom es (text ∷ texts) all
-    after x r None w go = absurd (none_some all (sym (ap (option_and_then (λ more. extras_from more texts)) w) ∙ at (Some x) r))
+    after x r None w go = absurd (none_some (sym (ap (option_and_then (λ more. extras_from more texts)) w) ∙ at (Some x) r))
     after x r (Some now) w go =
         let read = extra_of-takes text x r in
         let grown = with_extra-takes es x now w in
@@ -366,7 +359,7 @@ takes_from es (text ∷ texts) all h bytes e = by (extra_of text) refl (λ now a
         }
 
     by : (r : Option Extra) → extra_of text ≡ r → ((now : List Extra) → AreExtras now → extras_from now texts ≡ Some all → TakenFrom now texts all) → TakenFrom es (text ∷ texts) all
-    by None r go = absurd (none_some all (at None r))
+    by None r go = absurd (none_some (at None r))
     by (Some x) r go = after x r (with_extra es x) refl go
 
 joined-extras : (e : Extra) (es : List Extra) → joined (map extra_text (e ∷ es)) ≡ extras_text (e ∷ es)

@@ -12,3 +12,5 @@ pub mod ManifestLemmas
 pub mod ExtrasLemmas
 pub mod DateLemmas
 pub mod ChangesetLemmas
+pub mod RevisionLemmas
+pub mod ParentOrder

@@ -10,6 +10,7 @@ use Rattle.text_model.specs.Path.{is_fit_path}
 use Rattle.text_model.proofs.ByteLemmas.{IsBytes-front, IsBytes-rest}
 use Rattle.text_model.proofs.EachLemmas.{Each-push}
 use Rattle.text_model.proofs.LineLemmas.{whole_lines-none, whole_lines-whole}
+use Rattle.text_model.proofs.Options.{some_none}
 use Rattle.hg_model.specs.Manifest.{ManifestEntry, entry_text, manifest_text, IsManifest, IsManifestText, ManifestFault, BadLine, UnfitPath, last_path, rises_above, entry_of_line, entry_fault, path_of_line, lines_fault, manifest_fault}
 use Rattle.hg_model.proofs.EntryLemmas.{entry_of_line-text, entry_of_line-takes, at_nul, path_of_line-text, whole_lines-text, is_fit_path-plain}
 
@@ -161,15 +162,12 @@ record Fitting (last : Option Bytes) (e : ManifestEntry) : Type 0 where
   pub above : rises_above last e.path ≡ true
   pub fit : is_fit_path e.path ≡ true
 
-some_none : {A : Type 0} (x : A) → Some x ≡ None → ⊥
-some_none x e = cc
-
 fitting : (last : Option Bytes) (at : ℕ) (e : ManifestEntry) → entry_fault last at (Some e) ≡ None → Fitting last e
 fitting last at e h = by (rises_above last e.path) (is_fit_path e.path) refl refl
   where
     by : (a b : Bool) → rises_above last e.path ≡ a → is_fit_path e.path ≡ b → Fitting last e
-    by false b p q = absurd (some_none (BadLine at) (sym (entry_fault-falls last at e p) ∙ h))
-    by true false p q = absurd (some_none (UnfitPath at) (sym (entry_fault-unfit last at e p q) ∙ h))
+    by false b p q = absurd (some_none (sym (entry_fault-falls last at e p) ∙ h))
+    by true false p q = absurd (some_none (sym (entry_fault-unfit last at e p q) ∙ h))
     by true true p q = record { above = p; fit = q }
 
 no_fault_first : (last : Option Bytes) (at : ℕ) (text : Bytes) (texts : List Bytes) → lines_fault last at (text ∷ texts) ≡ None → entry_fault last at (entry_of_line text) ≡ None
@@ -177,7 +175,7 @@ no_fault_first last at text texts h = by (entry_fault last at (entry_of_line tex
   where
     by : (r : Option ManifestFault) → entry_fault last at (entry_of_line text) ≡ r → entry_fault last at (entry_of_line text) ≡ None
     by None p = p
-    by (Some why) p = absurd (some_none why (sym (lines_fault-bad last at text texts why p) ∙ h))
+    by (Some why) p = absurd (some_none (sym (lines_fault-bad last at text texts why p) ∙ h))
 
 entries_of : (last : Option Bytes) (at : ℕ) (lines : List Bytes) → IsBytes (flat_map (λ l. l) lines) → lines_fault last at lines ≡ None → Entries last lines
 entries_of last at [] fits h = record { entries = []; each = tt; up = refl; whole = sym manifest_text-none }
@@ -188,7 +186,7 @@ entries_of last at (text ∷ texts) fits h =
     first = no_fault_first last at text texts h
 
     by : (r : Option ManifestEntry) → entry_of_line text ≡ r → ((p : Bytes) → lines_fault (Some p) (at + length text) texts ≡ None → Entries (Some p) texts) → Entries last (text ∷ texts)
-    by None e rest = absurd (some_none (BadLine at) (sym (ap (entry_fault last at) e) ∙ first))
+    by None e rest = absurd (some_none (sym (ap (entry_fault last at) e) ∙ first))
     by (Some x) e rest =
         let is = fitting last at x (sym (ap (entry_fault last at) e) ∙ first) in
         let spelled = entry_of_line-takes text x e in

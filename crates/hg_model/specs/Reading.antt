@@ -1,5 +1,7 @@
 -- What a bundle brings to the revisions that are known, or its first refusal.
-use Rattle.std.specs.Prelude.{◌≡◌, ℕ, ◌+◌, ◌^◌, Bool, true, false, not, nat_lt, if◌then◌else◌, List, [], ◌∷◌, length, Option, Some, None, option_map, Result, Ok, Err, ⊤}
+use Rattle.std.specs.Prelude.{◌≡◌, ℕ, ◌+◌, Bool, true, false, not, nat_lt, if◌then◌else◌, List, [], ◌∷◌, length, Option, Some, None, option_map, Result, Ok, Err, ⊤}
+use Rattle.text_model.specs.Limits as limits
+pub use Rattle.text_model.specs.Limits.{sum_limit}
 use Rattle.text_model.specs.Text.{Bytes}
 use Rattle.text_model.specs.Id.{Id, is_null}
 use Rattle.text_model.specs.Path.{is_fit_path}
@@ -33,12 +35,10 @@ pub record Arrival : Type 0 where
   pub at : ℕ
   pub fresh : Bool
 
+-- the bytes of the text of an entry
 abbrev pub text_limit : Group → ℕ
-text_limit Changesets = 2 ^ 24
-text_limit _ = 2 ^ 26
-
-abbrev pub sum_limit : ℕ
-sum_limit = 2 ^ 30
+text_limit Changesets = limits.commit_limit
+text_limit _ = limits.text_limit
 
 -- the text of an entry, or which hunk is refused, or that the base isn't known
 pub data EntryText : Type 0 where

@@ -9,7 +9,8 @@ use Rattle.text_model.specs.Cuts.{Lacks, cut_of}
 use Rattle.text_model.proofs.CutLemmas.{cut_of-at, cut_of-takes}
 use Rattle.text_model.proofs.LackLemmas.{Lacks-by_test, has_byte-lacks, Lacks-append, Lacks-front, Lacks-rest}
 use Rattle.git_model.specs.Commit.{has_angle}
-use Rattle.git_model.proofs.OptionLemmas.{none_some, some_is, and_then-some, if-some}
+use Rattle.text_model.proofs.Options.{none_some, some_is}
+use Rattle.git_model.proofs.OptionLemmas.{and_then-some, if-some}
 use Rattle.pair_model.specs.User.{Address, name_in, email_in, split_user, no_email, or_unknown, unknown_user, plain_address, without_angles, other_address, address_of}
 use Rattle.pair_model.proofs.EndLemmas.{without_last-push, ends_with-push}
 
@@ -103,16 +104,16 @@ other-one_line user h = by (has_angle user)
 
 name_in-takes : (text name : Bytes) → name_in text ≡ Some name → name ≡ take (length text - 1) text
 name_in-takes text name e =
-    sym (some_is (take (length text - 1) text) name (if-some (ends_with ◌==◌ text (32 ∷ []) && nat_lt 1 (length text) && not (has_angle text)) (Some (take (length text - 1) text)) name e).1)
+    sym (some_is {x = take (length text - 1) text} {y = name} (if-some (ends_with ◌==◌ text (32 ∷ []) && nat_lt 1 (length text) && not (has_angle text)) (Some (take (length text - 1) text)) name e).1)
 
 email_in-takes : (text email : Bytes) → email_in text ≡ Some email → email ≡ take (length text - 1) text
 email_in-takes text email e =
-    sym (some_is (take (length text - 1) text) email (if-some (ends_with ◌==◌ text (62 ∷ []) && not (has_angle (take (length text - 1) text))) (Some (take (length text - 1) text)) email e).1)
+    sym (some_is {x = take (length text - 1) text} {y = email} (if-some (ends_with ◌==◌ text (62 ∷ []) && not (has_angle (take (length text - 1) text))) (Some (take (length text - 1) text)) email e).1)
 
 mapped : (name : Bytes) (o : Option Bytes) (a : Address) → option_map {U = Address} (λ email. record { name = name; email = email }) o ≡ Some a → (o ≡ Some a.email) × (name ≡ a.name)
-mapped name None a e = absurd (none_some a e)
+mapped name None a e = absurd (none_some {x = a} e)
 mapped name (Some email) a e =
-    let is : record { name = name; email = email } ≡ a = some_is _ a e in
+    let is : record { name = name; email = email } ≡ a = some_is {y = a} e in
     (ap (λ (x : Address). Some x.email) is, ap (λ (x : Address). x.name) is)
 
 split-one_line : (user : Bytes) (a : Address) → split_user user ≡ Some a → Lacks 10 user → IsOneLine a

@@ -5,7 +5,8 @@ use Rattle.std.specs.List.{list_all}
 use Rattle.std.proofs.lemmas.Bool.Decides.{nat_tests}
 use Rattle.text_model.specs.Text.{Bytes, is_digit}
 use Rattle.text_model.proofs.TestLemmas.{both, differs}
-use Rattle.git_model.proofs.OptionLemmas.{some_is, if-some}
+use Rattle.text_model.proofs.Options.{some_is}
+use Rattle.git_model.proofs.OptionLemmas.{if-some}
 use Rattle.git_model.specs.Commit.{is_zone, begins}
 use Rattle.pair_model.specs.User.{two_digits, zone_sign, zone_of, zone_size, tz_of_zone}
 
@@ -91,7 +92,7 @@ zone_size-within zone h = by zone (five zone h).0 (five zone h).1
 pub tz_of_zone-within : (zone : Bytes) (tz : ℤ) → tz_of_zone zone ≡ Some tz → unsigned_abs tz ≤ 362340
 tz_of_zone-within zone tz e =
     let found = if-some (is_zone zone) (Some (if slice_index zone 0 == 45 then pos (zone_size zone) else neg_ℤ (pos (zone_size zone)))) tz e in
-    let is = some_is _ tz found.1 in
+    let is = some_is {y = tz} found.1 in
     subst (λ (x : ℤ). unsigned_abs x ≤ 362340) is (by (slice_index zone 0 == 45) (zone_size zone) (zone_size-within zone found.0))
   where
     by : (t : Bool) (size : ℕ) → size ≤ 362340 → unsigned_abs (if t then pos size else neg_ℤ (pos size)) ≤ 362340

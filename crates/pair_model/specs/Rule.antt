@@ -1,7 +1,7 @@
 -- The plain rules: the commit of a changeset, and the changeset of a commit, part by part. These rules are this project's own.
 -- They look at the view, the views of its parents and the parents' partners, and at nothing else that is stored.
 use Rattle.std.specs.Prelude.{Bool, true, false, not, ◌&&◌, if◌then◌else◌, List, [], ◌∷◌, ◌++◌, map, filter, Option, Some, None, option_map, unwrap_or, pos, bytes_eq}
-use Rattle.std.specs.List.{find, list_all}
+use Rattle.std.specs.List.{find, filter_map, list_all}
 use Rattle.std.specs.Option.{option_or}
 use Rattle.text_model.specs.Lists.{first_of_each, in_order}
 use Rattle.text_model.specs.Text.{Bytes, is_below}
@@ -10,9 +10,12 @@ use Rattle.hg_model.specs.Changeset.{DateLine, Plain, Raw}
 use Rattle.hg_model.specs.Manifest.{Flag, Regular, Executable, Symlink, flag_text}
 use Rattle.hg_model.specs.FileText.{plain_meta, file_order, manifest_order}
 use Rattle.git_model.specs.Tree.{Mode, File, Exec, Link}
+use Rattle.git_model.specs.Unfold.{FileRow}
+use Rattle.git_model.specs.Residue.{ResidueItem, residue_of, carried, mode_with, row_of_item}
 use Rattle.pair_model.specs.User.{line_of_user, user_of_line, message_of, description_of}
+use Rattle.view_model.specs.Held.{file_row_of}
 use Rattle.view_model.specs.View.{files_among, FileRevision, file_node, Row, rows_text, paths_of, ManifestParents, Over, manifest_node, ChangesetView, TreeRow, CommitView, root_of_rows}
-use Rattle.pair_model.specs.Block.{Block, git_partner, not_null, Parents}
+use Rattle.pair_model.specs.Block.{Block, block_of_node, git_partner, not_null, Parents}
 
 -- ---- from a changeset to a commit
 
@@ -25,14 +28,31 @@ mode_of_flag Symlink = Link
 abbrev pub tree_row_of : Row → TreeRow
 tree_row_of row = record { path = row.path; mode = mode_of_flag row.flag; id = blob_id (row.revision).body; content = (row.revision).body }
 
+-- what the tree of the first parent's partner has beside its files
+abbrev pub old_residue : List Block → Id → List ResidueItem
+old_residue blocks node = unwrap_or (option_map (λ b. residue_of (map file_row_of (b.commit).rows)) (block_of_node blocks node)) []
+
+-- what of it fits the files of the changeset
+abbrev pub carried_to : List Block → ChangesetView → List ResidueItem
+carried_to blocks h = carried (old_residue blocks h.p) (map file_row_of (map tree_row_of h.rows))
+
+abbrev pub tree_row_with : List ResidueItem → TreeRow → TreeRow
+tree_row_with items row = record { path = row.path; mode = mode_with items row.path row.mode; id = row.id; content = row.content }
+
+abbrev pub no_content : FileRow → TreeRow
+no_content row = record { path = row.path; mode = row.mode; id = row.id; content = [] }
+
+-- the files of the changeset and the rows of the items, in rising order of their paths
+unfoldable pub tree_rows_with : List ResidueItem → List TreeRow → List TreeRow
+tree_rows_with items rows = in_order (λ a b. is_below a.path b.path) (map (tree_row_with items) rows ++ map no_content (filter_map row_of_item items))
+
 abbrev pub author_by : Bytes → DateLine → Bytes
 author_by user (Plain time tz extras) = line_of_user user time tz
 author_by user (Raw text) = line_of_user user (pos 0) (pos 0)
 
--- the files, the partners of the parents, the line of user and date twice, no headers, the message of the description
-unfoldable pub rule_commit : List Block → ChangesetView → CommitView
-rule_commit blocks h =
-    let rows = map tree_row_of h.rows in
+-- The commit with these rows: the partners of the parents, the line of user and date twice, no headers, the message of the description.
+abbrev pub commit_with : List TreeRow → List Block → ChangesetView → CommitView
+commit_with rows blocks h =
     let author = author_by (h.fields).user (h.fields).date in
     record {
       value = record {
@@ -45,6 +65,10 @@ rule_commit blocks h =
       };
       rows = rows;
     }
+
+-- the commit of the files, with what the first parent's partner hands on
+unfoldable pub rule_commit : List Block → ChangesetView → CommitView
+rule_commit blocks h = commit_with (tree_rows_with (carried_to blocks h) (map tree_row_of h.rows)) blocks h
 
 -- ---- from a commit to a changeset
 

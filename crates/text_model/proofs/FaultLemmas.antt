@@ -37,7 +37,6 @@ fault_word-short fault.ParentLimit = omega arith
 fault_word-short fault.ManifestUnknown = omega arith
 fault_word-short fault.FileUnknown = omega arith
 fault_word-short fault.ObjectUnknown = omega arith
-fault_word-short fault.EmptySubtree = omega arith
 fault_word-short fault.PathClash = omega arith
 fault_word-short fault.ParentIsLink = omega arith
 fault_word-short fault.FileParentLate = omega arith

@@ -11,3 +11,7 @@ pub mod PathLemmas
 pub mod TestLemmas
 pub mod LackLemmas
 pub mod FaultLemmas
+pub mod Options
+pub mod Elements
+pub mod Search
+pub mod Digests

@@ -1,5 +1,5 @@
 -- Changesets and commits that stand in a store: known revisions and known objects say all that a view says.
-use Rattle.std.specs.Prelude.{◌≡◌, ⊤, List, [], ◌∷◌, map, Some}
+use Rattle.std.specs.Prelude.{◌≡◌, ⊤, true, false, List, [], ◌∷◌, map, Some}
 use Rattle.text_model.specs.Lists.{Each}
 use Rattle.text_model.specs.Id.{Id, null, commit}
 use Rattle.hg_model.specs.Changeset.{IsChangesetText}
@@ -8,6 +8,7 @@ use Rattle.hg_model.specs.FileText.{IsFileText, file_order, manifest_order}
 use Rattle.hg_model.specs.Revision.{Revision, Changesets, Manifests, FilesAt, revision_of}
 use Rattle.git_model.specs.Commit.{IsCommitText}
 use Rattle.git_model.specs.Object.{Object, object_at}
+use Rattle.git_model.specs.Tree.{is_blob_mode}
 use Rattle.git_model.specs.Unfold.{FileRow, IsUnfolding}
 use Rattle.view_model.specs.View.{Row, ManifestParents, NoManifest, Over, ChangesetView, CommitView, TreeRow, entry_of_row, file_node}
 
@@ -56,6 +57,11 @@ file_row_of row = record { path = row.path; mode = row.mode; id = row.id }
 abbrev pub IsBlobHeld : List Object → TreeRow → Type 0
 IsBlobHeld known row = (o : Object) × (object_at known row.id ≡ Some o) × (o.content ≡ row.content)
 
+-- the blob of a row that is a file is known, with this content; a row that is none has no content
+pub record IsRowHeld (known : List Object) (row : TreeRow) : Type 0 where
+  pub blob : is_blob_mode row.mode ≡ true → IsBlobHeld known row
+  pub none : is_blob_mode row.mode ≡ false → row.content ≡ []
+
 -- the id is that of a known commit, and the view is what it, its tree and its blobs say
 pub record IsCommitHeld (known : List Object) (id : Id) (c : CommitView) : Type 0 where
   pub object : Object
@@ -63,7 +69,7 @@ pub record IsCommitHeld (known : List Object) (id : Id) (c : CommitView) : Type 
   pub kind : object.kind ≡ commit
   pub text : IsCommitText object.content c.value
   pub rows : IsUnfolding known (c.value).tree_id (map file_row_of c.rows)
-  pub blobs : Each (IsBlobHeld known) c.rows
+  pub blobs : Each (IsRowHeld known) c.rows
 
 -- the views are those of these ids, one by one
 abbrev pub AreCommitsHeld : List Object → List Id → List CommitView → Type 0
