@@ -5,3 +5,4 @@ pub mod Replacements
 pub mod Sink
 pub mod Slot
 pub mod Streams
+pub mod Fill

@@ -11,6 +11,7 @@ pub record SourceState : Type 0 where
 -- a sink: the bytes so far, the most of all calls, the most of one call (0: no bound), and its calls
 pub record SinkState : Type 0 where
   pub taken : List ℕ
+  pub flushed : List ℕ
   pub most : ℕ
   pub cut : ℕ
   pub calls : CallCount

@@ -9,9 +9,6 @@ use std::marker::Model;
 use std::rt::Files;
 use std::{fs, io};
 
-#[cfg(test)]
-mod tests;
-
 const STATE: &str = "hggit.state";
 
 const NEW_STATE: &str = "hggit.state.new";

@@ -5,6 +5,7 @@ mod calls;
 mod cut;
 mod failed;
 mod file_slot;
+mod filling;
 mod mem_sink;
 mod mem_slot;
 mod mem_source;
@@ -14,11 +15,10 @@ mod source;
 mod std_sink;
 mod std_source;
 mod steps;
-#[cfg(test)]
-mod tests;
 
 pub use failed::Failed;
 pub use file_slot::FileSlot;
+pub use filling::{FillFault, fill, fill_vec, skip};
 pub use mem_sink::MemSink;
 pub use mem_slot::MemSlot;
 pub use mem_source::MemSource;

@@ -1,5 +1,5 @@
 // A sink into memory.
-ghost use Rattle.std.specs.Prelude.{◌≡◌, ◌≤◌, ℕ, [], vec_len, vec_capacity};
+ghost use Rattle.std.specs.Prelude.{◌≡◌, ◌≤◌, ℕ, [], take, vec_len, vec_capacity};
 ghost use Rattle.bridge_io.specs.Calls.{no_calls};
 ghost use Rattle.bridge_io.specs.Memory.{SinkState};
 
@@ -13,6 +13,7 @@ use std::marker::Model;
 #[derive(Drop)]
 pub struct MemSink {
     taken: Vec<u8>,
+    flushed: usize,
     most: usize,
     cut: usize,
     calls: Calls,
@@ -21,9 +22,9 @@ pub struct MemSink {
 impl Model for MemSink {
     ghost Value = { SinkState };
 
-    ghost view = { λ s. record { taken = s.taken.items; most = s.most; cut = s.cut; calls = s.calls } };
+    ghost view = { λ s. record { taken = s.taken.items; flushed = take s.flushed s.taken.items; most = s.most; cut = s.cut; calls = s.calls } };
 
-    ghost invariant = { λ s. (s.most ≤ vec_capacity s.taken) × (vec_len s.taken ≤ s.most) };
+    ghost invariant = { λ s. (s.most ≤ vec_capacity s.taken) × (vec_len s.taken ≤ s.most) × (s.flushed ≤ vec_len s.taken) };
 }
 
 impl MemSink {
@@ -33,16 +34,25 @@ impl MemSink {
         requires empty { room.items ≡ [] }
         requires reserved { most ≤ vec_capacity room }
         ensures taken { result.taken ≡ [] }
+        ensures flushed { result.flushed ≡ [] }
         ensures most { result.most ≡ most }
         ensures cut { result.cut ≡ cut }
         ensures calls { result.calls ≡ no_calls fails.items }
     {
         MemSink {
             taken: room,
+            flushed: 0,
             most,
             cut,
             calls: Calls::new(fails),
         }
+    }
+
+    /// Those of them that were taken before the last flush that answered `Ok`.
+    pub fn flushed(&self) -> &[u8]
+        ensures { result.now ≡ self.now.flushed }
+    {
+        &self.taken[..self.flushed]
     }
 
     /// All bytes that were taken so far.
@@ -54,14 +64,16 @@ impl MemSink {
 }
 
 impl Sink for MemSink {
-    ghost use Rattle.std.specs.Prelude.{◌-◌, ◌<◌, ◌⊎◌, ◌↔◌, length, min, IsErr, IfOk, Some};
+    ghost use Rattle.std.specs.Prelude.{◌-◌, ◌<◌, ◌⊎◌, ◌↔◌, length, min, IsErr, IfOk, OnOk, OnErr, Some};
     ghost use Rattle.std.specs.Io.KnownBytes.{WriteAppends, Keeps};
     ghost use Rattle.bridge_io.specs.Calls.{NextFails, SteadyCount, CountsCall};
     ghost use Rattle.bridge_io.specs.Causes.{HasCause};
     ghost use Rattle.bridge_io.specs.Memory.{cut_len};
-    ghost use Rattle.bridge_io.specs.Sink.{WritesSome};
+    ghost use Rattle.bridge_io.specs.Sink.{WritesSome, IsOut};
 
     ghost taken = { λ s. Some s.taken };
+
+    ghost flushed = { λ s. Some s.flushed };
 
     ghost faults = { λ s. s.calls.faults };
 
@@ -70,6 +82,7 @@ impl Sink for MemSink {
     fn write(&mut self, piece: &[u8]) -> Result<usize, Failed>
         ensures bound { WritesSome result piece.now }
         ensures bytes { WriteAppends (Some self.old.taken) (Some self.new.taken) result piece.now }
+        ensures out { Some self.new.flushed ≡ Some self.old.flushed }
         ensures cause { HasCause self.old.calls.faults self.new.calls.faults result }
         ensures fails { IsErr result ↔ (NextFails self.old.calls
             ⊎ ((0 < length piece.now) × (self.old.most ≤ length self.old.taken))) }
@@ -93,6 +106,8 @@ impl Sink for MemSink {
     /// `Failed` comes exactly at the calls that were told to fail.
     fn flush(&mut self) -> Result<(), Failed>
         ensures bytes { Keeps (Some self.old.taken) (Some self.new.taken) }
+        ensures out { OnOk result (IsOut (Some self.new.flushed) (Some self.new.taken)) }
+        ensures kept { OnErr result (Some self.new.flushed ≡ Some self.old.flushed) }
         ensures cause { HasCause self.old.calls.faults self.new.calls.faults result }
         ensures fails { IsErr result ↔ NextFails self.old.calls }
         ensures steady { SteadyCount self.old.calls self.new.calls }
@@ -100,6 +115,8 @@ impl Sink for MemSink {
         ensures most { self.new.most ≡ self.old.most }
         ensures cut { self.new.cut ≡ self.old.cut }
     {
-        self.calls.begin()
+        self.calls.begin()?;
+        self.flushed = self.taken.len();
+        Ok(())
     }
 }

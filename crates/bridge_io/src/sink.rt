@@ -1,8 +1,8 @@
 // Where bytes go.
-ghost use Rattle.std.specs.Prelude.{List, ℕ, Option, OnOk};
+ghost use Rattle.std.specs.Prelude.{◌≡◌, List, ℕ, Option, OnOk, OnErr};
 ghost use Rattle.std.specs.Io.KnownBytes.{WriteAppends, Appends, Keeps};
 ghost use Rattle.bridge_io.specs.Causes.{HasCause};
-ghost use Rattle.bridge_io.specs.Sink.{WritesSome, AppendsPrefix};
+ghost use Rattle.bridge_io.specs.Sink.{WritesSome, AppendsPrefix, IsOut};
 
 use crate::failed::Failed;
 
@@ -10,6 +10,9 @@ use crate::failed::Failed;
 pub trait Sink {
     /// All bytes so far, where it tells them.
     ghost taken: { Self → Option (List ℕ) };
+
+    /// Those of them that are out, where it tells them: what was taken before the last flush that answered `Ok`.
+    ghost flushed: { Self → Option (List ℕ) };
 
     /// How often it has failed.
     ghost faults: { Self → ℕ };
@@ -19,11 +22,14 @@ pub trait Sink {
     fn write(&mut self, piece: &[u8]) -> Result<usize, Failed>
         ensures bound { WritesSome result piece.now }
         ensures bytes { WriteAppends (taken self.old) (taken self.new) result piece.now }
+        ensures out { flushed self.new ≡ flushed self.old }
         ensures cause { HasCause (faults self.old) (faults self.new) result };
 
-    /// Hands on what was taken.
+    /// Hands on what was taken: after `Ok` all of it is out.
     fn flush(&mut self) -> Result<(), Failed>
         ensures bytes { Keeps (taken self.old) (taken self.new) }
+        ensures out { OnOk result (IsOut (flushed self.new) (taken self.new)) }
+        ensures kept { OnErr result (flushed self.new ≡ flushed self.old) }
         ensures cause { HasCause (faults self.old) (faults self.new) result };
 }
 
@@ -31,6 +37,7 @@ pub trait Sink {
 pub fn write_all<O: Sink>(out: &mut O, bytes: &[u8]) -> Result<(), Failed>
     ensures ok { OnOk result (Appends (O.taken out.old) (O.taken out.new) bytes.now) }
     ensures prefix { AppendsPrefix (O.taken out.old) (O.taken out.new) bytes.now }
+    ensures out { O.flushed out.new ≡ O.flushed out.old }
     ensures cause { HasCause (O.faults out.old) (O.faults out.new) result }
 {
     let mut rest = bytes;

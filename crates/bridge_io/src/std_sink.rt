@@ -32,7 +32,11 @@ impl<W: Write + Drop> StdSink<W> {
 }
 
 impl<W: Write + Drop> Sink for StdSink<W> {
+    ghost use Rattle.std.specs.Prelude.{None};
+
     ghost taken = { λ s. s.taken };
+
+    ghost flushed = { λ _. None };
 
     ghost faults = { λ s. s.faults };
 

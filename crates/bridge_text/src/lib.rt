@@ -1,16 +1,18 @@
-//! Ids, byte strings, paths, escapes and decimals: the texts that both sides of the bridge share.
+//! Ids, byte strings, paths, escapes, decimals, limits and refusals: what both sides of the bridge share.
 #![tactic(auto)]
 
 mod bytes;
 mod cut;
 mod decimal;
 mod escape;
+mod fault;
 mod hash;
 mod id;
 mod id_list;
 mod id_set;
 mod kind;
 mod laws;
+mod limits;
 mod memory;
 mod path;
 mod paths;
@@ -19,15 +21,16 @@ pub use bytes::{Bytes, each_is_byte};
 pub use cut::{cut_at, line_end};
 pub use decimal::{decimal_into, decimal_of};
 pub use escape::{TextFault, escape_into, unescape_into};
+pub use fault::{Fault, Refusal};
 pub use hash::{node_id, object_id};
 pub use id::Id;
 pub use id_list::IdList;
 pub use id_set::IdSet;
 pub use kind::{Added, Kind};
 pub use laws::{decimal_laws, escape_laws, hex_laws, node_laws};
+pub use limits::{
+    COMMIT_LIMIT, COMPONENT_LIMIT, INPUT_LIMIT, PATH_LIMIT, ROWS_LIMIT, SUM_LIMIT, TEXT_LIMIT,
+};
 pub use memory::NoMemory;
 pub use path::{fit_name, fit_path};
 pub use paths::Paths;
-
-#[cfg(test)]
-mod tests;

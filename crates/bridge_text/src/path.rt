@@ -4,12 +4,7 @@ ghost use Rattle.text_model.specs.Text.{has_byte};
 ghost use Rattle.text_model.specs.Path.{components, is_fit_component, is_fit_path, is_fit_name};
 
 use crate::cut::cut_at;
-
-/// The most bytes of a fit path.
-const MOST_BYTES: usize = 4096;
-
-/// The most components of a fit path.
-const MOST_COMPONENTS: usize = 256;
+use crate::limits::{COMPONENT_LIMIT, PATH_LIMIT};
 
 /// Whether both sides can hold a file of this path. A fit path has 1 to 4,096 bytes, none of
 /// them NUL, LF or CR, and at most 256 components between its slashes, none of them empty,
@@ -18,7 +13,7 @@ const MOST_COMPONENTS: usize = 256;
 pub fn fit_path(path: &[u8]) -> bool
     ensures { result ≡ is_fit_path path.now }
 {
-    !path.is_empty() && path.len() <= MOST_BYTES && has_fit_bytes(path) && has_fit_components(path)
+    !path.is_empty() && path.len() <= PATH_LIMIT && has_fit_bytes(path) && has_fit_components(path)
 }
 
 /// Whether this is a fit path of one component.
@@ -56,5 +51,5 @@ fn has_fit_components(path: &[u8]) -> bool
         count += 1;
         rest = after;
     }
-    is_fit_component(rest) && count < MOST_COMPONENTS
+    is_fit_component(rest) && count < COMPONENT_LIMIT
 }

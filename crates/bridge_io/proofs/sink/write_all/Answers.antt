@@ -15,5 +15,9 @@ loop-rest-preserved g c =
         rw take_rest (front_grows c.args.bytes.now so_far.0 rest n so_far.1),
         Appends-trans _ _ _ so_far.0 (take n rest) so_far.2 c.in_ok-count.ensures.bytes,
       );
+      out = c.in_ok-count.ensures.out ∙ c.loop-rest.invariant.out;
       kept = c.in_ok-count.ensures.cause.kept ∙ c.loop-rest.invariant.kept;
     }
+
+pub returns-in_err-count-clause-out : goal.returns-in_err-count-clause-out
+returns-in_err-count-clause-out g c = c.in_err-count.ensures.out ∙ c.loop-rest.invariant.out

@@ -1,0 +1,22 @@
+// The limits of this project. Each may be reached and not passed.
+
+/// The bytes of the input of one command: 512 MiB.
+pub const INPUT_LIMIT: u64 = 1 << 29;
+
+/// The bytes of all texts that the entries of one bundle make.
+pub const SUM_LIMIT: usize = 1 << 30;
+
+/// The bytes of a file text, a manifest, a blob, a tree or an annotated tag.
+pub const TEXT_LIMIT: usize = 1 << 26;
+
+/// The bytes of a changeset's text or of a commit.
+pub const COMMIT_LIMIT: usize = 1 << 24;
+
+/// The rows of a commit's tree, each counted as the bytes of its path and 42.
+pub const ROWS_LIMIT: usize = 1 << 26;
+
+/// The bytes of a path.
+pub const PATH_LIMIT: usize = 4096;
+
+/// The components of a path.
+pub const COMPONENT_LIMIT: usize = 256;
