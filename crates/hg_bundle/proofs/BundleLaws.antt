@@ -4,12 +4,12 @@ use Rattle.text_model.specs.Text.{Bytes, IsBytes}
 use Rattle.hg_model.specs.Bundle.{ListsBundle, listing_fault}
 use Rattle.hg_model.proofs.BundleLemmas.{lists_bundle, refused_is_none}
 use Rattle.hg_bundle.specs.declared.fault.BundleFault.{BundleFault}
-use Rattle.hg_bundle.specs.declared.fault.BundleFault.TheVariants.{Bad, Read, Memory}
+use Rattle.hg_bundle.specs.declared.fault.BundleFault.TheVariants.{Refused, Read, Memory}
 use Rattle.hg_bundle.specs.Faults.{IsFault}
 use Rattle.hg_bundle.specs.Listing.{Lists, TellsNoBundle}
 
 tells : (e : BundleFault) (bytes : Bytes) → IsFault (listing_fault bytes) e → TellsNoBundle e bytes
-tells (Bad name id at) bytes is = refused_is_none bytes _ is
+tells (Refused refusal) bytes is = refused_is_none bytes _ is
 tells Read bytes is = tt
 tells Memory bytes is = tt
 

@@ -8,6 +8,8 @@ use Rattle.text_model.specs.Text.{Bytes}
 use Rattle.text_model.specs.Id.{Id, is_null, node_id}
 use Rattle.text_model.specs.Fault.{FaultName, Refusal, refusal, refusal_at}
 use Rattle.text_model.specs.Fault as fault
+use Rattle.text_model.proofs.Options.{some_none}
+use Rattle.hg_model.proofs.RevisionLemmas.{is_of-self}
 use Rattle.hg_model.specs.Chunk.{or_else}
 use Rattle.hg_model.specs.Delta.{Hunk, DeltaReading, Hunks, Cut, Outside, delta_reading, patched_text, patched_size}
 use Rattle.hg_model.specs.Bundle.{BundleEntry}
@@ -21,16 +23,12 @@ use Rattle.hg_store.specs.Faults as store
 use Rattle.hg_store.specs.declared.fault.AddFault.{AddFault}
 use Rattle.hg_store.specs.declared.fault.AddFault.TheVariants as add
 use Rattle.hg_bundle.specs.declared.fault.BundleFault.{BundleFault}
-use Rattle.hg_bundle.specs.declared.fault.BundleFault.TheVariants.{Bad}
-use Rattle.hg_bundle.specs.declared.fault.HgByteFault.TheVariants as byte
-use Rattle.hg_bundle.specs.Faults.{IsJudgement, addition_fault_at}
+use Rattle.bridge_text.specs.declared.fault.Fault.TheVariants as name
+use Rattle.hg_bundle.specs.Faults.{IsJudgement, addition_fault_at, refused_for}
 use Rattle.hg_bundle.specs.Entry.{base_for, text_for, fault_for, HasLast, HasText, HasNoText}
 use Rattle.hg_bundle.specs.Arrivals.{arrival_of}
 use Rattle.hg_bundle.specs.Steps.{Adds, entry_bytes, entry_revision}
 use Rattle.hg_bundle.specs.declared.gather.Gathered.{Gathered}
-
-pub some_none : {X : Type 0} {x : X} → Some x ≡ None → ⊥
-some_none h = cc
 
 -- ---- the faults of an addition
 
@@ -112,13 +110,13 @@ module _ (known : List Revision) (sum : ℕ) (group : Group) (last : Option Id) 
     unfolding entry_fault
     hunk_later name place is = rw is refl
 
-    pub shape_refused : (place : ℕ) → delta_reading (length base) e.delta ≡ Cut place → HasNoText known sum group last at e (Bad byte.HunkShape e.node (hunk_place at place))
+    pub shape_refused : (place : ℕ) → delta_reading (length base) e.delta ≡ Cut place → HasNoText known sum group last at e (refused_for name.HunkShape e.node (hunk_place at place))
     shape_refused place is = record {
       first = λ n a. ap (entry_fault known sum group at e) (text-is (Cut place) is) ∙ hunk_first fault.HunkShape place n a;
       later = λ a. ap (entry_fault known sum group at e) (text-is (Cut place) is) ∙ hunk_later fault.HunkShape place a;
     }
 
-    pub range_refused : (place : ℕ) → delta_reading (length base) e.delta ≡ Outside place → HasNoText known sum group last at e (Bad byte.HunkRange e.node (hunk_place at place))
+    pub range_refused : (place : ℕ) → delta_reading (length base) e.delta ≡ Outside place → HasNoText known sum group last at e (refused_for name.HunkRange e.node (hunk_place at place))
     range_refused place is = record {
       first = λ n a. ap (entry_fault known sum group at e) (text-is (Outside place) is) ∙ hunk_first fault.HunkRange place n a;
       later = λ a. ap (entry_fault known sum group at e) (text-is (Outside place) is) ∙ hunk_later fault.HunkRange place a;
@@ -153,7 +151,7 @@ module _ (known : List Revision) (sum : ℕ) (group : Group) (last : Option Id) 
   first_unknown none = unknown_parent (is_null e.p) (revision_of known group e.p) refl refl none
 
 pub parent_refused : (known : List Revision) (sum : ℕ) (group : Group) (last : Option Id) (at : ℕ) (e : BundleEntry) → HasLast known group last → base_for known group last e.p ≡ None
-    → HasNoText known sum group last at e (Bad byte.ParentUnknown e.node at)
+    → HasNoText known sum group last at e (refused_for name.ParentUnknown e.node at)
 parent_refused known sum group (Some node) at e before none = absurd (some_none (sym before.1 ∙ none))
 parent_refused known sum group None at e before none = record {
   first = λ n a. no_base known sum group None at e (ap (λ (o : Option Bytes). entry_text o e.delta) none) n a;
@@ -206,16 +204,13 @@ same_group_self Changesets = refl
 same_group_self model.Manifests = refl
 same_group_self (model.FilesAt path) = (bytes_eq-Decides path path).1 refl
 
-is_self : (r : Revision) → is_of r.group r.node r ≡ true
-is_self r = rw (same_group_self r.group, (bytes_eq-Decides r.node r.node).1 refl) refl
-
 same_text : (r h : Revision) (x y : Bool) → bytes_eq r.text h.text ≡ x → same_parents r.group r.p r.q h.p h.q ≡ y → same_revision r h ≡ true → is_otherwise r h ≡ false → x ≡ true
 same_text r h true y text parents same other = refl
 same_text r h false y text parents same other = absurd (true≢false (sym (rw (same, text) refl) ∙ other))
 
 -- the first of the node in the list has the text
 text_in : (r : Revision) (rs : List Revision) → list_any (is_otherwise r) rs ≡ false → option_map (λ (h : Revision). h.text) (find (is_of r.group r.node) (rs ++ r ∷ [])) ≡ Some r.text
-text_in r [] other = rw (is_self r) refl
+text_in r [] other = rw (is_of-self r) refl
 text_in r (x ∷ xs) other = by (same_revision r x) (is_otherwise r x) refl refl other (text_in r xs)
   where
     by : (t o : Bool) → same_revision r x ≡ t → is_otherwise r x ≡ o → list_any (is_otherwise r) (x ∷ xs) ≡ false

@@ -6,6 +6,7 @@ use Rattle.text_model.specs.Lists.{Each}
 use Rattle.text_model.specs.Text.{Bytes, IsBytes}
 use Rattle.text_model.specs.Fault.{Refusal, input_limit}
 use Rattle.text_model.proofs.ByteLemmas.{IsBytes-at, IsBytes-front, IsBytes-rest}
+use Rattle.text_model.proofs.Options.{none_some}
 use Rattle.hg_model.specs.Chunk.{field_of, chunk_text, magic_text, chunk_fault, magic_fault}
 use Rattle.hg_model.specs.Delta.{Patches}
 use Rattle.hg_model.specs.Bundle.{Place, InGroup, AtPath, Framing, framed_end, put_item, framing_from, bundle_framing, listing_fault, bundle_text, BundleEntry, FileGroup, Bundle, entry_payload, group_text, IsBundleEntry, IsSize, IsBundle, IsWithinLimits, AreShort, delta_limit, path_limit, length_limit, place_after, place_after_empty, is_path}
@@ -21,7 +22,7 @@ use Rattle.hg_model.proofs.TakenLemmas.{chunk_none}
 use Rattle.hg_bundle.specs.declared.arrival.Arrival as listed
 use Rattle.hg_bundle.specs.Arrivals.{Reads, arrival_of, revisions_of, known_after_all, refused}
 use Rattle.hg_bundle.specs.Brought.{revisions_with, AreOfGroup, AreOfFiles, AreListed, BringsBundle}
-use Rattle.hg_bundle.proofs.Reading.{arrivals_of, ends_Ok, ends_Err, none_some, reading_is, magic_refused}
+use Rattle.hg_bundle.proofs.Reading.{arrivals_of, ends_Ok, ends_Err, reading_is, magic_refused}
 use Rattle.hg_bundle.proofs.Taken.{IsTaken, Brings, entry_brings, path_brings, err_ok, same_ok, all_taken}
 
 -- ---- the bytes of an entry

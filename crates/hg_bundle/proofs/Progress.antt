@@ -13,7 +13,7 @@ use Rattle.hg_chunk.specs.declared.fault.ChunkFault.{ChunkFault}
 use Rattle.hg_chunk.specs.declared.fault.ChunkFault.TheVariants as chunk
 use Rattle.hg_chunk.specs.Faults as framing
 use Rattle.hg_bundle.specs.declared.fault.BundleFault.{BundleFault}
-use Rattle.hg_bundle.specs.declared.fault.BundleFault.TheVariants.{Bad, Read, Memory}
+use Rattle.hg_bundle.specs.declared.fault.BundleFault.TheVariants.{Refused, Read, Memory}
 use Rattle.hg_bundle.specs.Faults.{IsFault, bundle_fault}
 use Rattle.hg_bundle.specs.Listing.{next_place, line_at, IsLongEnough, IsStepFault}
 
@@ -169,7 +169,7 @@ short_refused whole mid rest old out at place (byte ∷ bytes) so_far text fits 
 -- a step's fault is the refusal of the whole input
 step_fault : (whole mid rest old out : Bytes) (at : ℕ) (place : Place) (payload : Bytes) (e : BundleFault) → GoesOn whole mid old out at (Some place) → mid ≡ chunk_text payload ++ rest
     → chunk_fault (length_limit place) at mid ≡ None → field_of payload < 2 ^ 31 → IsStepFault place at payload e → IsFault (listing_fault whole) e
-step_fault whole mid rest old out at place payload (Bad why id found) so_far text fits small is =
+step_fault whole mid rest old out at place payload (Refused refusal) so_far text fits small is =
     short_refused whole mid rest old out at place payload so_far text fits small is.1 is.2 ∙ is.0
 step_fault whole mid rest old out at place payload Read so_far text fits small is = absurd is
 step_fault whole mid rest old out at place payload Memory so_far text fits small is = tt

@@ -6,6 +6,7 @@ use Rattle.text_model.specs.Id.{Id}
 use Rattle.text_model.specs.Path.{is_fit_path}
 use Rattle.text_model.specs.Fault.{Refusal, refusal_at}
 use Rattle.text_model.specs.Fault as fault
+use Rattle.text_model.proofs.Options.{none_some, some_is}
 use Rattle.hg_model.specs.Chunk.{field_of, chunk_text, magic_text, chunk_fault, magic_fault, trailing_fault}
 use Rattle.hg_model.specs.Bundle.{Place, InGroup, AtPath, Framing, framed_end, framing_from, bundle_framing, length_limit, is_short_at, is_path, place_after, place_after_empty, put_item, BundleEntry, entry_of}
 use Rattle.hg_model.specs.Revision.{Group, Changesets, FilesAt, Revision, known_after, knows}
@@ -16,7 +17,7 @@ use Rattle.hg_store.specs.Known.{text_of}
 use Rattle.hg_chunk.specs.declared.fault.ChunkFault.{ChunkFault}
 use Rattle.hg_chunk.specs.Faults as framing
 use Rattle.hg_bundle.specs.declared.fault.BundleFault.{BundleFault}
-use Rattle.hg_bundle.specs.declared.fault.BundleFault.TheVariants.{Bad, Read, Memory}
+use Rattle.hg_bundle.specs.declared.fault.BundleFault.TheVariants.{Refused, Read, Memory}
 use Rattle.hg_bundle.specs.declared.arrival.Arrival as listed
 use Rattle.hg_bundle.specs.declared.gather.Gathered.{Gathered}
 use Rattle.hg_bundle.specs.Faults.{IsFault, IsJudgement, bundle_fault}
@@ -173,9 +174,6 @@ pub magic_told : (start : List Revision) (old : Option Bytes) (e : ChunkFault) �
 magic_told start None e is = tt
 magic_told start (Some bytes) e is = refused_by (magic_fault bytes) (refused (bundle_reading start bytes)) e (magic_refused start bytes) is
 
-pub none_some : {X : Type 0} {x : X} → None ≡ Some x → ⊥
-none_some h = cc
-
 abbrev pub nothing : List Revision → Gathered
 nothing start = record { store = start; arrivals = []; last = None; sum = 0 }
 
@@ -315,9 +313,6 @@ reading_goes_on start (Some whole) (Some mid) (Some rest) g new at place payload
 
 -- ---- a chunk at which the input is refused
 
-some_is : {X : Type 0} {x y : X} → Some x ≡ Some y → x ≡ y
-some_is e = cc
-
 module _ (whole mid rest : Bytes) (start : List Revision) (g : Gathered) (at byte : ℕ) (bytes : Bytes) (text : mid ≡ chunk_text (byte ∷ bytes) ++ rest)
     (small : field_of (byte ∷ bytes) < 2 ^ 31) (why : Refusal) where
   -- the whole input is refused as an item is
@@ -363,7 +358,7 @@ step_refused whole mid rest start g at (InGroup group) (byte ∷ bytes) why so_f
 step_fault : (whole mid rest : Bytes) (start : List Revision) (g : Gathered) (at : ℕ) (place : Place) (payload : Bytes) (e : BundleFault) → ReadsOn whole mid start g at (Some place)
     → mid ≡ chunk_text payload ++ rest → chunk_fault (length_limit place) at mid ≡ None → field_of payload < 2 ^ 31 → IsJudgement (step_refusal place at payload g) e
     → IsFault (refused (bundle_reading start whole)) e
-step_fault whole mid rest start g at place payload (Bad name id found) so_far text fits small is = step_refused whole mid rest start g at place payload _ so_far text fits small is
+step_fault whole mid rest start g at place payload (Refused refusal) so_far text fits small is = step_refused whole mid rest start g at place payload _ so_far text fits small is
 step_fault whole mid rest start g at place payload Read so_far text fits small is = tt
 step_fault whole mid rest start g at place payload Memory so_far text fits small is = tt
 

@@ -6,6 +6,7 @@ use Rattle.text_model.specs.Text.{Bytes}
 use Rattle.text_model.specs.Path.{is_fit_path}
 use Rattle.text_model.specs.Fault.{FaultName, Refusal, refusal, refusal_at}
 use Rattle.text_model.specs.Fault as fault
+use Rattle.text_model.proofs.Options.{some_none}
 use Rattle.hg_model.specs.Chunk.{or_else}
 use Rattle.hg_model.specs.Delta.{Hunk, DeltaReading, Hunks, Cut, Outside, delta_reading, patched_text}
 use Rattle.hg_model.specs.Bundle.{Place, InGroup, AtPath, Item, Framing, BundleEntry, put_item, entry_of, is_short_at, first_short}
@@ -13,7 +14,7 @@ use Rattle.hg_model.specs.Revision.{Group, Revision, knows, known_after, ancestr
 use Rattle.hg_model.specs.Reading.{Arrival, Is, HunkRefused, NoBase, put_arrival, arrivals_from, base_of, entry_fault, entry_text, revision_by, sum_limit, text_limit, with_place}
 use Rattle.hg_bundle.specs.Arrivals.{arrival_of, revisions_of}
 use Rattle.hg_bundle.specs.Brought.{AreAdditions, AreListed}
-use Rattle.hg_bundle.proofs.EntryLemmas.{some_none, first_of_two, first_unknown, has_ancestry_fault}
+use Rattle.hg_bundle.proofs.EntryLemmas.{first_of_two, first_unknown, has_ancestry_fault}
 use Rattle.hg_bundle.proofs.Reading.{Answer, arrivals_of, answer_with, entry_taken, entry_short, entry_bad, path_item, path_unfit, ends_Ok, ends_Err}
 
 pub err_ok : {X Y : Type 0} {x : X} {y : Y} → Err y ≡ Ok x → ⊥

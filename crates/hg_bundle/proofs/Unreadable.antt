@@ -5,6 +5,7 @@ use Rattle.std.proofs.lemmas.Bool.Decides.{nat_tests}
 use Rattle.text_model.specs.Lists.{Each}
 use Rattle.text_model.specs.Text.{Bytes}
 use Rattle.text_model.specs.Fault.{Refusal, input_limit}
+use Rattle.text_model.proofs.Options.{none_some}
 use Rattle.hg_model.specs.Chunk.{field_of, chunk_text, magic_text, magic_fault}
 use Rattle.hg_model.specs.Delta.{Patches}
 use Rattle.hg_model.specs.Bundle.{Place, InGroup, AtPath, Framing, put_item, framing_from, bundle_framing, bundle_text, BundleEntry, FileGroup, Bundle, entry_payload, entry_of, group_text, IsBundleEntry, IsSize, IsBundle, IsWithinLimits, AreShort, delta_limit, path_limit, length_limit, is_short_at, place_after_empty}
@@ -18,14 +19,14 @@ use Rattle.hg_model.proofs.FramingLemmas as framing
 use Rattle.hg_model.proofs.ListingLemmas.{group_text-cons, group_text-nil, files_text, files_text-cons, bundle_text-parts, bundle_listed}
 use Rattle.hg_model.proofs.TakenLemmas.{chunk_none}
 use Rattle.hg_bundle.specs.declared.fault.BundleFault.{BundleFault}
-use Rattle.hg_bundle.specs.declared.fault.BundleFault.TheVariants.{Bad, Read, Memory}
+use Rattle.hg_bundle.specs.declared.fault.BundleFault.TheVariants.{Refused, Read, Memory}
 use Rattle.hg_bundle.specs.Faults.{IsFault}
 use Rattle.hg_bundle.specs.declared.arrival.Arrival as listed
 use Rattle.hg_bundle.specs.Arrivals.{Reads, known_after_all, revisions_of, refused}
 use Rattle.hg_bundle.specs.Brought.{revisions_with, AreOfFiles, AreAdditions, AreOfBundle, IsUnreadable, TellsUnreadable}
 use Rattle.hg_bundle.proofs.EntryLemmas.{within_limits}
 use Rattle.hg_bundle.proofs.Progress.{is_small}
-use Rattle.hg_bundle.proofs.Reading.{arrivals_of, ends_Ok, none_some, reading_is, entry_item, path_item}
+use Rattle.hg_bundle.proofs.Reading.{arrivals_of, ends_Ok, reading_is, entry_item, path_item}
 use Rattle.hg_bundle.proofs.Groups.{AreTextsAt, framing_payload}
 
 -- nothing is refused, and these revisions arrive
@@ -224,7 +225,7 @@ unreadable known bytes why is_refused b revisions is within of =
     none_some (sym (ap refused (bundle_read known bytes b revisions is within of).1) ∙ is_refused)
 
 tells : (known : List Revision) (e : BundleFault) (bytes : Bytes) → IsFault (refused (bundle_reading known bytes)) e → TellsUnreadable known e bytes
-tells known (Bad name id at) bytes is = unreadable known bytes _ is
+tells known (Refused refusal) bytes is = unreadable known bytes _ is
 tells known Read bytes is = tt
 tells known Memory bytes is = tt
 

@@ -8,7 +8,7 @@ use Rattle.hg_model.specs.Revision.{Group, Changesets, Manifests, FilesAt, Revis
 use Rattle.hg_model.specs.Reading.{AreTextsOf, revision_by, sum_limit, text_limit}
 use Rattle.hg_bundle.specs.declared.arrival.Arrival.{Arrival}
 use Rattle.hg_bundle.specs.declared.fault.BundleFault.{BundleFault}
-use Rattle.hg_bundle.specs.declared.fault.BundleFault.TheVariants.{Bad, Read, Memory}
+use Rattle.hg_bundle.specs.declared.fault.BundleFault.TheVariants.{Refused, Read, Memory}
 use Rattle.hg_bundle.specs.Arrivals.{kind_of, path_of, known_after_all}
 
 -- the revisions of a group's entries with these texts
@@ -76,6 +76,6 @@ IsUnreadable known bytes = (b : Bundle) (revisions : List Revision) → IsBundle
 
 -- Bytes of which the fault is told are none that can be read. What the source and the memory do isn't told by the bytes.
 abbrev pub TellsUnreadable : List Revision → BundleFault → Bytes → Type 0
-TellsUnreadable known (Bad name id at) bytes = IsUnreadable known bytes
+TellsUnreadable known (Refused refusal) bytes = IsUnreadable known bytes
 TellsUnreadable known Read bytes = ⊤
 TellsUnreadable known Memory bytes = ⊤

@@ -11,7 +11,7 @@ use Rattle.hg_bundle.specs.declared.entry.Entry.{Entry}
 use Rattle.hg_bundle.specs.declared.fault.BundleFault.{BundleFault}
 use Rattle.hg_bundle.specs.declared.gather.Patched.{Patched}
 use Rattle.hg_bundle.specs.declared.gather.Patched.TheVariants.{Text, Refused}
-use Rattle.hg_bundle.specs.Faults.{IsJudgement}
+use Rattle.hg_bundle.specs.Faults.{IsJudgement, IsReadFault}
 
 -- the entry in the words of the format
 abbrev pub entry_value : Entry → BundleEntry
@@ -46,3 +46,8 @@ pub record HasNoText (known : List Revision) (sum : ℕ) (group : Group) (last :
 abbrev pub Patches : List Revision → ℕ → Group → Option Id → ℕ → BundleEntry → Patched → Type 0
 Patches known sum group last at e (Text text) = HasText known sum group last e text.items
 Patches known sum group last at e (Refused fault) = HasNoText known sum group last at e fault
+
+-- a fault that is kept for later is one of reading
+abbrev pub IsReadPatch : Patched → Type 0
+IsReadPatch (Text text) = ⊤
+IsReadPatch (Refused fault) = IsReadFault fault

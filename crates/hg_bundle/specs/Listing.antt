@@ -5,7 +5,7 @@ use Rattle.text_model.specs.Fault.{refusal_at}
 use Rattle.text_model.specs.Fault as fault
 use Rattle.hg_model.specs.Bundle.{Place, place_after, place_after_empty, entry_of, listed_line, listing, bundle_framing, listing_fault, is_short_at, IsNoBundle}
 use Rattle.hg_bundle.specs.declared.fault.BundleFault.{BundleFault}
-use Rattle.hg_bundle.specs.declared.fault.BundleFault.TheVariants.{Bad, Read, Memory}
+use Rattle.hg_bundle.specs.declared.fault.BundleFault.TheVariants.{Refused, Read, Memory}
 use Rattle.hg_bundle.specs.Faults.{IsFault}
 
 -- The lines of a bundle's entries were appended to `old`, or the fault is what the bytes are refused for.
@@ -16,7 +16,7 @@ Lists bytes old result new = MatchResult result
 
 -- Bytes of which the fault is told are no bundle that this program reads. What the source and the memory do isn't told by the bytes.
 abbrev pub TellsNoBundle : BundleFault → Bytes → Type 0
-TellsNoBundle (Bad name id at) bytes = IsNoBundle bytes
+TellsNoBundle (Refused refusal) bytes = IsNoBundle bytes
 TellsNoBundle Read bytes = ⊤
 TellsNoBundle Memory bytes = ⊤
 
@@ -37,6 +37,6 @@ IsLongEnough place (byte ∷ bytes) = is_short_at place (byte ∷ bytes) ≡ fal
 
 -- the fault of one chunk that was read
 abbrev pub IsStepFault : Place → ℕ → Bytes → BundleFault → Type 0
-IsStepFault place at payload (Bad why id found) = IsFault (Some (refusal_at fault.HeaderShort at)) (Bad why id found) × (is_short_at place payload ≡ true) × (payload ≡ [] → ⊥)
+IsStepFault place at payload (Refused refusal) = IsFault (Some (refusal_at fault.HeaderShort at)) (Refused refusal) × (is_short_at place payload ≡ true) × (payload ≡ [] → ⊥)
 IsStepFault place at payload Read = ⊥
 IsStepFault place at payload Memory = ⊤

@@ -43,7 +43,7 @@ impl Model for Arrivals {
 
 impl Arrivals {
     /// No entries.
-    pub(crate) fn new(alloc: Global) -> Arrivals
+    pub fn new(alloc: Global) -> Arrivals
         ensures { result ≡ [] }
     {
         Arrivals {
@@ -52,7 +52,7 @@ impl Arrivals {
     }
 
     /// Puts an entry at the end. After want of memory the list is as it was.
-    pub(crate) fn push(&mut self, item: Arrival) -> Result<(), NoMemory>
+    pub fn push(&mut self, item: Arrival) -> Result<(), NoMemory>
         ensures ok { OnOk result (self.new ≡ self.old ++ item ∷ []) }
         ensures err { OnErr result (self.new ≡ self.old) }
     {

@@ -1,31 +1,28 @@
 // What was read of a bundle so far, and how an entry adds to it.
 ghost use Rattle.std.specs.Prelude.{◌≡◌, ◌≤◌, ◌<◌, ◌^◌, [], None, Some, true, if◌then◌else◌, IfOk, IfErr, OnOk, option_map, length};
 ghost use Rattle.std.specs.Option.{option_copied};
+ghost use Rattle.text_model.specs.Text.{IsBytes};
 ghost use Rattle.text_model.specs.Path.{is_fit_path};
 ghost use Rattle.text_model.specs.Fault.{refusal_at};
 ghost use Rattle.text_model.specs.Fault as fault;
 ghost use Rattle.hg_model.specs.Revision.{FilesAt};
 ghost use Rattle.hg_model.specs.Reading.{hunk_place, sum_limit};
 ghost use Rattle.hg_store.specs.Known.{HasFitPath};
-ghost use Rattle.hg_bundle.specs.declared.fault.BundleFault.TheVariants.{Bad};
-ghost use Rattle.hg_bundle.specs.Entry.{entry_value, base_for, fault_for, HasLast, HasText, Patches};
-ghost use Rattle.hg_bundle.specs.Faults.{IsJudgement};
+ghost use Rattle.hg_bundle.specs.Entry.{entry_value, base_for, fault_for, HasLast, HasText, Patches, IsReadPatch};
+ghost use Rattle.hg_bundle.specs.Faults.{IsJudgement, IsReadFault};
 ghost use Rattle.hg_bundle.specs.Listing.{next_place};
 ghost use Rattle.hg_bundle.specs.Place.{place_value, group_value};
 ghost use Rattle.hg_bundle.specs.Steps.{Adds, HasFitPlace, HasLastAt, Steps, step_refusal};
 
 use crate::arrival::{Arrival, Arrivals};
 use crate::entry::Entry;
-use crate::fault::{BundleFault, HgByteFault, addition_fault};
+use crate::fault::{BundleFault, addition_fault, refused};
 use crate::line::HEADER;
 use crate::place::{Group, Place};
-use bridge_text::{Added, Bytes, Id, fit_path};
+use bridge_text::{Added, Bytes, Fault, Id, SUM_LIMIT, fit_path};
 use hg_hunk::{HunkFault, fill, patched_len};
 use hg_store::HgStore;
 use std::alloc::Global;
-
-/// How many bytes the texts of a bundle have at most, summed.
-const SUM_LIMIT: usize = 1 << 30;
 
 /// How many bytes stand before the delta of an entry: its length field and four ids.
 const BEFORE_DELTA: u64 = 84;
@@ -79,7 +76,9 @@ impl Gathered {
         ensures last { IfOk result (λ next. HasLastAt self.new.store self.new.last (option_map place_value next)) }
         ensures sum { OnOk result (self.new.sum ≤ sum_limit) }
         ensures steps { OnOk result (Steps (place_value place) at payload.now self.old self.new) }
+        ensures bytes { OnOk result (IsBytes payload.now) }
         ensures fault { IfErr result (IsJudgement (step_refusal (place_value place) at payload.now self.old)) }
+        ensures names { IfErr result IsReadFault }
     {
         if payload.is_empty() {
             self.last = None;
@@ -92,7 +91,7 @@ impl Gathered {
             }
             Place::In(group) => {
                 if payload.len() < HEADER {
-                    return Err(bad(HgByteFault::HeaderShort, Id::NULL, at));
+                    return Err(refused(Fault::HeaderShort, Id::NULL, at));
                 }
                 self.add(alloc, &group, at, &Entry::of(payload))?;
                 Ok(Some(Place::In(group)))
@@ -116,6 +115,7 @@ impl Gathered {
         ensures sum { OnOk result (self.new.sum ≤ sum_limit) }
         ensures adds { OnOk result (Adds (group_value group.now) at (entry_value entry.now) self.old self.new) }
         ensures fault { IfErr result (IsJudgement (fault_for self.old.store self.old.sum (group_value group.now) self.old.last at (entry_value entry.now))) }
+        ensures names { IfErr result IsReadFault }
     {
         let path = group.path(alloc)?;
         let text = self.text(alloc, group, at, entry)?;
@@ -151,6 +151,7 @@ impl Gathered {
         requires last { HasLast self.now.store (group_value group.now) self.now.last }
         ensures text { IfOk result (λ text. HasText self.now.store self.now.sum (group_value group.now) self.now.last (entry_value entry.now) text.items) }
         ensures fault { IfErr result (IsJudgement (fault_for self.now.store self.now.sum (group_value group.now) self.now.last at (entry_value entry.now))) }
+        ensures names { IfErr result IsReadFault }
     {
         match self.patched(alloc, group, at, entry)? {
             Patched::Text(text) => Ok(text),
@@ -176,28 +177,30 @@ impl Gathered {
         requires at { at ≤ 2 ^ 29 }
         requires small { length entry.now.delta.now < 2 ^ 31 }
         requires last { HasLast self.now.store (group_value group.now) self.now.last }
+        ensures refused { IfOk result IsReadPatch }
         ensures patched { IfOk result (Patches self.now.store self.now.sum (group_value group.now) self.now.last at (entry_value entry.now)) }
         ensures fault { IfErr result (IsJudgement (fault_for self.now.store self.now.sum (group_value group.now) self.now.last at (entry_value entry.now))) }
+        ensures names { IfErr result IsReadFault }
     {
         let Some(base) = self.base(group, &entry.p) else {
-            let fault = bad(HgByteFault::ParentUnknown, entry.node, at);
+            let fault = refused(Fault::ParentUnknown, entry.node, at);
             return Ok(Patched::Refused(fault));
         };
         let len = match patched_len(base.len(), entry.delta, SUM_LIMIT - self.sum) {
             Ok(len) => len,
             Err(HunkFault::Shape(place)) => {
-                let fault = bad(HgByteFault::HunkShape, entry.node, hunk_place(at, place));
+                let fault = refused(Fault::HunkShape, entry.node, hunk_place(at, place));
                 return Ok(Patched::Refused(fault));
             }
             Err(HunkFault::Range(place)) => {
-                let fault = bad(HgByteFault::HunkRange, entry.node, hunk_place(at, place));
+                let fault = refused(Fault::HunkRange, entry.node, hunk_place(at, place));
                 return Ok(Patched::Refused(fault));
             }
-            Err(HunkFault::Limit) => return Err(bad(HgByteFault::InputLimit, Id::NULL, at)),
+            Err(HunkFault::Limit) => return Err(refused(Fault::InputLimit, Id::NULL, at)),
             Err(HunkFault::Memory) => return Err(BundleFault::Memory),
         };
         if len > group.text_limit() {
-            return Err(bad(HgByteFault::Limit, entry.node, at));
+            return Err(refused(Fault::Limit, entry.node, at));
         }
         let mut text = Vec::with_capacity(alloc, len)?;
         fill(&mut text, base, entry.delta);
@@ -221,9 +224,10 @@ fn file_group(alloc: Global, at: u64, path: &[u8]) -> Result<Group, BundleFault>
     ensures group { IfOk result (λ group. group_value group ≡ FilesAt path.now) }
     ensures fit { OnOk result (is_fit_path path.now ≡ true) }
     ensures fault { IfErr result (IsJudgement (if is_fit_path path.now then None else Some (refusal_at fault.PathUnfit at))) }
+    ensures names { IfErr result IsReadFault }
 {
     if !fit_path(path) {
-        return Err(bad(HgByteFault::PathUnfit, Id::NULL, at));
+        return Err(refused(Fault::PathUnfit, Id::NULL, at));
     }
     Ok(Group::File(Bytes::of(alloc, path)?))
 }
@@ -235,10 +239,4 @@ fn hunk_place(at: u64, place: usize) -> u64
     ensures { result ≡ hunk_place at place }
 {
     at + BEFORE_DELTA + place as u64
-}
-
-fn bad(why: HgByteFault, id: Id, at: u64) -> BundleFault
-    ensures { result ≡ Bad why id at }
-{
-    BundleFault::Bad { why, id, at }
 }

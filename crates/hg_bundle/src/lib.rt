@@ -1,4 +1,4 @@
-//! Bundles HG10UN: their entries, listed, or read into a store.
+//! Bundles HG10UN: their entries, listed, or read into a store; and the writer of them.
 #![tactic(auto)]
 
 mod arrival;
@@ -10,13 +10,10 @@ mod line;
 mod listing;
 mod place;
 mod read;
-#[cfg(test)]
-mod read_tests;
-#[cfg(test)]
-mod tests;
 
 pub use arrival::{Arrival, Arrivals, RevKind};
-pub use fault::{BundleFault, HgByteFault};
+pub use fault::BundleFault;
+pub use hg_dump::write;
 pub use laws::bundles_are_listed;
 pub use listing::list;
 pub use read::read_into;

@@ -2,7 +2,7 @@
 ghost use Rattle.std.specs.Prelude.{◌≡◌, Some, None, List, ℕ, option_map};
 
 use crate::arrival::RevKind;
-use bridge_text::{Bytes, NoMemory};
+use bridge_text::{Bytes, COMMIT_LIMIT, NoMemory, TEXT_LIMIT};
 use std::alloc::Global;
 
 /// What a group of a bundle holds.
@@ -37,8 +37,8 @@ impl Group {
         ensures { result ≡ text_limit (group_value self.now) }
     {
         match self {
-            Group::Changesets => 1 << 24,
-            Group::Manifests | Group::File(_) => 1 << 26,
+            Group::Changesets => COMMIT_LIMIT,
+            Group::Manifests | Group::File(_) => TEXT_LIMIT,
         }
     }
 

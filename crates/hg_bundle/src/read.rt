@@ -3,14 +3,13 @@ ghost use Rattle.std.specs.Prelude.{◌≡◌, IfSome, IfOk, IfErr, OnOk};
 ghost use Rattle.std.specs.Io.KnownBytes.{IsAtEnd};
 ghost use Rattle.hg_bundle.specs.Arrivals.{Reads, AreArrivals};
 ghost use Rattle.hg_bundle.specs.Brought.{BringsBundle, TellsUnreadable};
-ghost use Rattle.hg_bundle.specs.Faults.{AnswerCause};
+ghost use Rattle.hg_bundle.specs.Faults.{AnswerCause, IsReadFault};
 
 use crate::arrival::Arrivals;
 use crate::fault::BundleFault;
 use crate::gather::Gathered;
 use crate::place::{Group, Place};
 use bridge_io::Source;
-use bridge_text::each_is_byte;
 use hg_chunk::ChunkReader;
 use hg_store::HgStore;
 use std::alloc::Global;
@@ -24,7 +23,7 @@ use std::alloc::Global;
 /// them together at most 2^30.
 ///
 /// `Ok` says that the bytes are a bundle within the limits, of which each revision can be added to those before it, and
-/// `Bad` that they are none. Its fault is the first of the input. Of one entry these come in this order: `InputLimit` and
+/// `Refused` that they are none. Its fault is the first of the input. Of one entry these come in this order: `InputLimit` and
 /// `Limit`, the faults of its parents and its link, those of its hunks, those of its node and its text, and `Collision`.
 pub fn read_into<S: Source>(
     alloc: Global,
@@ -34,6 +33,7 @@ pub fn read_into<S: Source>(
     // what the bytes are, by the relations of the format
     ensures bundle { IfOk result (λ read. IfSome (S.left src.old) (λ bytes. BringsBundle store bytes read.0 read.1)) }
     ensures no_bundle { IfErr result (λ e. IfSome (S.left src.old) (TellsUnreadable store e)) }
+    ensures names { IfErr result IsReadFault }
     // exactly what was listed, and why the bytes are refused
     ensures reads { IfSome (S.left src.old) (λ bytes. Reads store bytes result) }
     // what was listed was added, also where the source doesn't tell its bytes
@@ -49,7 +49,6 @@ pub fn read_into<S: Source>(
     'chunks: while let Some(place) = next {
         let at = reader.offset();
         reader.next(src, place.most(), &mut payload)?;
-        each_is_byte(&payload);
         next = gathered.take(alloc, place, at, &payload)?;
     }
     reader.finish(src)?;

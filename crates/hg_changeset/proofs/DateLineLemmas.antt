@@ -1,10 +1,10 @@
 -- Reading a Plain date.
-use Rattle.std.proofs.Common.{◌≡◌, ◌^◌, List, [], Option, Some, None, refl, sym, ap, ◌∙◌}
+use Rattle.std.proofs.Common.{◌≡◌, ◌^◌, List, [], Some, None, sym, ap, ◌∙◌}
 use Rattle.std.specs.Prelude.{ℤ}
 use Rattle.std.specs.Option.{option_and_then}
 use Rattle.text_model.specs.Text.{Bytes, sp}
 use Rattle.text_model.specs.Cuts.{cut_of}
-use Rattle.hg_model.specs.Changeset.{Extra, extras_of, DateLine, signed_of, date_in_zone, date_behind_time, plain_date_of}
+use Rattle.hg_model.specs.Changeset.{Extra, extras_of, signed_of, date_in_zone, date_behind_time, plain_date_of}
 
 module _ (text time rest : Bytes) (number : ℤ) (cut : Some (time, rest) ≡ cut_of sp text) (reads : Some number ≡ signed_of (2 ^ 62) time) where
   behind : plain_date_of text ≡ date_behind_time number rest (cut_of sp rest)

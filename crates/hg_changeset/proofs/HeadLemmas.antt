@@ -1,11 +1,10 @@
 -- The first three lines of a changeset's text, and the lines of its files.
-use Rattle.std.proofs.Common.{◌≡◌, ◌≢◌, ◌<◌, ◌+◌, ◌-◌, ◌==◌, ℕ, Bool, true, false, true≢false, List, [], ◌∷◌, ◌++◌, length, Option, Some, None, refl, sym, ap, subst, ◌∙◌, append_assoc, append-nil, length-append, arith}
-use Rattle.std.specs.Prelude.{if◌then◌else◌}
+use Rattle.std.proofs.Common.{◌≡◌, ◌≢◌, ◌<◌, ◌+◌, ◌-◌, ◌==◌, ℕ, Bool, true, false, true≢false, List, [], ◌∷◌, ◌++◌, length, Some, None, refl, sym, ap, subst, ◌∙◌, append_assoc, append-nil, arith}
 use Rattle.std.specs.List.{flat_map}
 use Rattle.std.proofs.lemmas.List.Concat.{flat_map-append}
 use Rattle.text_model.specs.Lists.{Each}
-use Rattle.text_model.specs.Text.{Bytes, IsBytes, lf, has_byte, line, first_line}
-use Rattle.text_model.specs.Id.{Id, IsId, hex, is_hex_id, id_of_hex}
+use Rattle.text_model.specs.Text.{Bytes, IsBytes, lf, line, first_line}
+use Rattle.text_model.specs.Id.{Id, hex, is_hex_id, id_of_hex}
 use Rattle.text_model.proofs.ByteLemmas.{IsBytes-front, IsBytes-rest}
 use Rattle.text_model.proofs.TestLemmas.{differs}
 use Rattle.text_model.proofs.CutLemmas.{cut_of-none}
@@ -13,18 +12,16 @@ use Rattle.text_model.proofs.LineLemmas.{first_line-is_cut}
 use Rattle.text_model.proofs.EachLemmas.{Each-push}
 use Rattle.text_model.proofs.HexLemmas.{id_of_hex-takes, is_hex_id-hex, id_of_hex-some, length-hex}
 use Rattle.text_model.proofs.LackLemmas.{Lacks-by_test, has_byte-lacks}
-use Rattle.hg_model.specs.Changeset.{has_blank_line, files_fault, date_fault, user_fault, changeset_fault, changeset_text, Changeset, IsChangesetText, DateLine, date_text, date_of}
-use Rattle.hg_model.proofs.ChangesetLemmas.{IsFile, FirstLine, first_line-takes, has_blank_line-behind, has_blank_line-none, fault-no_manifest_line, fault-no_id, fault-user, fault-date, fault-empty_user, whole_changeset}
+use Rattle.text_model.proofs.Options.{none_some}
+use Rattle.hg_model.specs.Changeset.{has_blank_line, date_fault, user_fault, changeset_fault, Changeset, IsChangesetText, date_of}
+use Rattle.hg_model.proofs.ChangesetLemmas.{IsFile, first_line-takes, has_blank_line-behind, has_blank_line-none, fault-no_id, fault-user, fault-date, fault-empty_user, whole_changeset}
 use Rattle.hg_changeset.specs.Reading.{IsHead, AreFiles}
-
-none_some : {X : Type 0} (x : X) → None ≡ Some x → ⊥
-none_some x h = cc
 
 no_hex : (digits : Bytes) → None ≡ id_of_hex digits → is_hex_id digits ≡ false
 no_hex digits e = by (is_hex_id digits) refl
   where
     by : (t : Bool) → is_hex_id digits ≡ t → is_hex_id digits ≡ false
-    by true t = absurd (none_some _ (e ∙ id_of_hex-some digits t))
+    by true t = absurd (none_some (e ∙ id_of_hex-some digits t))
     by false t = t
 
 empty : (text : Bytes) → true ≡ (length text == 0) → text ≡ []

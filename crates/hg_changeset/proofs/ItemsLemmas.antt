@@ -1,8 +1,8 @@
 -- Reading extras item by item.
-use Rattle.std.proofs.Common.{◌≡◌, ◌≢◌, ◌<◌, ◌+◌, ◌==◌, ℕ, zero, suc, get_or, Bool, true, false, true≢false, List, [], ◌∷◌, ◌++◌, length, Option, Some, None, option_map, refl, sym, ap, subst, ◌∙◌, append_assoc, append-nil, length-append, arith}
+use Rattle.std.proofs.Common.{◌≡◌, ◌<◌, ◌+◌, ◌==◌, ℕ, zero, suc, get_or, Bool, true, false, List, [], ◌∷◌, length, Option, Some, None, refl, sym, ap, ◌∙◌, length-append, arith}
 use Rattle.std.specs.Option.{option_and_then}
 use Rattle.std.specs.List.{slice_split}
-use Rattle.text_model.specs.Text.{Bytes, IsBytes}
+use Rattle.text_model.specs.Text.{Bytes}
 use Rattle.text_model.specs.Cuts.{cut_of}
 use Rattle.text_model.proofs.CutLemmas.{cut_of-takes, cut_of-none}
 use Rattle.std.specs.Prelude.{if◌then◌else◌}

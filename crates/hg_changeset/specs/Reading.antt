@@ -3,7 +3,7 @@ use Rattle.std.specs.Prelude.{◌≡◌, ◌≢◌, ℕ, false, true, ◌==◌, 
 use Rattle.std.specs.List.{flat_map}
 use Rattle.text_model.specs.Lists.{Each}
 use Rattle.text_model.specs.Text.{Bytes, IsBytes, lf, sp, has_byte, line}
-use Rattle.text_model.specs.Id.{Id, IsId, hex}
+use Rattle.text_model.specs.Id.{IsId, hex}
 use Rattle.hg_model.specs.Changeset.{Extra, extras_text, is_literal, spelled_byte, has_blank_line, files_fault, changeset_fault}
 
 -- the byte that this letter spells behind a `\`, and what follows it

@@ -8,7 +8,7 @@ ghost use Rattle.hg_changeset.specs.Reading.{IsHead};
 use crate::date::DateLine;
 use crate::fault::ChangesetFault;
 use crate::lines::{Head, put_files, put_line, read_head, take_files};
-use bridge_text::{Bytes, Id, NoMemory, Paths, each_is_byte};
+use bridge_text::{Bytes, Id, NoMemory, Paths};
 use std::alloc::Global;
 
 /// A changeset. The user isn't empty, no path is, and none of these and no date line holds LF in
@@ -36,7 +36,6 @@ impl Changeset {
         ensures fits { OnOk result (changeset_fault text.now ≡ None) }
         ensures fault { IfErr result (IsFault text.now) }
     {
-        each_is_byte(text);
         match read_head(text) {
             Ok(head) => read_behind(alloc, text, head),
             Err(place) => Err(ChangesetFault::Shape(place)),

@@ -17,6 +17,3 @@ pub use date::DateLine;
 pub use extras::{ExtraItem, Extras};
 pub use fault::ChangesetFault;
 pub use laws::{date_laws, reads_exactly};
-
-#[cfg(test)]
-mod tests;

@@ -6,7 +6,7 @@ ghost use Rattle.text_model.specs.Text.{first_line, line};
 ghost use Rattle.hg_model.specs.Changeset.{changeset_fault, has_blank_line};
 ghost use Rattle.hg_changeset.specs.Reading.{IsHead, AreFiles};
 
-use bridge_text::{Bytes, Id, NoMemory, Paths, cut_at, each_is_byte};
+use bridge_text::{Bytes, Id, NoMemory, Paths, cut_at};
 use std::alloc::Global;
 
 /// The first three lines of a changeset, and what follows them.
@@ -61,7 +61,6 @@ pub fn take_files<'a>(
 ) -> Result<Option<&'a [u8]>, NoMemory>
     ensures { IfOk result (λ description. MatchOption description (has_blank_line text.entry.now ≡ false) (λ description. AreFiles text.entry.now files.old files.new description.now)) }
 {
-    each_is_byte(text);
     let mut rest = text;
     'files: while let Some((file, after)) = first_line(rest) {
         if file.is_empty() {

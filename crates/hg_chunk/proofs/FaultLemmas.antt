@@ -1,13 +1,11 @@
 -- What the six first bytes say of the magic.
-use Rattle.std.proofs.Common.{◌≡◌, ℕ, ◌+◌, ◌≤◌, List, ◌++◌, length, take, Option, None, Some, IfSome, sym, ap, ◌∙◌, subst, arith, length-append}
+use Rattle.std.proofs.Common.{◌≡◌, ℕ, ◌≤◌, List, ◌++◌, length, take, Option, None, Some, IfSome, sym, ap, ◌∙◌, subst, arith, length-append}
 use Rattle.std.proofs.lemmas.Bool.Decides.{nat_tests}
 use Rattle.std.proofs.lemmas.List.{take_at}
 use Rattle.std.specs.Io.KnownBytes.{Consumes}
 use Rattle.text_model.specs.Fault.{Refusal, reach, input_limit}
+use Rattle.hg_model.proofs.TakenLemmas.{reaches}
 use Rattle.hg_model.specs.Chunk.{or_else, magic_fault, other_magic}
-
-reaches : (total end : ℕ) → end ≤ total → end ≤ input_limit → reach total end ≡ None
-reaches total end all within = grind (arith, nat_tests)
 
 -- what is said of the refusal by six bytes that came holds of all
 pub told_of_magic : (P : Option Refusal → Type 0) (old mid : Option (List ℕ)) (first : List ℕ) → length first ≡ 6 → Consumes old mid first → P (other_magic first)

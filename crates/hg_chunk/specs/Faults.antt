@@ -20,3 +20,38 @@ IsFault why InputLimit = why ≡ Some (refusal_at fault.InputLimit input_limit)
 -- an answer comes where nothing is refused, and a fault where it is what is refused
 abbrev pub Judges : {T : Type 0} → Option Refusal → Result T ChunkFault → Type 0
 Judges why result = MatchResult result (λ _. why ≡ None) (IsFault why)
+
+-- ---- which faults a step gives, whatever the source tells of its bytes
+
+-- an item is cut
+abbrev pub IsCut : ChunkFault → Type 0
+IsCut (Truncated place) = ⊤
+IsCut other = ⊥
+
+-- an item isn't read: it is cut, it passes the limit of an input, or there is want of the source or of memory
+abbrev pub IsItemFault : ChunkFault → Type 0
+IsItemFault Read = ⊤
+IsItemFault Memory = ⊤
+IsItemFault (Truncated place) = ⊤
+IsItemFault InputLimit = ⊤
+IsItemFault other = ⊥
+
+-- a chunk isn't read, or its length isn't right
+abbrev pub IsChunkFault : ChunkFault → Type 0
+IsChunkFault (Length place) = ⊤
+IsChunkFault (Limit place) = ⊤
+IsChunkFault fault = IsItemFault fault
+
+-- the six first bytes aren't read, or aren't the magic
+abbrev pub IsMagicFault : ChunkFault → Type 0
+IsMagicFault Read = ⊤
+IsMagicFault (Truncated place) = ⊤
+IsMagicFault Magic = ⊤
+IsMagicFault OtherBundle = ⊤
+IsMagicFault other = ⊥
+
+-- the end isn't read, or a byte stands there
+abbrev pub IsEndFault : ChunkFault → Type 0
+IsEndFault Read = ⊤
+IsEndFault (Trailing place) = ⊤
+IsEndFault other = ⊥

@@ -2,14 +2,11 @@
 #![tactic(auto)]
 
 mod fault;
-mod fill;
 mod item;
+mod number;
 mod put;
 mod reader;
-#[cfg(test)]
-mod tests;
 
 pub use fault::ChunkFault;
-pub use item::INPUT_LIMIT;
 pub use put::{put_chunk, put_empty};
 pub use reader::{ChunkReader, Piece};

@@ -5,13 +5,14 @@ ghost use Rattle.text_model.specs.Fault.{refusal_at, reach, input_limit};
 ghost use Rattle.text_model.specs.Fault as fault;
 ghost use Rattle.byteorder.specs.Endian.{big_bytes};
 ghost use Rattle.hg_model.specs.Chunk.{field_of, chunk_text, magic_text, chunk_fault, magic_fault, other_magic, trailing_fault, or_else};
-ghost use Rattle.hg_chunk.specs.Faults.{Judges, IsFault};
+ghost use Rattle.hg_chunk.specs.Faults.{Judges, IsFault, IsMagicFault, IsEndFault, IsItemFault, IsChunkFault};
 ghost use Rattle.hg_chunk.specs.Reader.{AnswerCause, FaultCause};
 
 use crate::ChunkFault;
-use crate::fill::{fill, fill_vec, number_of, skip};
-use crate::item::{INPUT_LIMIT, whole};
-use bridge_io::Source;
+use crate::item::whole;
+use crate::number::number_of;
+use bridge_io::{Source, fill, fill_vec, skip};
+use bridge_text::INPUT_LIMIT;
 use std::marker::Model;
 
 const MAGIC: &[u8; 6] = b"HG10UN";
@@ -64,6 +65,7 @@ impl ChunkReader {
         ensures bytes { OnOk result (Consumes (S.left src.old) (S.left src.new) magic_text) }
         ensures offset { OnOk result (self.new ≡ 6) }
         ensures judged { IfSome (S.left src.old) (λ bytes. Judges (magic_fault bytes) result) }
+        ensures names { IfErr result IsMagicFault }
         ensures cause { AnswerCause (S.faults src.old) (S.faults src.new) result }
     {
         let mut first = [0; 6];
@@ -74,10 +76,11 @@ impl ChunkReader {
         Ok(())
     }
 
-    /// Sees that the source is at its end.
+    /// Checks that the source is at its end.
     pub fn finish<S: Source>(&mut self, src: &mut S) -> Result<(), ChunkFault>
         ensures end { OnOk result (IsAtEnd (S.left src.old) × IsAtEnd (S.left src.new)) }
         ensures judged { IfErr result (λ e. IfSome (S.left src.old) (λ bytes. IsFault (trailing_fault self.old bytes) e)) }
+        ensures names { IfErr result IsEndFault }
         ensures cause { AnswerCause (S.faults src.old) (S.faults src.new) result }
     {
         let mut next = [0; 1];
@@ -104,6 +107,7 @@ impl ChunkReader {
         ensures offset { OnOk result (self.new ≡ self.old + (length into.new.items + 4)) }
         // Each fault comes exactly where it is what is wrong with the chunk.
         ensures judged { IfSome (S.left src.old) (λ bytes. Judges (chunk_fault most self.old bytes) result) }
+        ensures names { IfErr result IsChunkFault }
         ensures err { OnErr result (into.new.items ≡ []) }
         ensures cause { AnswerCause (S.faults src.old) (S.faults src.new) result }
     {
@@ -132,6 +136,7 @@ fn read_field<S: Source>(src: &mut S, at: u64) -> Result<u32, ChunkFault>
     ensures bytes { IfOk result (λ n. Consumes (S.left src.old) (S.left src.new) (big_bytes 4 n)) }
     ensures fits { OnOk result (at + 4 ≤ 2 ^ 29) }
     ensures judged { IfErr result (λ e. IfSome (S.left src.old) (λ bytes. IsFault (reach (at + length bytes) (at + 4)) e)) }
+    ensures names { IfErr result IsItemFault }
     ensures cause { AnswerCause (S.faults src.old) (S.faults src.new) result }
 {
     let mut field = [0; 4];
@@ -154,6 +159,7 @@ fn read_payload<S: Source>(
     ensures len { OnOk result (length into.new.items ≡ size - 4) }
     ensures fits { OnOk result (at + size ≤ 2 ^ 29) }
     ensures judged { IfSome (S.left src.old) (λ rest. Judges (reach (at + (4 + length rest)) (at + size)) result) }
+    ensures names { IfErr result IsItemFault }
     ensures err { OnErr result (into.new.items ≡ []) }
     ensures cause { AnswerCause (S.faults src.old) (S.faults src.new) result }
 {
@@ -171,6 +177,7 @@ fn over_limit<S: Source>(src: &mut S, at: u64, size: u32) -> ChunkFault
     requires at { at + 4 ≤ 2 ^ 29 }
     ensures judged { IfSome (S.left src.old) (λ rest.
         IsFault (or_else (reach (at + (4 + length rest)) (at + size)) (Some (refusal_at fault.Limit at))) result) }
+    ensures names { IsChunkFault result }
     ensures cause { FaultCause (S.faults src.old) (S.faults src.new) result }
 {
     let need = u64::from(size);
@@ -189,6 +196,7 @@ fn over_limit<S: Source>(src: &mut S, at: u64, size: u32) -> ChunkFault
 fn judge_magic(first: &[u8]) -> Result<(), ChunkFault>
     requires { length first.now ≡ 6 }
     ensures judges { Judges (other_magic first.now) result }
+    ensures names { IfErr result IsMagicFault }
     ensures same { OnOk result (first.now ≡ magic_text) }
     ensures cause { (faults : ℕ) → AnswerCause faults faults result }
 {

@@ -5,9 +5,10 @@ use Rattle.std.specs.List.{list_any}
 use Rattle.std.proofs.lemmas.List.Folds.{list_any-append}
 use Rattle.text_model.specs.Id.{Id}
 use Rattle.text_model.specs.Lists.{Each, only_new}
+use Rattle.text_model.proofs.Elements.{map_append}
+use Rattle.hg_model.proofs.RevisionLemmas.{same_group-is}
 use Rattle.hg_model.specs.Revision.{Group, Revision, same_group, same_revision}
 use Rattle.hg_store.specs.Known.{AreAdded}
-use Rattle.hg_store.proofs.KeyLemmas.{same_group-is}
 use Rattle.view_model.specs.View.{ChangesetView}
 use Rattle.view_model.specs.Held.{AreChangesetsHeld}
 use Rattle.view_model.specs.Dump.{revisions_of, revisions_in, brought_by, of_group}
@@ -17,7 +18,6 @@ use Rattle.hg_dump.specs.Marks.{Mark, mark_of, same_mark, references_at, marks_o
 use Rattle.hg_dump.specs.State.{referred_in, met_of, AreBrought}
 use Rattle.hg_dump.specs.Written.{reference_to, IsHeldIn}
 use Rattle.hg_dump.proofs.GroupLemmas.{same_mark-sym}
-use Rattle.hg_dump.proofs.ListLemmas.{map-append}
 use Rattle.hg_dump.proofs.HeldLemmas.{held-revisions}
 use Rattle.hg_dump.proofs.OnceLemmas.{added, only_new-push, only_new-image, Each-new}
 
@@ -66,7 +66,7 @@ met-is old new =
 
 marks-are : (hs : List ChangesetView) → map mark_of (revisions_in hs) ≡ marks_in hs
 marks-are [] = refl
-marks-are (h ∷ hs) = map-append mark_of (revisions_of h) (revisions_in hs) ∙ ap (λ (l : List Mark). marks_of h ++ l) (marks-are hs)
+marks-are (h ∷ hs) = map_append mark_of (revisions_of h) (revisions_in hs) ∙ ap (λ (l : List Mark). marks_of h ++ l) (marks-are hs)
 
 pub brought-marks : (old new : List ChangesetView) → map mark_of (brought_by old new) ≡ (met_of old new).brought
 unfolding brought_by

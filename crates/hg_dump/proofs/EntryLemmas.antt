@@ -7,6 +7,8 @@ use Rattle.byteorder.specs.Endian.{big_bytes}
 use Rattle.text_model.specs.Lists.{Each}
 use Rattle.text_model.specs.Text.{Bytes}
 use Rattle.text_model.specs.Id.{Id, IsId, is_null}
+use Rattle.text_model.proofs.Options.{none_some, some_is}
+use Rattle.text_model.proofs.Elements.{drop_next}
 use Rattle.hg_model.specs.Revision.{Group, Changesets, Manifests, FilesAt, Revision, revision_of, knows}
 use Rattle.hg_model.specs.FileText.{file_order}
 use Rattle.hg_model.specs.Chunk.{chunk_text, field_of}
@@ -19,7 +21,6 @@ use Rattle.hg_store.specs.Known.{text_of}
 use Rattle.view_model.specs.Dump.{written_from, written_group}
 use Rattle.hg_dump.specs.declared.references.Reference.{Reference}
 use Rattle.hg_dump.specs.Written.{reference_to, AreParentsOf, IsHeldIn, IsOf, AreOf, entry_over, entry_chunk, entries_over, chunks_over, base_size}
-use Rattle.hg_dump.proofs.ListLemmas.{some_is, none_some, drop-next}
 use Rattle.hg_dump.proofs.HeldLemmas.{held-text}
 
 -- ---- the parents
@@ -128,7 +129,7 @@ chunks-step out new from whole size next i rs r at before put is =
     ap (λ (x : Bytes). x ++ chunks_over next (drop (i + 1) rs)) put
     ∙ append_assoc out (entry_chunk (entry_over size r)) (chunks_over next (drop (i + 1) rs))
     ∙ ap (λ (n : ℕ). out ++ (entry_chunk (entry_over size r) ++ chunks_over n (drop (i + 1) rs))) is
-    ∙ ap (λ (l : List Revision). out ++ chunks_over size l) (sym (drop-next rs i r at))
+    ∙ ap (λ (l : List Revision). out ++ chunks_over size l) (sym (drop_next rs i r at))
     ∙ before
 
 -- the base of the first entry

@@ -1,115 +1,43 @@
 -- Changesets that a store holds.
-use Rattle.std.proofs.Common.{◌≡◌, ◌≤◌, ◌<◌, ◌++◌, ◌||◌, ℕ, zero, suc, get_or, arith, Bool, true, false, true≢false, not, List, [], ◌∷◌, length, map, take, drop, ◌+◌, append-nil, Option, Some, None, refl, sym, ap, subst, ◌∙◌}
-use Rattle.std.specs.Prelude.{slice_get, find, is_some, bytes_eq, option_map, position, ◌==◌, nat_le}
+use Rattle.std.proofs.Common.{◌≡◌, ◌≤◌, ◌<◌, ◌++◌, ℕ, zero, suc, get_or, arith, true, false, true≢false, not, List, [], ◌∷◌, length, map, take, drop, ◌+◌, append-nil, Option, Some, None, refl, sym, ap, subst, inl, inr, ◌∙◌}
+use Rattle.std.specs.Prelude.{slice_get, is_some, option_map, position, ◌==◌, nat_le}
 use Rattle.std.proofs.lemmas.Bool.Decides.{nat_tests}
-use Rattle.std.specs.List.{list_any}
-use Rattle.std.proofs.lemmas.Slice.Eq.{bytes_eq-Decides}
 use Rattle.text_model.specs.Lists.{Each}
-use Rattle.text_model.specs.Text.{Bytes, IsBytes}
+use Rattle.text_model.specs.Text.{Bytes}
 use Rattle.text_model.specs.Id.{Id, null, is_null, node_id}
 use Rattle.text_model.specs.Path.{is_fit_path}
-use Rattle.text_model.specs.Fault.{FaultName}
 use Rattle.text_model.proofs.TestLemmas.{both}
+use Rattle.text_model.proofs.Options.{none_some, some_is}
+use Rattle.text_model.proofs.Elements.{flat_map_append, map_append, take_push}
+use Rattle.hg_model.proofs.RevisionLemmas.{bytes_eq-self}
 use Rattle.hg_model.specs.Changeset.{Changeset, IsChangesetText}
 use Rattle.hg_model.specs.Manifest.{ManifestEntry, IsManifestText, manifest_text}
-use Rattle.hg_model.specs.Revision.{Group, Changesets, Manifests, FilesAt, Revision, is_of, revision_of, same_group, is_otherwise, first_name, named_if, ancestry_fault, shape_fault, text_fault}
+use Rattle.hg_model.specs.Revision.{Group, Changesets, Manifests, FilesAt, Revision, revision_of}
 use Rattle.hg_model.proofs.ChangesetLemmas.{one_changeset}
 use Rattle.hg_model.proofs.ManifestLemmas.{one_manifest}
-use Rattle.hg_store.specs.Known.{IsAddedTo, AreAddedTo, AreAdded, HasFitPath, text_limit, text_of, manifest_text_of}
-use Rattle.hg_store.specs.Views.{IsChangesetOf, IsManifestOf, IsViewFault, is_unknown, first_unknown}
+use Rattle.hg_store.specs.Known.{AreAdded, HasFitPath, text_limit, text_of, manifest_text_of}
+use Rattle.hg_store.specs.Views.{IsChangesetOf, IsManifestOf, IsViewFault, HasNoManifest, is_unknown, first_unknown}
 use Rattle.hg_store.specs.declared.fault.ViewFault.{ViewFault}
 use Rattle.hg_store.specs.declared.fault.ViewFault.TheVariants.{ChangesetUnknown, ManifestUnknown, FileUnknown}
-use Rattle.hg_store.proofs.KeyLemmas.{same_group-is}
+use Rattle.hg_store.proofs.Found.{Found, found, not_null}
+use Rattle.hg_store.proofs.Found as store
 use Rattle.hg_store.proofs.ViewLemmas.{position-none}
 use Rattle.view_model.specs.View.{ChangesetView, Row, ManifestParents, NoManifest, Over, changeset_node, entry_of_row}
 use Rattle.view_model.specs.Held.{IsFileHeld, IsManifestHeld, IsChangesetHeld, AreChangesetsHeld}
 use Rattle.view_model.specs.Dump.{own_revision, manifest_revision, file_revision, revisions_of, revisions_in}
 use Rattle.hg_dump.specs.Marks.{Mark, mark_of, own_mark, manifest_marks, file_mark, view_marks, marks_of, marks_in}
 use Rattle.hg_dump.specs.Written.{IsHeldIn}
-use Rattle.hg_dump.proofs.ListLemmas.{some_is, none_some, map-append, flat_map-append, take-push}
-use Rattle.hg_dump.proofs.GroupLemmas.{bytes_eq-self}
 use Rattle.hg_dump.proofs.OnceLemmas.{Each-append}
-
--- ---- what each revision that was added shows
-
-two : (a b : Option FaultName) → first_name (a ∷ b ∷ []) ≡ None → (a ≡ None) × (b ≡ None)
-two None None h = (refl, refl)
-two None (Some n) h = absurd cc
-two (Some n) b h = absurd cc
-
-three : (a b c : Option FaultName) → first_name (a ∷ b ∷ c ∷ []) ≡ None → (a ≡ None) × (b ≡ None) × (c ≡ None)
-three None None None h = (refl, refl, refl)
-three None None (Some n) h = absurd cc
-three None (Some n) c h = absurd cc
-three (Some n) b c h = absurd cc
-
-named_if-None : (b : Bool) (n : FaultName) → named_if b n ≡ None → b ≡ false
-named_if-None true n h = absurd cc
-named_if-None false n h = refl
-
-not_false : (b : Bool) → not b ≡ false → b ≡ true
-not_false true h = refl
-not_false false h = absurd (true≢false h)
-
-or_false : (a b : Bool) → (a || b) ≡ false → (a ≡ false) × (b ≡ false)
-or_false true b h = absurd (true≢false h)
-or_false false b h = (refl, h)
-
-pub record IsSound (r : Revision) : Type 0 where
-  pub node : r.node ≡ node_id r.p r.q r.text
-  pub some : is_null r.node ≡ false
-  pub short : length r.text ≤ text_limit
-  pub path : HasFitPath r.group
-  pub bytes : IsBytes r.text
-  pub shape : shape_fault r.group r.text ≡ None
-
-sound-one : (known : List Revision) (r : Revision) → IsAddedTo known r → IsSound r
-unfolding text_fault
-sound-one known r h =
-    let parts = three (named_if (not (bytes_eq r.node (node_id r.p r.q r.text))) _) (shape_fault r.group r.text) (named_if (is_null r.node || list_any (is_otherwise r) known) _) (two (ancestry_fault known r) (text_fault known r) h.faultless).1 in
-    record {
-      node = (bytes_eq-Decides r.node (node_id r.p r.q r.text)).0 (not_false (bytes_eq r.node (node_id r.p r.q r.text)) (named_if-None (not (bytes_eq r.node (node_id r.p r.q r.text))) _ parts.0));
-      some = (or_false (is_null r.node) (list_any (is_otherwise r) known) (named_if-None (is_null r.node || list_any (is_otherwise r) known) _ parts.2)).0;
-      short = h.short;
-      path = h.path;
-      bytes = h.bytes;
-      shape = parts.1;
-    }
-
-sound : (known rs : List Revision) → AreAddedTo known rs → Each IsSound rs
-sound known [] h = tt
-sound known (r ∷ rs) h = (sound-one known r h.0, sound (known ++ r ∷ []) rs h.1)
-
--- what is found is one of the list, and passes
-found : (P : Revision → Type 0) (test : Revision → Bool) (rs : List Revision) (h : Revision) → find test rs ≡ Some h → Each P rs → P h × (test h ≡ true)
-found P test [] h at each = absurd (none_some at)
-found P test (x ∷ xs) h at each = by (test x) refl (λ e. found P test xs h e each.1)
-  where
-    by : (t : Bool) → test x ≡ t → (find test xs ≡ Some h → P h × (test h ≡ true)) → P h × (test h ≡ true)
-    by true t later = let is : x ≡ h = some_is (sym (rw t refl) ∙ at) in (subst P is each.0, ap test (sym is) ∙ t)
-    by false t later = later (sym (rw t refl) ∙ at)
-
--- a revision that is known, by its group and its node
-pub record IsFound (group : Group) (node : Id) (r : Revision) : Type 0 where
-  pub sound : IsSound r
-  pub group_is : group ≡ r.group
-  pub node_is : node ≡ r.node
-
-pub found-sound : (known : List Revision) (group : Group) (node : Id) (r : Revision) → AreAdded known → revision_of known group node ≡ Some r → IsFound group node r
-found-sound known group node r added at =
-    let is = found IsSound (is_of group node) known r at (sound [] known added) in
-    let of = both (same_group group r.group) (bytes_eq node r.node) is.1 in
-    record { sound = is.0; group_is = same_group-is group r.group of.0; node_is = (bytes_eq-Decides node r.node).0 of.1 }
 
 -- ---- views of what is held
 
 module _ (known : List Revision) (added : AreAdded known) (node : Id) (h : ChangesetView) (held : IsChangesetHeld known node h) where
-  own-found : IsFound Changesets node held.revision
-  own-found = found-sound known Changesets node held.revision added held.is_held
+  own-found : Found Changesets node held.revision
+  own-found = found known Changesets node held.revision added held.is_held
 
   pub node-is : changeset_node h ≡ node
   unfolding changeset_node
-  node-is = (λ i. node_id (held.parents.0 i) (held.parents.1 i) (sym held.fields.1 i)) ∙ sym own-found.sound.node ∙ sym own-found.node_is
+  node-is = (λ i. node_id (held.parents.0 i) (held.parents.1 i) (sym held.fields.1 i)) ∙ sym (store.node_is own-found.before held.revision own-found.added) ∙ own-found.node_is
 
   pub held-changeset : IsChangesetOf known node h.p h.q h.fields
   held-changeset = record { revision = held.revision; is_held = held.is_held; first = held.parents.0; second = held.parents.1; fields = held.fields }
@@ -120,8 +48,8 @@ module _ (known : List Revision) (added : AreAdded known) (node : Id) (h : Chang
   manifest-of node NoManifest rows is =
       record { text = []; is_held = rw (ap is_null is.0 ∙ bytes_eq-self null) refl; spells = subst (λ (rs : List Row). IsManifestText [] (map entry_of_row rs)) {x = []} {y = rows} (sym is.1) ((tt, refl), refl) }
   manifest-of node (Over p q) rows is =
-      let f = found-sound known Manifests node is.revision added is.is_held in
-      record { text = (is.revision).text; is_held = rw (ap is_null f.node_is ∙ f.sound.some) (ap (option_map (λ r. r.text)) is.is_held); spells = is.text }
+      let f = found known Manifests node is.revision added is.is_held in
+      record { text = (is.revision).text; is_held = rw (ap is_null (sym f.node_is) ∙ not_null f.before is.revision f.added) (ap (option_map (λ r. r.text)) is.is_held); spells = is.text }
 
   pub held-manifest : IsManifestOf known (h.fields).manifest (map entry_of_row h.rows)
   held-manifest = manifest-of (h.fields).manifest h.manifest h.rows held.manifest
@@ -139,8 +67,8 @@ module _ (known : List Revision) (added : AreAdded known) (node : Id) (h : Chang
   manifest-marks : (m : ManifestParents) → IsManifestHeld known (h.fields).manifest m h.rows → map mark_of (manifest_revision h m) ≡ manifest_marks (changeset_node h) (h.fields).manifest
   manifest-marks NoManifest is = rw (ap is_null is.0 ∙ bytes_eq-self null) refl
   manifest-marks (Over p q) is =
-      let f = found-sound known Manifests (h.fields).manifest is.revision added is.is_held in
-      rw (ap is_null f.node_is ∙ f.sound.some) refl
+      let f = found known Manifests (h.fields).manifest is.revision added is.is_held in
+      rw (ap is_null (sym f.node_is) ∙ not_null f.before is.revision f.added) refl
 
   file-marks : (link : Id) (rows : List Row) → map mark_of (map (file_revision link) rows) ≡ map (file_mark link) (map entry_of_row rows)
   file-marks link [] = refl
@@ -152,7 +80,7 @@ module _ (known : List Revision) (added : AreAdded known) (node : Id) (h : Chang
       let manifest : x.manifest ≡ (h.fields).manifest = ap (λ (y : Changeset). y.manifest) (same_fields p q x changeset) in
       let entries = same_entries x.manifest es manifest of in
       ap (λ (l : List Mark). own_mark (changeset_node h) ∷ l)
-      (map-append mark_of (manifest_revision h h.manifest) (map (file_revision (changeset_node h)) h.rows)
+      (map_append mark_of (manifest_revision h h.manifest) (map (file_revision (changeset_node h)) h.rows)
       ∙ (λ i. manifest-marks h.manifest held.manifest i ++ file-marks (changeset_node h) h.rows i))
       ∙ (λ i. view_marks (node-is i) (sym manifest i) (sym entries i))
 
@@ -177,6 +105,10 @@ module _ (known : List Revision) (added : AreAdded known) (node : Id) (h : Chang
       let fields = same_fields f.p f.q f.fields f.changeset in
       let entries = same_entries (f.fields).manifest f.entries (ap (λ (x : Changeset). x.manifest) fields) f.manifest in
       none_some (sym (each-known h.rows held.files) ∙ ap (first_unknown known) (sym entries) ∙ f.first)
+
+  pub held-names_manifest : HasNoManifest known node → ⊥
+  held-names_manifest (inl unknown) = held-has_view ChangesetUnknown unknown
+  held-names_manifest (inr lacks) = held-has_view ManifestUnknown lacks
 
 -- ---- some views one by one
 
@@ -216,7 +148,7 @@ held-drop known (node ∷ nodes) [] (suc n) are = absurd are
 held-drop known (node ∷ nodes) (h ∷ hs) (suc n) are = held-drop known nodes hs n are.1
 
 pub marks-push : (hs : List ChangesetView) (i : ℕ) (h : ChangesetView) → slice_get hs i ≡ Some h → marks_in (take (i + 1) hs) ≡ marks_in (take i hs) ++ marks_of h
-marks-push hs i h at = ap marks_in (take-push hs i h at) ∙ flat_map-append marks_of (take i hs) (h ∷ []) ∙ ap (λ (l : List Mark). marks_in (take i hs) ++ l) (append-nil (marks_of h))
+marks-push hs i h at = ap marks_in (take_push hs i h at) ∙ flat_map_append marks_of (take i hs) (h ∷ []) ∙ ap (λ (l : List Mark). marks_in (take i hs) ++ l) (append-nil (marks_of h))
 
 -- ---- texts
 
@@ -225,7 +157,7 @@ text-short known group node text added is = by (revision_of known group node) re
   where
     by : (o : Option Revision) → revision_of known group node ≡ o → option_map (λ (r : Revision). r.text) o ≡ Some text → length text ≤ text_limit
     by None at e = absurd (none_some e)
-    by (Some r) at e = subst (λ (t : Bytes). length t ≤ text_limit) (some_is e) (found-sound known group node r added at).sound.short
+    by (Some r) at e = subst (λ (t : Bytes). length t ≤ text_limit) (some_is e) ((found known group node r added at).added).short
 
 pub held-text : (known : List Revision) (group : Group) (r : Revision) → IsHeldIn known group r → text_of known group r.node ≡ Some r.text
 held-text known group r is = ap (option_map (λ (s : Revision). s.text)) is.is_held ∙ ap Some (sym is.text)
@@ -246,8 +178,8 @@ fit-size path h =
 -- the path of a file that is known
 pub held-path : (known : List Revision) (path : Bytes) (r : Revision) → AreAdded known → IsHeldIn known (FilesAt path) r → (1 ≤ length path) × (length path ≤ 4096)
 held-path known path r added is =
-    let f = found-sound known (FilesAt path) r.node is.revision added is.is_held in
-    fit-size path (subst HasFitPath (sym f.group_is) f.sound.path)
+    let f = found known (FilesAt path) r.node is.revision added is.is_held in
+    fit-size path (subst HasFitPath f.group_is (f.added).path)
 
 -- ---- the revisions of a view are known
 

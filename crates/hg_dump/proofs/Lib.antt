@@ -3,7 +3,6 @@ pub mod EntryLemmas
 pub mod FileLemmas
 pub mod GroupLemmas
 pub mod HeldLemmas
-pub mod ListLemmas
 pub mod MeetLemmas
 pub mod OnceLemmas
 pub mod PathLemmas

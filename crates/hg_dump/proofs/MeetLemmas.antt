@@ -11,22 +11,15 @@ use Rattle.text_model.specs.Lists.{Each}
 use Rattle.text_model.proofs.TestLemmas.{both}
 use Rattle.hg_model.specs.Manifest.{ManifestEntry}
 use Rattle.text_model.specs.Text.{Bytes}
+use Rattle.text_model.proofs.Options.{or_false}
+use Rattle.text_model.proofs.Elements.{map_append}
+use Rattle.hg_model.proofs.RevisionLemmas.{bytes_eq-self, same_group-is, same_group-sym}
 use Rattle.hg_model.specs.Revision.{Group, Changesets, Manifests, FilesAt, same_group}
-use Rattle.hg_store.proofs.KeyLemmas.{same_group-is}
 use Rattle.hg_dump.specs.declared.references.Reference.{Reference}
 use Rattle.hg_dump.specs.declared.brought.Brought.{Brought}
 use Rattle.hg_dump.specs.Referred.{Referred, referred, nothing}
 use Rattle.hg_dump.specs.Marks.{Mark, same_mark, reference_of, references_at, Met, IsMet, meet, meets, none, own_mark, manifest_marks, file_mark, view_marks}
 use Rattle.hg_dump.specs.State.{files_at, referred_in, Steps, StepsAfter, IsLineMet, HasLine}
-use Rattle.hg_dump.proofs.GroupLemmas.{bytes_eq-self, same_group-sym}
-
-map-append : {X Y : Type 0} (f : X → Y) (xs ys : List X) → map f (xs ++ ys) ≡ map f xs ++ map f ys
-map-append f [] ys = refl
-map-append f (x ∷ xs) ys = ap (λ (l : List _). f x ∷ l) (map-append f xs ys)
-
-or_false : (b : Bool) → (b || false) ≡ b
-or_false true = refl
-or_false false = refl
 
 absorbed : (a b : Bool) → (b ≡ true → a ≡ true) → (a || b) ≡ a
 absorbed true b f = refl
@@ -37,7 +30,7 @@ absorbed false false f = refl
 pub references_at-push : (g : Group) (ms : List Mark) (m : Mark) → same_group g m.group ≡ true → references_at g (ms ++ m ∷ []) ≡ references_at g ms ++ reference_of m ∷ []
 references_at-push g ms m is =
     ap (map reference_of) (filter-append (λ (x : Mark). same_group g x.group) ms (m ∷ []))
-    ∙ map-append reference_of (filter (λ (x : Mark). same_group g x.group) ms) (filter (λ (x : Mark). same_group g x.group) (m ∷ []))
+    ∙ map_append reference_of (filter (λ (x : Mark). same_group g x.group) ms) (filter (λ (x : Mark). same_group g x.group) (m ∷ []))
     ∙ ap (λ (l : List Reference). references_at g ms ++ l) (rw is refl)
 
 pub references_at-other : (g : Group) (ms : List Mark) (m : Mark) → same_group g m.group ≡ false → references_at g (ms ++ m ∷ []) ≡ references_at g ms

@@ -13,6 +13,7 @@ use Rattle.std.proofs.lemmas.Slice.Eq.{bytes_eq-Decides}
 use Rattle.text_model.specs.Lists.{Each, first_of_each, with_inserted, in_order}
 use Rattle.text_model.specs.Text.{Bytes, is_below}
 use Rattle.text_model.proofs.OrderLemmas.{is_below-one_way, is_below-irreflexive, is_below-same, is_below-chain}
+use Rattle.hg_model.proofs.RevisionLemmas.{bytes_eq-self, bytes_eq-sym, same_bool}
 use Rattle.hg_model.specs.Revision.{Group, Changesets, Manifests, FilesAt, Revision, same_group}
 use Rattle.hg_model.specs.Bundle.{FileGroup, file_group_text}
 use Rattle.view_model.specs.Dump.{of_group, path_of_group, paths_in, written_file}
@@ -21,7 +22,7 @@ use Rattle.hg_dump.specs.Referred.{Referred, or_nothing}
 use Rattle.hg_dump.specs.Written.{reference_to, file_part, file_part_of}
 use Rattle.hg_dump.specs.State.{AreFiles, AreRising, paths_of}
 use Rattle.hg_dump.proofs.FileLemmas.{by_path}
-use Rattle.hg_dump.proofs.GroupLemmas.{bytes_eq-self, bytes_eq-sym, same_bool, not_both}
+use Rattle.hg_dump.proofs.GroupLemmas.{not_both}
 
 -- ---- rising paths
 

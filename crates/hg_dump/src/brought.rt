@@ -1,5 +1,5 @@
 // What changesets refer to.
-ghost use Rattle.std.specs.Prelude.{◌≡◌, ◌∷◌, [], false, Bool, List, map, take, drop, length, ◌≤◌, IfOk, OnOk, OnSome, if◌then◌else◌, ℕ, bytes_eq};
+ghost use Rattle.std.specs.Prelude.{◌≡◌, ◌∷◌, [], false, Bool, List, map, take, drop, length, ◌≤◌, IfOk, OnOk, if◌then◌else◌, ℕ, bytes_eq};
 ghost use Rattle.std.specs.Bool.{OnTrue};
 ghost use Rattle.text_model.specs.Id.{has_id};
 ghost use Rattle.hg_model.specs.Revision as model;
@@ -13,7 +13,7 @@ ghost use Rattle.hg_dump.specs.State.{files_at, referred_in, met_of, Steps, Step
 
 use crate::references::{Reference, References};
 use bridge_text::{Id, NoMemory};
-use hg_manifest::{Entry, Manifest};
+use hg_manifest::{Cursor, Entry, Manifest};
 use hg_store::{Group, HgStore};
 use std::alloc::Global;
 use std::collections::BTreeMap;
@@ -82,7 +82,6 @@ impl Brought {
         requires held { (hs : List ChangesetView) × AreChangesetsHeld store.now nodes.now hs }
         ensures { OnOk result ((hs : List ChangesetView) → AreChangesetsHeld store.now nodes.now hs → Steps is_new (marks_in hs) self.old self.new) }
     {
-        store.check();
         for node in nodes {
             let (manifest_node, manifest) = manifest_of(store, node);
             self.refer_view(node, &manifest_node, manifest, previous, is_new)?;
@@ -132,12 +131,11 @@ impl Brought {
     ) -> Result<(), NoMemory>
         ensures { OnOk result (StepsAfter previous.now is_new (map (file_mark link.now) manifest.now) self.old self.new) }
     {
-        let mut place = 0;
+        let mut before = Cursor::new(previous);
         for line in 0..manifest.len() {
             let entry = manifest.at(line);
-            let (is_met, next) = walk_to(previous, place, entry);
+            let is_met = has_line(&mut before, entry);
             self.refer_line(entry, is_met, link, is_new)?;
-            place = next;
         }
         Ok(())
     }
@@ -196,54 +194,21 @@ fn manifest_of<'a>(store: &'a HgStore, node: &Id) -> (Id, &'a Manifest)
     requires held { (h : ChangesetView) × IsChangesetHeld store.now node.now h }
     ensures { (h : ChangesetView) → IsChangesetHeld store.now node.now h → marks_of h ≡ view_marks node.now result.0 result.1.now }
 {
-    store.check();
-    let Some((_, _, changeset)) = store.changeset(node) else {
-        unreachable!();
-    };
-    match store.manifest(&changeset.manifest) {
-        Some(manifest) => (changeset.manifest, manifest),
+    match store.manifest_of_changeset(node) {
+        Some(found) => found,
         None => unreachable!(),
     }
 }
 
-// Whether a line with the path and the node of this one stands in a manifest from a place on, and the place where the walk for the next
-// line begins. Most lines stand right at the place: for them no paths are put in order.
-fn walk_to(manifest: &Manifest, from: usize, entry: &Entry) -> (bool, usize)
-    ensures { OnTrue result.0 (HasLine manifest.now (manifest_entry entry.now)) }
+// Whether a line with the path and the node of this one stands in a manifest.
+fn has_line(manifest: &mut Cursor<'_>, entry: &Entry) -> bool
+    ensures found { OnTrue result (HasLine manifest.old (manifest_entry entry.now)) }
+    ensures same { manifest.new ≡ manifest.old }
 {
-    if let Some(next) = place_behind(manifest, from, entry) {
-        return (true, next);
+    match manifest.get(entry.path.as_slice()) {
+        Some(other) => other.node == entry.node,
+        None => false,
     }
-    let place = place_of(manifest, from, entry.path.as_slice());
-    match place_behind(manifest, place, entry) {
-        Some(next) => (true, next),
-        None => (false, place),
-    }
-}
-
-// The place behind this one, if a line with the path and the node of the entry stands here.
-fn place_behind(manifest: &Manifest, place: usize, entry: &Entry) -> Option<usize>
-    ensures { OnSome result (HasLine manifest.now (manifest_entry entry.now)) }
-{
-    if place >= manifest.len() {
-        return None;
-    }
-    let other = manifest.at(place);
-    if other.node == entry.node && other.path.as_slice() == entry.path.as_slice() {
-        Some(place + 1)
-    } else {
-        None
-    }
-}
-
-// The first place from this one on where no path below the given one stands.
-fn place_of(manifest: &Manifest, from: usize, path: &[u8]) -> usize {
-    for place in from..manifest.len() {
-        if manifest.at(place).path.as_slice().cmp(path).is_ge() {
-            return place;
-        }
-    }
-    manifest.len()
 }
 
 fn refer_file(

@@ -31,7 +31,6 @@ pub fn put_entry(
     ensures entry { OnOk result ((r : Revision) → IsOf store.now (group_value group.entry) reference.now r → out.new.items ≡ out.old.items ++ entry_chunk (entry_over base_len r)) }
     ensures len { IfOk result (λ len. (r : Revision) → IsOf store.now (group_value group.entry) reference.now r → len ≡ length r.text) }
 {
-    store.check();
     let text = store.revision_text(group, &reference.node).unwrap();
     let (p, q) = parents(store, group, &reference.node);
     put_header(out, delta_len(base_len, text), reference, &p, &q)?;

@@ -38,7 +38,6 @@ fn first_base_len(store: &HgStore, group: Group<'_>, references: &[Reference]) -
     requires { (rs : List Revision) × AreOf store.now (group_value group) references.now rs }
     ensures { (rs : List Revision) → AreOf store.now (group_value group.entry) references.now rs → result ≡ base_size store.now (group_value group.entry) rs }
 {
-    store.check();
     let Some(reference) = references.first() else {
         return 0;
     };

@@ -12,7 +12,6 @@ pub fn are_held(store: &HgStore, order: &IdList) -> bool
     ensures held { OnTrue result ((hs : List ChangesetView) × AreChangesetsHeld store.now order.now hs) }
     ensures all { (hs : List ChangesetView) → AreChangesetsHeld store.now order.now hs → IsTrue result }
 {
-    store.check();
     for node in order.as_slice() {
         match store.view_of(node) {
             Ok(_) => {}

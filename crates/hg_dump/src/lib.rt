@@ -13,6 +13,3 @@ mod refers;
 pub use bundle::write;
 pub use held::are_held;
 pub use refers::Refers;
-
-#[cfg(test)]
-mod tests;

@@ -30,7 +30,7 @@ impl Model for References {
 }
 
 impl References {
-    /// None.
+    /// No references.
     pub fn new(alloc: Global) -> References
         ensures { result ≡ nothing }
     {

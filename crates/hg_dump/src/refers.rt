@@ -19,7 +19,7 @@ pub struct Refers {
 }
 
 impl Refers {
-    /// Those of the changesets of these nodes, which the store holds.
+    /// Those of the changesets with these nodes, all of which are in the store.
     pub fn of(alloc: Global, store: &HgStore, nodes: &[Id]) -> Result<Refers, NoMemory>
         requires held { (hs : List ChangesetView) × AreChangesetsHeld store.now nodes.now hs }
         ensures { IfOk result (λ refers. (hs : List ChangesetView) → AreChangesetsHeld store.now nodes.now hs → RefersTo refers (revisions_in hs)) }

@@ -8,6 +8,9 @@ use Rattle.text_model.specs.Text.{Bytes, is_below}
 use Rattle.text_model.specs.Id.{Id, is_null}
 use Rattle.text_model.proofs.OrderLemmas.{is_below-one_way, is_below-same}
 use Rattle.text_model.proofs.TestLemmas.{both}
+use Rattle.text_model.proofs.Options.{none_some, some_is}
+use Rattle.hg_model.proofs.RevisionLemmas.{bytes_eq-self}
+use Rattle.hg_model.proofs.ParentOrder.{file_order-turned, manifest_order-turned}
 use Rattle.hg_model.specs.Changeset.{IsChangesetText}
 use Rattle.hg_model.specs.Manifest.{IsManifestText}
 use Rattle.hg_model.specs.FileText.{IsFileText, manifest_order, file_order, names_copy}
@@ -17,9 +20,7 @@ use Rattle.hg_store.specs.Known.{AreAdded}
 use Rattle.view_model.specs.View.{Row, ManifestParents, NoManifest, Over, ChangesetView, changeset_node, entry_of_row, file_node}
 use Rattle.view_model.specs.Held.{IsFileHeld, IsManifestHeld, IsChangesetHeld, AreChangesetsHeld}
 use Rattle.view_model.specs.Dump.{manifest_revision, file_revision, revisions_of, revisions_in, of_group, path_of_group, paths_in}
-use Rattle.hg_dump.proofs.GroupLemmas.{bytes_eq-self}
 use Rattle.hg_dump.proofs.HeldLemmas.{node-is}
-use Rattle.hg_dump.proofs.ListLemmas.{some_is, none_some}
 use Rattle.hg_dump.proofs.PathLemmas.{has, has-in_order, has-first}
 use Rattle.hg_dump_law.specs.Taken.{IsOneOf, in_bundle_order}
 use Rattle.hg_dump_law.proofs.Known.{IsKnown, HoldsIn, Holds, is_of-is, some_true, left_true, right_true, knows-cons, holds-left, holds-right, holds-each, each-known, holds-after_all, knows-after}
@@ -84,28 +85,11 @@ order-holds rs (FilesAt p) node h =
 
 -- ---- changesets of both
 
-one_order : (p q : Id) → manifest_order p q ≡ manifest_order q p
-one_order p q = by (is_null p) refl (is_null q) refl (is_below q p) refl (is_below p q) refl
-  where
-    by : (x : Bool) → is_null p ≡ x → (y : Bool) → is_null q ≡ y → (z : Bool) → is_below q p ≡ z → (w : Bool) → is_below p q ≡ w → manifest_order p q ≡ manifest_order q p
-    by true x true y z ez w ew =
-        let same : p ≡ q = (bytes_eq-Decides p _).0 x ∙ sym ((bytes_eq-Decides q _).0 y) in
-        (λ i. manifest_order (same i) (sym same i))
-    by true x false y z ez w ew = rw (x, y) refl
-    by false x true y z ez w ew = rw (x, y) refl
-    by false x false y true ez w ew = rw (x, y, ez, is_below-one_way q p ez) refl
-    by false x false y false ez true ew = rw (x, y, ez, ew) refl
-    by false x false y false ez false ew = let same : p ≡ q = is_below-same p q ew ez in (λ i. manifest_order (same i) (sym same i))
-
 or_turned : (a b : Bool) → (a || b) ≡ (b || a)
 or_turned true true = refl
 or_turned true false = refl
 or_turned false true = refl
 or_turned false false = refl
-
-one_file_order : (meta : Option Bytes) (p q : Id) → file_order meta p q ≡ file_order meta q p
-one_file_order meta p q =
-    (λ i. if names_copy meta && or_turned (is_null p) (is_null q) i then ((one_order p q i).1, (one_order p q i).0) else one_order p q i)
 
 -- the same pair in either order has one canonical order
 pair-order : (f : Id → Id → Id × Id) → ((p q : Id) → f p q ≡ f q p) → (a b c d : Id) → IsSamePair a b c d → f c d ≡ f a b
@@ -159,7 +143,7 @@ module _ (known base : List Revision) (added : AreAdded known) (are : Each (IsOn
       record {
         revision = a.revision;
         is_held = a.is_held;
-        parents = is.parents ∙ pair-order manifest_order one_order (a.revision).p (a.revision).q k.p k.q (pair-is (a.revision).p (a.revision).q k.p k.q a.is.1);
+        parents = is.parents ∙ pair-order manifest_order manifest_order-turned (a.revision).p (a.revision).q k.p k.q (pair-is (a.revision).p (a.revision).q k.p k.q a.is.1);
         text = subst (λ (t : Bytes). IsManifestText t (map entry_of_row h.rows)) (sym a.is.0) is.text;
       }
 
@@ -172,7 +156,7 @@ module _ (known base : List Revision) (added : AreAdded known) (are : Each (IsOn
         record {
           revision = a.revision;
           is_held = a.is_held;
-          parents = (is.0).parents ∙ pair-order (file_order meta) (one_file_order meta) (a.revision).p (a.revision).q k.p k.q (pair-is (a.revision).p (a.revision).q k.p k.q a.is.1);
+          parents = (is.0).parents ∙ pair-order (file_order meta) (file_order-turned meta) (a.revision).p (a.revision).q k.p k.q (pair-is (a.revision).p (a.revision).q k.p k.q a.is.1);
           text = subst (λ (t : Bytes). IsFileText t meta (row.revision).body) (sym a.is.0) (is.0).text;
         },
         rows-same link rows all.1 is.1,

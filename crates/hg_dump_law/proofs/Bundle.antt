@@ -4,14 +4,14 @@ use Rattle.std.specs.Prelude.{option_map, unwrap_or, is_some}
 use Rattle.text_model.specs.Lists.{Each}
 use Rattle.text_model.specs.Text.{Bytes}
 use Rattle.text_model.specs.Id.{Id, is_null}
+use Rattle.text_model.proofs.Options.{none_some, some_is}
 use Rattle.hg_model.specs.Revision.{Group, Revision, is_of, revision_of, is_known_parent}
 use Rattle.hg_model.specs.Reading.{AreTextsFrom, AreTextsOf, first_base}
 use Rattle.hg_model.proofs.DeltaLemmas.{Patches-whole_delta}
 use Rattle.hg_bundle.specs.Brought.{revisions_with, AreOfGroup}
 use Rattle.hg_store.specs.Known.{AreAdded}
-use Rattle.hg_view.proofs.Found.{found}
+use Rattle.hg_store.proofs.Found.{found}
 use Rattle.view_model.specs.Dump.{written_from, written_group}
-use Rattle.hg_dump.proofs.ListLemmas.{some_is, none_some}
 use Rattle.hg_dump_law.specs.Taken.{IsOneOf}
 use Rattle.hg_dump_law.proofs.Known.{is_of-is}
 use Rattle.hg_dump_law.proofs.Earlier.{AreReady}

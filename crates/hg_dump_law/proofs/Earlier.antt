@@ -4,12 +4,11 @@ use Rattle.std.specs.Prelude.{bytes_eq, ⊤}
 use Rattle.text_model.specs.Lists.{Each, only_new}
 use Rattle.text_model.specs.Id.{Id, is_null}
 use Rattle.text_model.proofs.TestLemmas.{both}
+use Rattle.hg_model.proofs.RevisionLemmas.{bytes_eq-self, same_group-is}
 use Rattle.hg_model.specs.Revision.{Group, Changesets, Manifests, FilesAt, Revision, is_of, knows, known_after, is_known_parent, is_bad_link, same_group, same_revision}
 use Rattle.hg_bundle.specs.Arrivals.{known_after_all}
-use Rattle.hg_store.proofs.KeyLemmas.{same_group-is}
 use Rattle.view_model.specs.View.{ChangesetView, Row, ManifestParents, NoManifest, Over, changeset_node}
 use Rattle.view_model.specs.Dump.{manifest_revision, file_revision, revisions_of, revisions_in, of_group}
-use Rattle.hg_dump.proofs.GroupLemmas.{bytes_eq-self}
 use Rattle.hg_dump.proofs.OnceLemmas.{Each-append}
 use Rattle.hg_dump_law.specs.Taken.{HasParents, AreParentsEarlier}
 use Rattle.hg_dump_law.proofs.Known.{IsKnown, HoldsIn, Holds, knows-cons, holds-left, holds-right, knows-last, holds-both, holds-each, each-known, holds-after, knows-after, new-known, new-first}

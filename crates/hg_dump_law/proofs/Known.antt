@@ -6,11 +6,10 @@ use Rattle.std.proofs.lemmas.Slice.Eq.{bytes_eq-Decides}
 use Rattle.text_model.specs.Lists.{Each, first_of_each, only_new}
 use Rattle.text_model.specs.Id.{Id}
 use Rattle.text_model.proofs.TestLemmas.{both}
+use Rattle.hg_model.proofs.RevisionLemmas.{is_of-self, bytes_eq-self, bytes_eq-sym, same_group-is, same_group-self, same_group-sym}
 use Rattle.hg_model.specs.Revision.{Group, Revision, is_of, knows, known_after, same_group, same_revision}
 use Rattle.hg_bundle.specs.Arrivals.{known_after_all}
-use Rattle.hg_store.proofs.KeyLemmas.{same_group-is}
 use Rattle.view_model.specs.Dump.{of_group}
-use Rattle.hg_dump.proofs.GroupLemmas.{bytes_eq-self, bytes_eq-sym, same_group-self, same_group-sym}
 
 abbrev pub IsKnown : List Revision → Group → Id → Type 0
 IsKnown known group node = knows known group node ≡ true
@@ -34,9 +33,6 @@ left_true a b h = rw h refl
 pub right_true : (a b : Bool) → b ≡ true → (a || b) ≡ true
 right_true true b h = refl
 right_true false b h = h
-
-is_self : (r : Revision) → is_of r.group r.node r ≡ true
-is_self r = rw (same_group-self r.group, bytes_eq-self r.node) refl
 
 -- the group and the node of one that passes
 pub record Is (group : Group) (node : Id) (r : Revision) : Type 0 where
@@ -75,7 +71,7 @@ pub holds-right : (xs ys : List Revision) → Holds ys (xs ++ ys)
 holds-right xs ys group node h = knows-append xs ys group node ∙ right_true (knows xs group node) (knows ys group node) h
 
 pub knows-last : (xs : List Revision) (r : Revision) → IsKnown (xs ++ r ∷ []) r.group r.node
-knows-last xs r = holds-right xs (r ∷ []) r.group r.node (knows-cons r [] r.group r.node ∙ left_true (is_of r.group r.node r) false (is_self r))
+knows-last xs r = holds-right xs (r ∷ []) r.group r.node (knows-cons r [] r.group r.node ∙ left_true (is_of r.group r.node r) false (is_of-self r))
 
 -- two lists whose revisions are known
 pub holds-both : (group : Group) (xs ys large : List Revision) → HoldsIn group xs large → HoldsIn group ys large → HoldsIn group (xs ++ ys) large
@@ -188,7 +184,7 @@ new-first old x xs e =
 -- each is known where all are
 pub each-known : (ys large : List Revision) → Holds ys large → Each (λ r. IsKnown large r.group r.node) ys
 each-known [] large h = tt
-each-known (y ∷ ys) large h = (h y.group y.node (knows-cons y ys y.group y.node ∙ left_true (is_of y.group y.node y) (knows ys y.group y.node) (is_self y)), each-known ys large (λ g n k. h g n (knows-cons y ys g n ∙ right_true (is_of g n y) (knows ys g n) k)))
+each-known (y ∷ ys) large h = (h y.group y.node (knows-cons y ys y.group y.node ∙ left_true (is_of y.group y.node y) (knows ys y.group y.node) (is_of-self y)), each-known ys large (λ g n k. h g n (knows-cons y ys g n ∙ right_true (is_of g n y) (knows ys g n) k)))
 
 -- all are known, or new
 pub holds-new : (old xs : List Revision) → Holds xs (old ++ only_new same_revision old xs)

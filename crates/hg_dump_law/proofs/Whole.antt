@@ -9,6 +9,8 @@ use Rattle.text_model.specs.Text.{Bytes, is_below}
 use Rattle.text_model.specs.Id.{Id, IsId}
 use Rattle.text_model.specs.Path.{is_fit_path}
 use Rattle.text_model.specs.Fault.{input_limit}
+use Rattle.text_model.proofs.Elements.{flat_map_append}
+use Rattle.hg_model.proofs.RevisionLemmas.{bytes_eq-self, same_group-is}
 use Rattle.hg_model.specs.Changeset.{changeset_text}
 use Rattle.hg_model.specs.Chunk.{field_of, chunk_text, magic_text}
 use Rattle.hg_model.specs.Bundle.{BundleEntry, group_text, entry_payload, IsBundleEntry, IsSize, IsBundle, IsWithinLimits, AreShort, delta_limit, path_limit, bundle_text, bundle_framing}
@@ -21,12 +23,9 @@ use Rattle.hg_bundle.proofs.Reading.{reading_is}
 use Rattle.hg_bundle.proofs.Taken.{all_taken}
 use Rattle.hg_bundle.proofs.Unreadable.{bundle_read}
 use Rattle.hg_store.specs.Known.{AreAdded, HasFitPath}
-use Rattle.hg_store.proofs.KeyLemmas.{same_group-is}
 use Rattle.view_model.specs.View.{ChangesetView, Row, ManifestParents, NoManifest, Over, changeset_node, commit_limit}
 use Rattle.view_model.specs.Dump.{written_from, written_group, written_file, written_bundle, of_group, path_of_group, paths_in, brought_by, manifest_revision, file_revision, revisions_of, revisions_in, hg_increment}
 use Rattle.hg_dump.specs.Written.{IsHeldIn}
-use Rattle.hg_dump.proofs.GroupLemmas.{bytes_eq-self}
-use Rattle.hg_dump.proofs.ListLemmas.{flat_map-append}
 use Rattle.hg_dump.proofs.OnceLemmas.{Each-filter, Each-new, Each-append}
 use Rattle.hg_dump.proofs.PathLemmas.{has, has-in_order, has-first}
 use Rattle.hg_dump_law.specs.Taken.{IsOneOf, KnowsOld, AreParentsEarlier, in_bundle_order, IsShortIncrement, Brings}
@@ -409,7 +408,7 @@ module _ (known base : List Revision) (added : AreAdded known) (old new : List C
 
   pub after-known : Each (λ r. IsKnown after r.group r.node) (revisions_in (old ++ new))
   after-known =
-      subst (Each (λ r. IsKnown after r.group r.node)) (sym (flat_map-append revisions_of old new))
+      subst (Each (λ r. IsKnown after r.group r.node)) (sym (flat_map_append revisions_of old new))
       (Each-append (λ r. IsKnown after r.group r.node) (revisions_in old) (revisions_in new) (each-known (revisions_in old) after old-after_all) (each-known (revisions_in new) after new-after_all))
     where
       old-after_all : Holds (revisions_in old) after

@@ -10,17 +10,17 @@ use Rattle.text_model.specs.Id.{Id, IsId, is_null, node_id}
 use Rattle.text_model.specs.Fault as fault
 use Rattle.text_model.proofs.OrderLemmas.{node_id-either_order}
 use Rattle.text_model.proofs.TestLemmas.{both}
+use Rattle.text_model.proofs.Options.{some_is}
+use Rattle.hg_model.proofs.RevisionLemmas.{bytes_eq-self}
+use Rattle.hg_model.proofs.ParentOrder.{file_order-either, manifest_order-either}
 use Rattle.hg_model.specs.FileText.{file_order}
 use Rattle.hg_model.specs.Revision.{Group, Changesets, Manifests, FilesAt, Revision, revision_of, knows, known_after, same_revision, same_parents, is_otherwise, has_bad_order, order_fault, shape_fault, first_name, ancestry_fault, text_fault, addition_fault}
 use Rattle.hg_model.specs.Reading.{sum_limit, text_limit}
 use Rattle.hg_bundle.specs.Arrivals.{known_after_all}
 use Rattle.hg_bundle.specs.Brought.{AreAdditions}
 use Rattle.hg_store.specs.Known.{AreAdded, HasFitPath}
-use Rattle.hg_view.proofs.Canonical.{manifest_order-either, file_order-either}
-use Rattle.hg_view.proofs.Found.{found, good_order, node_is, not_null, shape_is}
+use Rattle.hg_store.proofs.Found.{found, good_order, node_is, not_null, shape_is}
 use Rattle.hg_dump.specs.Written.{AreParentsOf, IsHeldIn}
-use Rattle.hg_dump.proofs.GroupLemmas.{bytes_eq-self}
-use Rattle.hg_dump.proofs.ListLemmas.{some_is}
 use Rattle.hg_dump_law.specs.Taken.{IsOneOf, HasParents}
 use Rattle.hg_dump_law.proofs.Known.{is_of-is}
 use Rattle.hg_dump_law.proofs.Earlier.{HasLink, AreReady}

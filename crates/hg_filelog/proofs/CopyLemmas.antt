@@ -15,6 +15,7 @@ use Rattle.text_model.proofs.TestLemmas.{differs}
 use Rattle.text_model.proofs.HexLemmas.{id_of_hex-some, id_of_hex-takes, id_of_hex-hex, is_hex_id-hex, hex-lacks}
 use Rattle.text_model.proofs.LackLemmas.{Lacks-by_test, has_byte-lacks, Lacks-append, Lacks-rest}
 use Rattle.text_model.proofs.LineLemmas.{whole_lines-line, whole_lines-last, whole_lines-none, whole_lines-whole}
+use Rattle.text_model.proofs.Options.{none_some, or_false, some_is}
 use Rattle.hg_model.specs.FileText.{copy_meta, IsCopy, copy_by, copy_of, has_copy}
 use Rattle.hg_filelog.specs.Reading.{◌>>=◌, after_word, path_in, node_in, copy_in}
 
@@ -22,19 +23,13 @@ bind_some : {A B : Type 0} (r : Option A) (f : A → Option B) (y : B) → (r >>
 bind_some (Some x) f y e = (x, refl, e)
 bind_some None f y e = absurd cc
 
-some_is : {A : Type 0} (x y : A) → Some x ≡ Some y → x ≡ y
-some_is x y e = cc
-
-none_some : {A : Type 0} (x : A) → None ≡ Some x → ⊥
-none_some x e = cc
-
 if_some : {A : Type 0} (t : Bool) (x y : A) → (if t then Some x else None) ≡ Some y → (t ≡ true) × (x ≡ y)
-if_some true x y e = (refl, some_is x y e)
-if_some false x y e = absurd (none_some y e)
+if_some true x y e = (refl, some_is e)
+if_some false x y e = absurd (none_some e)
 
 if_none : {A : Type 0} (t : Bool) (x y : A) → (if t then None else Some x) ≡ Some y → (t ≡ false) × (x ≡ y)
-if_none true x y e = absurd (none_some y e)
-if_none false x y e = (refl, some_is x y e)
+if_none true x y e = absurd (none_some e)
+if_none false x y e = (refl, some_is e)
 
 filled : (x : ℕ) (xs : Bytes) → (length (x ∷ xs) == 0) ≡ false
 filled x xs = ne_eqb (length (x ∷ xs)) 0 (λ e. absurd (omega arith))
@@ -130,7 +125,7 @@ copy_in-again meta path node is =
 -- ---- the definition
 
 bytes_of_digits-hex : (node : Id) → IsId node → bytes_of_digits (hex node) ≡ node
-bytes_of_digits-hex node is = some_is (bytes_of_digits (hex node)) node (sym (id_of_hex-some (hex node) (is_hex_id-hex node is)) ∙ id_of_hex-hex node is)
+bytes_of_digits-hex node is = some_is (sym (id_of_hex-some (hex node) (is_hex_id-hex node is)) ∙ id_of_hex-hex node is)
 
 all_but_last-line : (xs : Bytes) → all_but_last (xs ++ 10 ∷ []) ≡ xs
 all_but_last-line [] = refl
@@ -147,8 +142,8 @@ lacks_after (suc n) [] lacks = nothing n
 lacks_after (suc n) (x ∷ xs) lacks = lacks_after n xs lacks.1
 
 by_lines : (first path : Bytes) (node : Id) (lines : List Bytes) → Lacks 10 first → copy_by (line first ∷ lines) ≡ Some (path, node) → (meta : Bytes) → meta ≡ line first ++ flat_map (λ l. l) lines → IsCopy meta path node
-by_lines first path node [] lacks e meta whole = absurd (none_some (path, node) e)
-by_lines first path node (a ∷ b ∷ lines) lacks e meta whole = absurd (none_some (path, node) e)
+by_lines first path node [] lacks e meta whole = absurd (none_some e)
+by_lines first path node (a ∷ b ∷ lines) lacks e meta whole = absurd (none_some e)
 by_lines first path node (second ∷ []) lacks e meta whole =
     let p : Bytes = all_but_last (drop 6 (line first)) in
     let digits : Bytes = all_but_last (drop 9 second) in
@@ -175,7 +170,7 @@ copy_of-takes meta path node e = by (cut_of 10 meta) refl
     alone (x ∷ xs) lacks = ap copy_by (whole_lines-last x xs lacks)
 
     by : (cut : Option (Bytes × Bytes)) → cut_of 10 meta ≡ cut → IsCopy meta path node
-    by None c = absurd (none_some (path, node) (sym (alone meta (cut_of-none 10 meta c)) ∙ e))
+    by None c = absurd (none_some (sym (alone meta (cut_of-none 10 meta c)) ∙ e))
     by (Some cut) c =
         let first = cut_of-takes 10 meta cut.0 cut.1 c in
         let lines = ap whole_lines first.0 ∙ whole_lines-line cut.0 cut.1 first.1 in
@@ -223,10 +218,6 @@ pub has_copy-at : (first rest : Bytes) → Lacks 10 first → has_copy (first ++
 has_copy-at first rest lacks =
     ap (list_any (λ l. starts_with ◌==◌ l (codes "copy: "))) (whole_lines-line first rest lacks)
     ∙ ap (λ (b : Bool). b || has_copy rest) (with_end (codes "copy: ") first (Lacks-by_test 10 (codes "copy: ") refl))
-
-or_false : (b : Bool) → (b || false) ≡ b
-or_false true = refl
-or_false false = refl
 
 -- the last line, without LF
 pub has_copy-last : (rest : Bytes) → Lacks 10 rest → has_copy rest ≡ starts_with ◌==◌ rest (codes "copy: ")

@@ -11,6 +11,3 @@ mod room;
 pub use fault::HunkFault;
 pub use patch::{apply, fill, patched_len, reads_patches};
 pub use replace::{replace_into, replaces};
-
-#[cfg(test)]
-mod tests;

@@ -1,3 +1,3 @@
 pub mod LineTurns
 pub mod ReadLemmas
-pub mod SearchLemmas
+pub mod CursorLemmas

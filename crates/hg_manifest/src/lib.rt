@@ -1,6 +1,7 @@
 //! Manifests: the files of a changeset, a line for each, in the flat manifest format that Mercurial keeps in its revlogs (help topic `internals.revlogs`).
 #![tactic(auto)]
 
+mod cursor;
 mod entry;
 mod fault;
 mod law;
@@ -8,10 +9,9 @@ mod line;
 mod lines;
 mod list;
 
+pub use cursor::Cursor;
 pub use entry::{Entry, Flag};
 pub use fault::ManifestFault;
 pub use law::reads_exactly;
+pub use lines::{line_len, put_line};
 pub use list::Manifest;
-
-#[cfg(test)]
-mod tests;

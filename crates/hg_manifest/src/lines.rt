@@ -1,10 +1,11 @@
-ghost use Rattle.std.specs.Prelude.{◌≡◌, ◌++◌, OnOk, OnErr, map};
+ghost use Rattle.std.specs.Prelude.{◌≡◌, ◌++◌, List, ℕ, OnOk, length, map};
 ghost use Rattle.std.specs.Io.{StartsWith};
+ghost use Rattle.text_model.specs.Id.{IsId};
 ghost use Rattle.hg_model.specs.Manifest.{flag_text, entry_text, manifest_text};
 ghost use Rattle.hg_manifest.specs.Values.{file_flag, manifest_entry};
 
 use crate::entry::{Entry, Flag};
-use bridge_text::NoMemory;
+use bridge_text::{Id, NoMemory};
 
 fn flag_bytes(flag: Flag) -> &'static [u8]
     ensures { result.now ≡ flag_text (file_flag flag) }
@@ -16,17 +17,25 @@ fn flag_bytes(flag: Flag) -> &'static [u8]
     }
 }
 
-/// Adds the line of an entry, of which want of memory may leave a part.
-fn put_line(out: &mut Vec<u8>, entry: &Entry) -> Result<(), NoMemory>
-    ensures ok { OnOk result (out.new.items ≡ out.old.items ++ entry_text (manifest_entry entry.now)) }
+/// Adds the line of a file: its path, NUL, the 40 lower case hex digits of its node, the letter of its flag if it has one,
+/// and LF. Want of memory may leave a part of it.
+pub fn put_line(out: &mut Vec<u8>, path: &[u8], node: &Id, flag: Flag) -> Result<(), NoMemory>
+    ensures ok { OnOk result (out.new.items ≡ out.old.items ++ entry_text (record { path = path.now; node = node.now; flag = file_flag flag })) }
     ensures front { StartsWith out.new.items out.old.items }
 {
-    out.extend_from_slice(entry.path.as_slice())?;
+    out.extend_from_slice(path)?;
     out.push(b'\0')?;
-    out.extend_from_slice(&entry.node.hex())?;
-    out.extend_from_slice(flag_bytes(entry.flag))?;
+    out.extend_from_slice(&node.hex())?;
+    out.extend_from_slice(flag_bytes(flag))?;
     out.push(b'\n')?;
     Ok(())
+}
+
+/// How many bytes the line of a file has: beside its path and the letter of its flag a NUL, 40 digits and an LF.
+pub fn line_len(path: &[u8], flag: Flag) -> usize
+    ensures { (node : List ℕ) → IsId node → result ≡ length (entry_text (record { path = path.now; node = node; flag = file_flag flag })) }
+{
+    path.len() + flag_bytes(flag).len() + 42
 }
 
 /// Adds the lines of entries, of which want of memory may leave some and a part of the next.
@@ -36,7 +45,7 @@ pub fn put_lines(out: &mut Vec<u8>, entries: &[Entry]) -> Result<(), NoMemory>
     ensures front { StartsWith out.new.items out.old.items }
 {
     for entry in entries {
-        put_line(out, entry)?;
+        put_line(out, entry.path.as_slice(), &entry.node, entry.flag)?;
     }
     Ok(())
 }

@@ -49,7 +49,6 @@ impl Manifest {
     pub fn read(alloc: Global, text: &[u8]) -> Result<Manifest, ManifestFault>
         ensures { MatchResult result (IsManifestText text.now) (IsFault text.now) }
     {
-        each_is_byte(text);
         let mut manifest = Manifest::new(alloc);
         let mut last = None;
         let mut rest = text;
@@ -95,9 +94,10 @@ impl Manifest {
         let _entries = &self.entries;
     }
 
-    /// How many entries there are.
+    /// How many entries there are. They are those of a manifest.
     pub fn len(&self) -> usize
-        ensures { result ≡ length self.now }
+        ensures len { result ≡ length self.now }
+        ensures manifest { IsManifest self.now }
     {
         self.entries.len()
     }

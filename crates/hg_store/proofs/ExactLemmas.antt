@@ -1,8 +1,9 @@
 -- A node has one view or one fault.
-use Rattle.std.proofs.Common.{◌≡◌, ℕ, true, false, true≢false, List, Some, None, refl, sym, ap, subst, ◌∙◌}
+use Rattle.std.proofs.Common.{◌≡◌, ℕ, true, false, true≢false, List, None, refl, sym, ap, subst, ◌∙◌}
 use Rattle.std.specs.Prelude.{is_some}
 use Rattle.text_model.specs.Text.{Bytes}
 use Rattle.text_model.specs.Id.{Id}
+use Rattle.text_model.proofs.Options.{none_some, some_is}
 use Rattle.hg_model.specs.Changeset.{Changeset, IsChangesetText}
 use Rattle.hg_model.specs.Manifest.{ManifestEntry, IsManifestText}
 use Rattle.hg_model.specs.Revision.{Revision, Changesets, knows}
@@ -13,12 +14,6 @@ use Rattle.hg_store.specs.declared.view.View.{View}
 use Rattle.hg_store.specs.declared.fault.ViewFault.{ViewFault}
 use Rattle.hg_store.specs.declared.fault.ViewFault.TheVariants.{ChangesetUnknown, ManifestUnknown, FileUnknown}
 use Rattle.hg_store.specs.Views.{IsChangesetOf, IsManifestOf, IsView, IsSameView, LacksManifest, LacksFile, IsViewFault, first_unknown}
-
-some_is : {X : Type 0} {x y : X} → Some x ≡ Some y → x ≡ y
-some_is e = cc
-
-none_some : {X : Type 0} {x : X} → None ≡ Some x → ⊥
-none_some e = cc
 
 module _ {known : List Revision} {node : Id} where
   same_fields : {p q p' q' : Id} {x y : Changeset} → IsChangesetOf known node p q x → IsChangesetOf known node p' q' y → x ≡ y

@@ -1,5 +1,5 @@
 -- Looking a revision up by its key, where a path is told by its number.
-use Rattle.std.proofs.Common.{◌≡◌, ◌≢◌, ◌<◌, ◌+◌, ◌&&◌, ℕ, Bool, true, false, true≢false, cond, not, eqb, ltb, List, [], ◌∷◌, length, get_or, slice_get, Option, Some, None, refl, sym, ap, subst, ◌∙◌, arith, inl, inr, Bor, IfSome}
+use Rattle.std.proofs.Common.{◌≡◌, ◌≢◌, ◌<◌, ◌+◌, ◌&&◌, ℕ, Bool, true, false, cond, not, eqb, ltb, List, [], ◌∷◌, length, get_or, slice_get, Option, Some, None, refl, sym, ap, subst, ◌∙◌, arith, inl, inr, Bor, IfSome}
 use Rattle.std.specs.Prelude.{AllPairs, position, option_map, bytes_eq}
 use Rattle.std.specs.List.{prefix_len, position_or_len}
 use Rattle.std.specs.Map.{lookup}
@@ -16,6 +16,8 @@ use Rattle.text_model.specs.Lists.{Each}
 use Rattle.text_model.specs.Text.{Bytes}
 use Rattle.text_model.specs.Id.{Id}
 use Rattle.text_model.proofs.TestLemmas.{both}
+use Rattle.text_model.proofs.Options.{not_true}
+use Rattle.hg_model.proofs.RevisionLemmas.{same_group-is}
 use Rattle.hg_model.specs.Revision as model
 use Rattle.hg_model.specs.Revision.{Revision, same_group, is_of, revision_of}
 use Rattle.hg_store.specs.declared.group.KeyGroup.{KeyGroup}
@@ -39,10 +41,6 @@ position-items test keys =
 false_from : (b : Bool) → (b ≡ true → ⊥) → b ≡ false
 false_from true h = absurd (h refl)
 false_from false h = refl
-
-not_true : (b : Bool) → not b ≡ true → b ≡ false
-not_true true h = absurd cc
-not_true false h = refl
 
 -- two paths are the same exactly where their numbers are
 its_own : (paths : List Bytes) → AllPairs (λ x y. x ≢ y) paths → (i j : ℕ) → i < length paths → j < length paths → bytes_eq (get_or paths i []) (get_or paths j []) ≡ eqb i j
@@ -86,18 +84,6 @@ same_group-numbers paths apart key.Manifests (key.FilesAt j) h k = refl
 same_group-numbers paths apart (key.FilesAt i) key.Changesets h k = refl
 same_group-numbers paths apart (key.FilesAt i) key.Manifests h k = refl
 same_group-numbers paths apart (key.FilesAt i) (key.FilesAt j) h k = its_own paths apart i j h k
-
--- the test of groups decides
-pub same_group-is : (a b : model.Group) → same_group a b ≡ true → a ≡ b
-same_group-is model.Changesets model.Changesets h = refl
-same_group-is model.Changesets model.Manifests h = absurd (true≢false (sym h))
-same_group-is model.Changesets (model.FilesAt path) h = absurd (true≢false (sym h))
-same_group-is model.Manifests model.Changesets h = absurd (true≢false (sym h))
-same_group-is model.Manifests model.Manifests h = refl
-same_group-is model.Manifests (model.FilesAt path) h = absurd (true≢false (sym h))
-same_group-is (model.FilesAt path) model.Changesets h = absurd (true≢false (sym h))
-same_group-is (model.FilesAt path) model.Manifests h = absurd (true≢false (sym h))
-same_group-is (model.FilesAt path) (model.FilesAt other) h = ap model.FilesAt ((bytes_eq-Decides path other).0 h)
 
 number_found : (keys : List (Vec ℕ)) (path : Bytes) (a : KeyGroup) (o : Option ℕ) → position (λ k. bytes_eq path k.items) keys ≡ o → option_map key.FilesAt o ≡ Some a → IsNumberOf (paths_in keys) (model.FilesAt path) a
 number_found keys path a None at h = absurd cc

@@ -1,85 +1,35 @@
 -- Revisions that were added one after another.
 use Rattle.std.proofs.Common.{◌≡◌, ◌++◌, ◌&&◌, ◌||◌, Bool, true, false, true≢false, not, List, [], ◌∷◌, Option, Some, None, refl, sym, ap, subst, ◌∙◌, append_assoc, append-nil}
-use Rattle.std.specs.Prelude.{find, is_some, bytes_eq}
+use Rattle.std.specs.Prelude.{is_some, bytes_eq}
 use Rattle.std.specs.List.{list_any}
 use Rattle.std.proofs.lemmas.Slice.Eq.{bytes_eq-Decides}
-use Rattle.text_model.specs.Lists.{Each}
 use Rattle.text_model.specs.Text.{Bytes}
 use Rattle.text_model.specs.Id.{Id, is_null, node_id}
 use Rattle.text_model.specs.Fault.{FaultName}
 use Rattle.text_model.specs.Fault as fault
 use Rattle.text_model.proofs.TestLemmas.{both}
 use Rattle.text_model.proofs.OrderLemmas.{node_id-either_order}
+use Rattle.hg_model.proofs.RevisionLemmas.{first_name-one, named_if-None, same_group-is}
 use Rattle.hg_model.specs.Revision as model
 use Rattle.hg_model.specs.Revision.{Group, Changesets, Manifests, FilesAt, Revision, is_of, revision_of, knows, same_revision, same_parents, is_otherwise, first_name, named_if, ancestry_fault, shape_fault, text_fault, addition_fault}
 use Rattle.hg_model.specs.FileText.{lacks_second_mark}
 use Rattle.hg_store.specs.Known.{IsAddedTo, AreAddedTo, AreAdded, is_same_as, knows_same}
-use Rattle.hg_store.proofs.KeyLemmas.{same_group-is}
+use Rattle.hg_store.proofs.Found.{found, node_is, shape_is, not_null}
 
 -- ---- the first of some faults
-
-pub first_name-one : (o : Option FaultName) → first_name (o ∷ []) ≡ o
-first_name-one None = refl
-first_name-one (Some n) = refl
-
-two : (a b : Option FaultName) → first_name (a ∷ b ∷ []) ≡ None → (a ≡ None) × (b ≡ None)
-two None None h = (refl, refl)
-two None (Some n) h = absurd cc
-two (Some n) b h = absurd cc
-
-three : (a b c : Option FaultName) → first_name (a ∷ b ∷ c ∷ []) ≡ None → (a ≡ None) × (b ≡ None) × (c ≡ None)
-three None None None h = (refl, refl, refl)
-three None None (Some n) h = absurd cc
-three None (Some n) c h = absurd cc
-three (Some n) b c h = absurd cc
-
-named_if-None : (b : Bool) (n : FaultName) → named_if b n ≡ None → b ≡ false
-named_if-None true n h = absurd cc
-named_if-None false n h = refl
 
 pub addition-text : (known : List Revision) (r : Revision) → ancestry_fault known r ≡ None → addition_fault known r ≡ text_fault known r
 addition-text known r h = rw h (first_name-one (text_fault known r))
 
-pub not_false : (b : Bool) → not b ≡ false → b ≡ true
-not_false true h = refl
-not_false false h = absurd (true≢false h)
-
-or_false : (a b : Bool) → (a || b) ≡ false → (a ≡ false) × (b ≡ false)
-or_false true b h = absurd (true≢false h)
-or_false false b h = (refl, h)
-
 -- ---- what each revision that was added shows
 
-record IsSound (r : Revision) : Type 0 where
+record HasItsText (r : Revision) : Type 0 where
   pub node : r.node ≡ node_id r.p r.q r.text
   pub shape : shape_fault r.group r.text ≡ None
   pub some : is_null r.node ≡ false
 
-sound-one : (known : List Revision) (r : Revision) → addition_fault known r ≡ None → IsSound r
-unfolding text_fault
-sound-one known r h =
-    let parts = three (named_if (not (bytes_eq r.node (node_id r.p r.q r.text))) _) (shape_fault r.group r.text) (named_if (is_null r.node || list_any (is_otherwise r) known) _) (two (ancestry_fault known r) (text_fault known r) h).1 in
-    record {
-      node = (bytes_eq-Decides r.node (node_id r.p r.q r.text)).0 (not_false (bytes_eq r.node (node_id r.p r.q r.text)) (named_if-None (not (bytes_eq r.node (node_id r.p r.q r.text))) _ parts.0));
-      shape = parts.1;
-      some = (or_false (is_null r.node) (list_any (is_otherwise r) known) (named_if-None (is_null r.node || list_any (is_otherwise r) known) _ parts.2)).0;
-    }
-
-sound : (known rs : List Revision) → AreAddedTo known rs → Each IsSound rs
-sound known [] h = tt
-sound known (r ∷ rs) h = (sound-one known r h.0.faultless, sound (known ++ r ∷ []) rs h.1)
-
-some_is : {X : Type 0} {x y : X} → Some x ≡ Some y → x ≡ y
-some_is e = cc
-
--- what is found is one of the list, and passes
-found : (P : Revision → Type 0) (test : Revision → Bool) (rs : List Revision) (h : Revision) → find test rs ≡ Some h → Each P rs → P h × (test h ≡ true)
-found P test [] h at each = absurd cc
-found P test (x ∷ xs) h at each = by (test x) refl (λ e. found P test xs h e each.1)
-  where
-    by : (t : Bool) → test x ≡ t → (find test xs ≡ Some h → P h × (test h ≡ true)) → P h × (test h ≡ true)
-    by true t later = let is : x ≡ h = some_is (sym (rw t refl) ∙ at) in (subst P is each.0, ap test (sym is) ∙ t)
-    by false t later = later (sym (rw t refl) ∙ at)
+its_text : (known : List Revision) (r : Revision) → IsAddedTo known r → HasItsText r
+its_text known r added = record { node = node_is known r added; shape = shape_is known r added; some = not_null known r added }
 
 -- ---- a node stands once
 
@@ -139,7 +89,7 @@ module _ (known : List Revision) (r : Revision) (added : AreAdded known) where
       by None e = refl
       by (Some x) e = ap not e
 
-  same-node : (h : Revision) → r.group ≡ h.group → r.node ≡ h.node → bytes_eq r.text h.text ≡ true → same_parents r.group r.p r.q h.p h.q ≡ true → IsSound h → IsSound r
+  same-node : (h : Revision) → r.group ≡ h.group → r.node ≡ h.node → bytes_eq r.text h.text ≡ true → same_parents r.group r.p r.q h.p h.q ≡ true → HasItsText h → HasItsText r
   same-node h group node text parents s = record {
     node = node ∙ s.node ∙ sym same;
     shape = (λ i. shape_fault (group i) (is_text i)) ∙ s.shape;
@@ -172,7 +122,7 @@ module _ (known : List Revision) (r : Revision) (added : AreAdded known) where
       same : node_id r.p r.q r.text ≡ node_id h.p h.q h.text
       same = by_group r.group parents
 
-  sound_text : IsSound r → list_any (is_otherwise r) known ≡ false → text_fault known r ≡ None
+  sound_text : HasItsText r → list_any (is_otherwise r) known ≡ false → text_fault known r ≡ None
   unfolding text_fault
   sound_text s none = rw ((bytes_eq-Decides r.node (node_id r.p r.q r.text)).1 s.node, s.shape, s.some, none) refl
 
@@ -185,9 +135,8 @@ module _ (known : List Revision) (r : Revision) (added : AreAdded known) where
       by None at e = absurd (true≢false (sym e))
       by (Some x) at e =
           let parts = both (bytes_eq r.text x.text) (same_parents r.group r.p r.q x.p x.q) e in
-          let is = found IsSound (is_of r.group r.node) known x at (sound [] known added) in
-          let of = both (model.same_group r.group x.group) (bytes_eq r.node x.node) is.1 in
-          sound_text (same-node x (same_group-is r.group x.group of.0) ((bytes_eq-Decides r.node x.node).0 of.1) parts.0 parts.1 is.0)
+          let f = found known r.group r.node x added at in
+          sound_text (same-node x (sym f.group_is) (sym f.node_is) parts.0 parts.1 (its_text f.before x f.added))
           (any_is_first [] known r added ∙ ap (is_other_than r) at ∙ ap not e)
 
   -- a revision that isn't known: its node may be that of another
@@ -207,9 +156,8 @@ AreAddedTo-push known (x ∷ xs) r h k = (h.0, AreAddedTo-push (known ++ x ∷ [
 -- the texts of files are those of a body, with metadata or without
 pub shape-of_found : (known : List Revision) (g : Group) (n : Id) (h : Revision) → AreAdded known → revision_of known g n ≡ Some h → shape_fault g h.text ≡ None
 shape-of_found known g n h added at =
-    let is = found IsSound (is_of g n) known h at (sound [] known added) in
-    let of = both (model.same_group g h.group) (bytes_eq n h.node) is.1 in
-    ap (λ (x : Group). shape_fault x h.text) (same_group-is g h.group of.0) ∙ is.0.shape
+    let f = found known g n h added at in
+    ap (λ (x : Group). shape_fault x h.text) (sym f.group_is) ∙ shape_is f.before h f.added
 
 pub file-splits : (known : List Revision) (path : Bytes) (n : Id) (h : Revision) → AreAdded known → revision_of known (FilesAt path) n ≡ Some h → lacks_second_mark h.text ≡ false
 file-splits known path n h added at = named_if-None (lacks_second_mark h.text) fault.FileShape (shape-of_found known (FilesAt path) n h added at)

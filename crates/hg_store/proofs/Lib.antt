@@ -1,6 +1,7 @@
 pub mod EqLemmas
 pub mod ExactLemmas
 pub mod KeyLemmas
+pub mod Found
 pub mod KnownLemmas
 pub mod PathLemmas
 pub mod StoreLemmas

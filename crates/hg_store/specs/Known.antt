@@ -1,5 +1,6 @@
 -- The revisions that a store holds, in the order in which they came.
-use Rattle.std.specs.Prelude.{◌≡◌, ◌≤◌, ◌^◌, ◌&&◌, ℕ, Bool, false, bytes_eq, List, [], ◌∷◌, ◌++◌, length, Option, Some, None, option_map, if◌then◌else◌, IsTrue, ⊤}
+use Rattle.std.specs.Prelude.{◌≡◌, ◌≤◌, ◌&&◌, Bool, false, bytes_eq, List, [], ◌∷◌, ◌++◌, length, Option, Some, None, option_map, if◌then◌else◌, IsTrue, ⊤}
+pub use Rattle.text_model.specs.Limits.{text_limit}
 use Rattle.text_model.specs.Text.{Bytes, IsBytes}
 use Rattle.text_model.specs.Id.{Id, IsId, is_null, blob_id}
 use Rattle.text_model.specs.Path.{is_fit_path}
@@ -30,10 +31,6 @@ knows_same known r = is_same_as r (revision_of known r.group r.node)
 -- what is answered where no fault comes
 abbrev pub answer_of : List Revision → Revision → Added
 answer_of known r = if knows known r.group r.node then Known else New
-
--- the most bytes of a text
-abbrev pub text_limit : ℕ
-text_limit = 2 ^ 26
 
 -- a path is fit
 abbrev pub HasFitPath : Group → Type 0

@@ -1,5 +1,5 @@
--- A changeset with its manifest, lent from a store, and why there is none.
-use Rattle.std.specs.Prelude.{◌≡◌, ℕ, Bool, not, false, List, Option, Some, None, position}
+-- A changeset with its manifest, borrowed from a store, and why there is none.
+use Rattle.std.specs.Prelude.{◌≡◌, ◌⊎◌, ℕ, Bool, not, false, List, Option, Some, None, position}
 use Rattle.text_model.specs.Text.{Bytes}
 use Rattle.text_model.specs.Id.{Id}
 use Rattle.hg_model.specs.Changeset.{Changeset, IsChangesetText}
@@ -47,6 +47,19 @@ pub record LacksManifest (known : List Revision) (node : Id) : Type 0 where
   pub fields : Changeset
   pub changeset : IsChangesetOf known node p q fields
   pub unknown : manifest_text_of known fields.manifest ≡ None
+
+-- the manifest that a known changeset names, by its node
+pub record IsManifestOfChangeset (known : List Revision) (node : Id) (manifest : Id) (entries : List ManifestEntry) : Type 0 where
+  pub p : Id
+  pub q : Id
+  pub fields : Changeset
+  pub changeset : IsChangesetOf known node p q fields
+  pub named : manifest ≡ fields.manifest
+  pub is_manifest : IsManifestOf known manifest entries
+
+-- the changeset or its manifest isn't known
+abbrev pub HasNoManifest : List Revision → Id → Type 0
+HasNoManifest known node = (knows known Changesets node ≡ false) ⊎ LacksManifest known node
 
 -- a manifest of a known changeset whose file revisions aren't all known
 pub record LacksFile (known : List Revision) (node : Id) (line : ℕ) : Type 0 where

@@ -5,7 +5,7 @@ ghost use Rattle.hg_model.specs.Revision.{addition_fault, known_after, ancestry_
 ghost use Rattle.hg_store.specs.Faults.{IsFault};
 ghost use Rattle.hg_store.specs.declared.fault.AddFault.TheVariants.{Memory};
 ghost use Rattle.hg_store.specs.Groups.{group_value, revision_value, HasValue};
-ghost use Rattle.hg_store.specs.Known.{changeset_revision, manifest_revision, file_revision, answer_of, text_limit, HasFitPath, HasBlob, knows_same};
+ghost use Rattle.hg_store.specs.Known.{AreAdded, changeset_revision, manifest_revision, file_revision, answer_of, text_limit, HasFitPath, HasBlob, knows_same};
 
 use crate::addition::Addition;
 use crate::fault::AddFault;
@@ -115,7 +115,6 @@ impl HgStore {
         ensures fault { IfErr result (IsFault (addition_fault self.old (revision_value addition.entry))) }
         ensures err { OnErr result (self.new ≡ self.old) }
     {
-        self.check();
         self.check_ancestry(&addition)?;
         if self.knows_same(&addition) {
             return Ok(Added::Known);
@@ -142,7 +141,6 @@ impl HgStore {
         ensures fault { IfErr result (IsFault (addition_fault self.old (revision_value addition.entry))) }
         ensures err { OnErr result (self.new ≡ self.old) }
     {
-        self.check();
         self.check_ancestry(&addition)?;
         if self.knows_same(&addition) {
             return Ok(Added::Known);
@@ -197,7 +195,8 @@ impl HgStore {
 
     // Whether the node is known with this text and these parents.
     fn knows_same(&self, addition: &Addition<'_>) -> bool
-        ensures { result ≡ knows_same self.now (revision_value addition.now) }
+        ensures value { result ≡ knows_same self.now (revision_value addition.now) }
+        ensures known { AreAdded self.now }
     {
         match self.get(addition.group, &addition.node) {
             Some(held) => addition.is_like(held),
@@ -220,7 +219,8 @@ impl HgStore {
         self.parse_hashed(addition, None)
     }
 
-    // The same where the node is that of parents and text, and perhaps the id of a file's body as a Git blob is known.
+    // What the text says, or the faults that it shows, where the node is that of the parents and the text. The id that a
+    // file's body has as a Git blob may be given.
     #[tactic(auto, unfolding(hg_model::specs::Revision::text_fault))]
     fn parse_hashed(&self, addition: &Addition<'_>, blob: Option<Id>) -> Result<Parsed, AddFault>
         requires other { knows_same self.now (revision_value addition.now) ≡ false }
@@ -231,7 +231,6 @@ impl HgStore {
         ensures value { IfOk result (HasValue (group_value addition.now.group) addition.now.text.items) }
         ensures fault { IfErr result (IsFault (text_fault self.now (revision_value addition.now))) }
     {
-        self.check();
         let parsed = parse(self.alloc(), addition.group, &addition.text, blob)?;
         if self.is_taken(addition) {
             return Err(AddFault::Collision);

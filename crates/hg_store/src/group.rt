@@ -31,10 +31,7 @@ pub fn key_group(paths: &IndexSet<Vec<u8>>, group: Group<'_>) -> Option<KeyGroup
     match group {
         Group::Changesets => Some(KeyGroup::Changesets),
         Group::Manifests => Some(KeyGroup::Manifests),
-        Group::FilesAt(path) => match paths.get_index_of(path) {
-            Some(number) => Some(KeyGroup::FilesAt(number)),
-            None => None,
-        },
+        Group::FilesAt(path) => Some(KeyGroup::FilesAt(paths.get_index_of(path)?)),
     }
 }
 

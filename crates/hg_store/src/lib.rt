@@ -19,6 +19,3 @@ pub use group::Group;
 pub use law::views_exactly;
 pub use store::HgStore;
 pub use view::View;
-
-#[cfg(test)]
-mod tests;

@@ -3,26 +3,27 @@ ghost use Rattle.std.specs.Option.{option_copied};
 ghost use Rattle.hg_model.specs.Revision.{Changesets, Manifests, FilesAt, revision_of, knows};
 ghost use Rattle.hg_model.specs.FileText as file_text;
 ghost use Rattle.hg_store.specs.Groups.{group_value};
-ghost use Rattle.hg_store.specs.Known.{text_of, manifest_text_of, AreFileParents, IsFileBlob};
+ghost use Rattle.hg_store.specs.Known.{AreAdded, text_of, manifest_text_of, AreFileParents, IsFileBlob};
 
 use crate::group::Group;
 use crate::held::{Held, Parsed};
 use crate::store::HgStore;
 use bridge_text::Id;
-use hg_filelog::{has_copy, split};
-use std::cmp::Ordering;
+use hg_filelog::{canonical_pair, file_order, split};
 
 impl HgStore {
     /// The text of a changeset; `None` where the node is unknown.
     pub fn text_of(&self, node: &Id) -> Option<&[u8]>
-        ensures { option_map (λ text. text.now) result ≡ text_of self.now Changesets node.now }
+        ensures value { option_map (λ text. text.now) result ≡ text_of self.now Changesets node.now }
+        ensures known { AreAdded self.now }
     {
         text_in(self.get(Group::Changesets, node))
     }
 
     /// The text of a revision of any group; `None` where the node is unknown, as the null id is.
     pub fn revision_text(&self, group: Group<'_>, node: &Id) -> Option<&[u8]>
-        ensures { option_map (λ text. text.now) result ≡ text_of self.now (group_value group.entry) node.now }
+        ensures value { option_map (λ text. text.now) result ≡ text_of self.now (group_value group.entry) node.now }
+        ensures known { AreAdded self.now }
     {
         text_in(self.get(group, node))
     }
@@ -40,40 +41,37 @@ impl HgStore {
 
     /// The text of a revision of the file at a path; `None` where it is unknown.
     pub fn file_text(&self, path: &[u8], node: &Id) -> Option<&[u8]>
-        ensures { option_map (λ text. text.now) result ≡ text_of self.now (FilesAt path.now) node.now }
+        ensures value { option_map (λ text. text.now) result ≡ text_of self.now (FilesAt path.now) node.now }
+        ensures known { AreAdded self.now }
     {
         text_in(self.get(Group::FilesAt(path), node))
     }
 
     /// The first and the second parent of a changeset; `None` where the node is unknown.
     pub fn parents_of(&self, node: &Id) -> Option<(Id, Id)>
-        ensures { result ≡ option_map (λ r. (r.p, r.q)) (revision_of self.now Changesets node.now) }
+        ensures value { result ≡ option_map (λ r. (r.p, r.q)) (revision_of self.now Changesets node.now) }
+        ensures known { AreAdded self.now }
     {
-        match self.get(Group::Changesets, node) {
-            Some(held) => Some((held.p, held.q)),
-            None => None,
-        }
+        let held = self.get(Group::Changesets, node)?;
+        Some((held.p, held.q))
     }
 
     /// The parents of a manifest, a null one last, else in rising order; `None` where the node is unknown.
     pub fn manifest_parents(&self, node: &Id) -> Option<(Id, Id)>
-        ensures { result ≡ option_map (λ r. file_text.manifest_order r.p r.q) (revision_of self.now Manifests node.now) }
+        ensures value { result ≡ option_map (λ r. file_text.manifest_order r.p r.q) (revision_of self.now Manifests node.now) }
+        ensures known { AreAdded self.now }
     {
-        match self.get(Group::Manifests, node) {
-            Some(held) => Some(manifest_order(held.p, held.q)),
-            None => None,
-        }
+        let held = self.get(Group::Manifests, node)?;
+        Some(canonical_pair(held.p, held.q))
     }
 
     /// The parents of a revision of the file at a path; `None` where it is unknown.
     /// A null one stands first where a line of the metadata begins with `copy: `, else last; two others stand in rising order.
     pub fn file_parents(&self, path: &[u8], node: &Id) -> Option<(Id, Id)>
-        ensures { MatchOption result (knows self.now (FilesAt path.now) node.now ≡ false) (AreFileParents self.now path.now node.now) }
+        ensures value { MatchOption result (knows self.now (FilesAt path.now) node.now ≡ false) (AreFileParents self.now path.now node.now) }
+        ensures known { AreAdded self.now }
     {
-        self.check();
-        let Some(held) = self.get(Group::FilesAt(path), node) else {
-            return None;
-        };
+        let held = self.get(Group::FilesAt(path), node)?;
         match split(held.text.as_slice()) {
             Ok((meta, _)) => Some(file_order(meta, held.p, held.q)),
             Err(_) => None,
@@ -83,11 +81,10 @@ impl HgStore {
     /// The id that the body of a revision of the file at a path has as a Git blob; `None` where the revision is unknown.
     /// It stands in the store, and nothing is hashed.
     pub fn file_blob(&self, path: &[u8], node: &Id) -> Option<Id>
-        ensures { MatchOption result (knows self.now (FilesAt path.now) node.now ≡ false) (IsFileBlob self.now path.now node.now) }
+        ensures value { MatchOption result (knows self.now (FilesAt path.now) node.now ≡ false) (IsFileBlob self.now path.now node.now) }
+        ensures known { AreAdded self.now }
     {
-        let Some(held) = self.get(Group::FilesAt(path), node) else {
-            return None;
-        };
+        let held = self.get(Group::FilesAt(path), node)?;
         match held.parsed {
             Parsed::File(blob) => Some(blob),
             Parsed::Changeset(_) => None,
@@ -100,45 +97,5 @@ impl HgStore {
 fn text_in(held: Option<&Held>) -> Option<&[u8]>
     ensures { option_map (λ text. text.now) result ≡ option_map (λ h. h.text) (option_copied held.entry) }
 {
-    match held {
-        Some(held) => Some(held.text.as_slice()),
-        None => None,
-    }
-}
-
-// Two parents, a null one last, else in rising order.
-fn manifest_order(p: Id, q: Id) -> (Id, Id)
-    ensures { result ≡ file_text.manifest_order p q }
-{
-    if p.is_null() {
-        return (q, p);
-    }
-    if q.is_null() {
-        return (p, q);
-    }
-    match q.cmp(&p) {
-        Ordering::Less => (q, p),
-        Ordering::Equal | Ordering::Greater => (p, q),
-    }
-}
-
-// The same, and a null one first where the metadata name a copy.
-fn file_order(meta: Option<&[u8]>, p: Id, q: Id) -> (Id, Id)
-    ensures { result ≡ file_text.file_order (option_copied meta.entry) p q }
-{
-    let (first, second) = manifest_order(p, q);
-    if names_copy(meta) && (p.is_null() || q.is_null()) {
-        (second, first)
-    } else {
-        (first, second)
-    }
-}
-
-fn names_copy(meta: Option<&[u8]>) -> bool
-    ensures { result ≡ file_text.names_copy (option_copied meta.entry) }
-{
-    match meta {
-        Some(meta) => has_copy(meta),
-        None => false,
-    }
+    Some(held?.text.as_slice())
 }

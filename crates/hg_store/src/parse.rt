@@ -11,8 +11,8 @@ use crate::group::Group;
 use crate::held::Parsed;
 use bridge_text::{Id, Kind, object_id};
 use hg_changeset::{Changeset, ChangesetFault};
-use hg_filelog::{split, splits_exactly};
-use hg_manifest::{Manifest, ManifestFault, reads_exactly};
+use hg_filelog::split;
+use hg_manifest::{Manifest, ManifestFault};
 use std::alloc::Global;
 
 // What a text of a group says. Where the id that a file's body has as a Git blob is given, nothing is hashed.
@@ -51,7 +51,6 @@ fn parse_manifest(alloc: Global, text: &[u8]) -> Result<Parsed, AddFault>
     ensures value { IfOk result (HasValue Manifests text.now) }
     ensures fault { IfErr result (IsFault (shape_fault Manifests text.now)) }
 {
-    reads_exactly();
     match Manifest::read(alloc, text) {
         Ok(manifest) => Ok(Parsed::Manifest(manifest)),
         Err(ManifestFault::Shape(_)) => Err(AddFault::ManifestShape),
@@ -67,7 +66,6 @@ fn blob_of(text: &[u8], known: Option<Id>) -> Result<Id, AddFault>
     ensures blob { IfOk result (HasBlob text.now) }
     ensures fault { IfErr result (IsFault (named_if (lacks_second_mark text.now) name.FileShape)) }
 {
-    splits_exactly();
     match known {
         Some(blob) => Ok(blob),
         None => body_blob(text),

@@ -60,11 +60,10 @@ impl HgStore {
         ensures revision { option_map (held_revision (group_value group.entry) node.now) (option_copied result)
             ≡ revision_of self.now (group_value group.entry) node.now }
         ensures value { IfSome result (λ held. HasValue (group_value group.entry) held.now.text held.now.parsed) }
+        ensures known { AreAdded self.now }
     {
-        match key_group(&self.paths, group) {
-            Some(group) => self.revisions.get(&Key { group, node: *node }),
-            None => None,
-        }
+        let group = key_group(&self.paths, group)?;
+        self.revisions.get(&Key { group, node: *node })
     }
 
     pub(crate) fn knows(&self, group: Group<'_>, node: &Id) -> bool
@@ -75,12 +74,15 @@ impl HgStore {
 
     // The manifest that the null id stands for.
     pub(crate) fn null_manifest(&self) -> &Manifest
-        ensures { result.now ≡ [] }
+        ensures empty { result.now ≡ [] }
+        ensures known { AreAdded self.now }
     {
         &self.null_manifest
     }
 
-    pub(crate) fn alloc(&self) -> Global {
+    pub(crate) fn alloc(&self) -> Global
+        ensures { AreAdded self.now }
+    {
         self.alloc
     }
 

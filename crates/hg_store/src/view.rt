@@ -2,8 +2,8 @@ ghost use Rattle.std.specs.Prelude.{◌≡◌, None, false, option_map, MatchRes
 ghost use Rattle.std.specs.Option.{option_copied};
 ghost use Rattle.hg_model.specs.Revision.{Changesets, knows};
 ghost use Rattle.hg_changeset.specs.Values.{changeset_value};
-ghost use Rattle.hg_store.specs.Known.{manifest_text_of};
-ghost use Rattle.hg_store.specs.Views.{IsView, IsViewFault, IsChangesetOf, IsManifestOf, first_unknown};
+ghost use Rattle.hg_store.specs.Known.{AreAdded, manifest_text_of};
+ghost use Rattle.hg_store.specs.Views.{IsView, IsViewFault, IsChangesetOf, IsManifestOf, IsManifestOfChangeset, HasNoManifest, first_unknown};
 
 use crate::fault::ViewFault;
 use crate::group::Group;
@@ -13,7 +13,7 @@ use bridge_text::Id;
 use hg_changeset::Changeset;
 use hg_manifest::Manifest;
 
-/// A changeset with its manifest, lent from a store.
+/// A changeset with its manifest, borrowed from a store.
 #[derive(Drop)]
 pub struct View<'a> {
     /// The first parent, or the null id.
@@ -28,11 +28,12 @@ pub struct View<'a> {
 }
 
 impl HgStore {
-    /// The changeset of a node with the manifest that it names, lent from the store. ChangesetUnknown comes exactly where no
+    /// The changeset of a node with the manifest that it names, borrowed from the store. ChangesetUnknown comes exactly where no
     /// changeset has the node, ManifestUnknown where its manifest isn't null and unknown, and FileUnknown where a line of this
     /// names a file revision that is unknown, with the first such line.
     pub fn view_of(&self, node: &Id) -> Result<View<'_>, ViewFault>
-        ensures { MatchResult result (IsView self.now node.now) (IsViewFault self.now node.now) }
+        ensures value { MatchResult result (IsView self.now node.now) (IsViewFault self.now node.now) }
+        ensures known { AreAdded self.now }
     {
         let Some((p1, p2, changeset)) = self.changeset(node) else {
             return Err(ViewFault::ChangesetUnknown);
@@ -52,14 +53,13 @@ impl HgStore {
         }
     }
 
-    /// The parents and the fields of a changeset, lent from the store; `None` exactly where the node is unknown.
+    /// The parents and the fields of a changeset, borrowed from the store; `None` exactly where the node is unknown.
     pub fn changeset(&self, node: &Id) -> Option<(Id, Id, &Changeset)>
-        ensures { MatchOption result (knows self.now Changesets node.now ≡ false)
+        ensures value { MatchOption result (knows self.now Changesets node.now ≡ false)
             (λ found. IsChangesetOf self.now node.now found.0 found.1 (changeset_value found.2.now)) }
+        ensures known { AreAdded self.now }
     {
-        let Some(held) = self.get(Group::Changesets, node) else {
-            return None;
-        };
+        let held = self.get(Group::Changesets, node)?;
         match &held.parsed {
             Parsed::Changeset(changeset) => Some((held.p, held.q, changeset)),
             Parsed::Manifest(_) => None,
@@ -67,23 +67,36 @@ impl HgStore {
         }
     }
 
-    /// The manifest of a node, lent from the store: the empty one for the null id; `None` exactly where another node is
+    /// The manifest of a node, borrowed from the store: the empty one for the null id; `None` exactly where another node is
     /// unknown.
     pub fn manifest(&self, node: &Id) -> Option<&Manifest>
-        ensures { MatchOption result (manifest_text_of self.now node.now ≡ None)
+        ensures value { MatchOption result (manifest_text_of self.now node.now ≡ None)
             (λ found. IsManifestOf self.now node.now found.now) }
+        ensures known { AreAdded self.now }
     {
         if node.is_null() {
             return Some(self.null_manifest());
         }
-        let Some(held) = self.get(Group::Manifests, node) else {
-            return None;
-        };
+        let held = self.get(Group::Manifests, node)?;
         match &held.parsed {
             Parsed::Manifest(manifest) => Some(manifest),
             Parsed::Changeset(_) => None,
             Parsed::File(_) => None,
         }
+    }
+
+    /// The manifest that a changeset names, with its node, borrowed from the store: the empty one where that is the null id.
+    /// `None` exactly where the changeset is unknown, or its manifest is. The file revisions are not looked up.
+    pub fn manifest_of_changeset(&self, node: &Id) -> Option<(Id, &Manifest)>
+        ensures value { MatchOption result (HasNoManifest self.now node.now)
+            (λ found. IsManifestOfChangeset self.now node.now found.0 found.1.now) }
+        ensures known { AreAdded self.now }
+    {
+        let Some((_, _, changeset)) = self.changeset(node) else {
+            return None;
+        };
+        let manifest = self.manifest(&changeset.manifest)?;
+        Some((changeset.manifest, manifest))
     }
 
     // The first line of a manifest whose file revision is unknown.

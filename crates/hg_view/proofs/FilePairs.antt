@@ -1,9 +1,9 @@
 -- Each text of a file with both marks or none is that of some metadata and a body.
-use Rattle.std.proofs.Common.{◌≡◌, ℕ, Bool, true, false, true≢false, not, ◌&&◌, ◌||◌, ◌==◌, eqb, List, [], ◌∷◌, ◌++◌, drop, Option, Some, None, refl, sym, ap, subst, ◌∙◌}
-use Rattle.std.specs.List.{starts_with}
+use Rattle.std.proofs.Common.{◌≡◌, ℕ, Bool, true, false, true≢false, ◌&&◌, ◌||◌, eqb, [], ◌∷◌, ◌++◌, drop, Option, Some, None, refl, sym, ap, subst, ◌∙◌}
 use Rattle.text_model.specs.Text.{Bytes, IsBytes, has_piece}
 use Rattle.text_model.proofs.ByteLemmas.{IsBytes-drop, IsBytes-front, IsBytes-rest}
-use Rattle.hg_model.specs.FileText.{mark, begins_with_mark, file_text, IsFile, IsFileText, lacks_second_mark}
+use Rattle.text_model.proofs.Options.{not_false}
+use Rattle.hg_model.specs.FileText.{mark, begins_with_mark, IsFileText, lacks_second_mark}
 use Rattle.hg_filelog.proofs.MarkLemmas.{begins-takes}
 
 -- what stands before the first mark, and behind it
@@ -48,10 +48,6 @@ pub record Parts (text : Bytes) : Type 0 where
   pub meta : Option Bytes
   pub body : Bytes
   pub spells : IsFileText text meta body
-
-not_false : (b : Bool) → not b ≡ false → b ≡ true
-not_false true h = refl
-not_false false h = absurd (true≢false h)
 
 wrapped : (text rest : Bytes) → IsBytes rest → text ≡ mark ++ rest → Cut rest → Parts text
 wrapped text rest fits whole cut =

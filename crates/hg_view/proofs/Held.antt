@@ -1,30 +1,28 @@
 -- What a store lends as a view is a changeset with all that it stands for.
 use Rattle.std.proofs.Common.{◌≡◌, ℕ, suc, ◌+◌, ltb, length, Bool, true, false, true≢false, not, if◌then◌else◌, List, [], ◌∷◌, map, Option, Some, None, refl, sym, ap, subst, ◌∙◌, arith, inl, inr}
 use Rattle.std.proofs.lemmas.Bool.{cases_lt}
-use Rattle.std.specs.Prelude.{position, is_some, bytes_eq}
+use Rattle.std.specs.Prelude.{position, is_some}
 use Rattle.std.specs.List.{prefix_len}
 use Rattle.std.proofs.lemmas.Slice.Eq.{bytes_eq-Decides}
 use Rattle.text_model.specs.Lists.{Each}
 use Rattle.text_model.specs.Text.{Bytes}
 use Rattle.text_model.specs.Id.{Id, null, is_null, node_id}
+use Rattle.text_model.proofs.Options.{none_some, not_false}
+use Rattle.hg_model.proofs.ParentOrder.{file_order-node}
 use Rattle.hg_model.specs.Changeset.{Changeset}
 use Rattle.hg_model.specs.Manifest.{ManifestEntry, IsManifestText}
-use Rattle.hg_model.specs.FileText.{file_text, IsFileText, lacks_second_mark, file_order, manifest_order}
-use Rattle.hg_model.specs.Revision.{Revision, Changesets, Manifests, FilesAt, revision_of, knows}
+use Rattle.hg_model.specs.FileText.{file_order, manifest_order}
+use Rattle.hg_model.specs.Revision.{Revision, Manifests, FilesAt, revision_of, knows}
 use Rattle.hg_model.proofs.ManifestLemmas.{one_manifest, manifest_text-none}
 use Rattle.hg_changeset.specs.Values.{changeset_value}
-use Rattle.hg_store.specs.Known.{AreAdded, manifest_text_of, text_of}
+use Rattle.hg_store.specs.Known.{AreAdded}
 use Rattle.hg_store.specs.declared.view.View.{View}
 use Rattle.hg_store.specs.Views.{IsView, IsManifestOf, is_unknown, first_unknown}
 use Rattle.hg_store.proofs.KnownLemmas.{file-splits}
 use Rattle.view_model.specs.View.{Row, FileRevision, file_node, entry_of_row, ManifestParents, NoManifest, Over, ChangesetView}
-use Rattle.view_model.specs.Held.{IsFileHeld, IsManifestRevision, IsManifestHeld, IsChangesetHeld}
-use Rattle.hg_view.proofs.Canonical.{file_order-node}
-use Rattle.hg_view.proofs.FilePairs.{Parts, some_parts}
-use Rattle.hg_view.proofs.Found.{Found, found, node_is}
-
-none_some : {X : Type 0} {x : X} → None ≡ Some x → ⊥
-none_some e = cc
+use Rattle.view_model.specs.Held.{IsFileHeld, IsManifestHeld, IsChangesetHeld}
+use Rattle.hg_view.proofs.FilePairs.{some_parts}
+use Rattle.hg_store.proofs.Found.{found, node_is}
 
 -- where no element passes, the first doesn't, and none of the others
 if_none : (c : Bool) (n m : ℕ) → (if c then Some n else None) ≡ None → (if c then Some m else None) ≡ None
@@ -56,10 +54,6 @@ none_first test x xs h = by (test x) refl
     by false t =
         let g : (if ltb (1 + before) (suc (length xs)) then Some (1 + before) else None) ≡ None = sym (rw t refl) ∙ h in
         (t, if_none (ltb before (length xs)) (1 + before) before (ap (λ (c : Bool). if c then Some (1 + before) else None) (sym (one_less before (length xs))) ∙ g))
-
-not_false : (b : Bool) → not b ≡ false → b ≡ true
-not_false true h = refl
-not_false false h = absurd (true≢false h)
 
 -- ---- the row of an entry
 

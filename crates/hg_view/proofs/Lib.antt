@@ -1,6 +1,4 @@
-pub mod Canonical
 pub mod FilePairs
-pub mod Found
 pub mod Held
 pub mod Right
 pub mod One

@@ -1,26 +1,33 @@
 -- A node has one held changeset.
-use Rattle.std.proofs.Common.{◌≡◌, Bool, true, false, true≢false, List, [], ◌∷◌, map, Option, Some, None, refl, sym, ap, subst, ◌∙◌}
-use Rattle.std.specs.Prelude.{bytes_eq}
+use Rattle.std.proofs.Common.{◌≡◌, true≢false, List, [], ◌∷◌, map, Option, Some, None, refl, sym, ap, subst, ◌∙◌}
 use Rattle.std.proofs.lemmas.Slice.Eq.{bytes_eq-Decides}
 use Rattle.text_model.specs.Lists.{Each}
-use Rattle.text_model.specs.Text.{Bytes}
-use Rattle.text_model.specs.Id.{Id, null, is_null}
+use Rattle.text_model.specs.Id.{Id, null}
+use Rattle.text_model.proofs.Options.{some_is, none_some}
 use Rattle.hg_model.specs.Changeset.{IsChangesetText}
-use Rattle.hg_model.specs.Manifest.{Flag, ManifestEntry, IsManifestText}
-use Rattle.hg_model.specs.FileText.{IsFileText, file_order, manifest_order}
-use Rattle.hg_model.specs.Revision.{Revision, Changesets, Manifests, FilesAt, revision_of}
+use Rattle.hg_model.specs.Manifest.{ManifestEntry, IsManifestText}
+use Rattle.hg_model.specs.FileText.{file_order, manifest_order}
+use Rattle.hg_model.specs.Revision.{Revision, Manifests, FilesAt, revision_of}
 use Rattle.hg_model.proofs.ChangesetLemmas.{one_changeset}
 use Rattle.hg_model.proofs.ManifestLemmas.{one_manifest}
 use Rattle.hg_filelog.proofs.MarkLemmas.{one_pair}
+use Rattle.view_model.specs.View.{Row, file_node, entry_of_row, ManifestParents, NoManifest, Over, ChangesetView}
+use Rattle.view_model.specs.Held.{IsFileHeld, IsManifestHeld, IsChangesetHeld}
 use Rattle.hg_store.specs.Known.{AreAdded}
-use Rattle.view_model.specs.View.{Row, FileRevision, file_node, entry_of_row, ManifestParents, NoManifest, Over, ChangesetView}
-use Rattle.view_model.specs.Held.{IsFileHeld, IsManifestRevision, IsManifestHeld, IsChangesetHeld}
-use Rattle.hg_view.proofs.Found.{Found, found, not_null}
+use Rattle.hg_store.proofs.Found.{found, not_null}
 
-some_is : {X : Type 0} {x y : X} → Some x ≡ Some y → x ≡ y
-some_is e = cc
+-- no manifest that was added to those before it has the null id
+pub no_null : (known : List Revision) → AreAdded known → revision_of known Manifests null ≡ None
+no_null known added = by (revision_of known Manifests null) refl
+  where
+    by : (o : Option Revision) → revision_of known Manifests null ≡ o → revision_of known Manifests null ≡ None
+    by None e = e
+    by (Some r) e =
+        let of = found known Manifests null r added e in
+        absurd (true≢false (sym ((bytes_eq-Decides r.node null).1 of.node_is) ∙ not_null of.before r of.added))
 
-module _ (known : List Revision) (added : AreAdded known) where
+-- the null id is that of no manifest
+module _ (known : List Revision) (none : revision_of known Manifests null ≡ None) where
   -- ---- rows of one entry
 
   pub one_row : (a b : Row) → entry_of_row a ≡ entry_of_row b → IsFileHeld known a → IsFileHeld known b → a ≡ b
@@ -51,11 +58,8 @@ module _ (known : List Revision) (added : AreAdded known) where
 
   -- ---- manifests of one node
 
-  -- the null id is that of no manifest
   none_null : (node : Id) (r : Revision) → revision_of known Manifests node ≡ Some r → node ≡ null → ⊥
-  none_null node r at e =
-      let of = found known Manifests node r added at in
-      true≢false (sym ((bytes_eq-Decides r.node null).1 (of.node_is ∙ e)) ∙ not_null of.before r of.added)
+  none_null node r at e = none_some (sym none ∙ ap (λ (n : Id). revision_of known Manifests n) (sym e) ∙ at)
 
   record IsOneManifest (m n : ManifestParents) (as' bs : List Row) : Type 0 where
     pub parents : m ≡ n

@@ -1,19 +1,18 @@
 -- A held changeset is a right view: all its ids agree.
-use Rattle.std.proofs.Common.{◌≡◌, Bool, true, false, true≢false, List, [], ◌∷◌, map, Option, Some, None, refl, sym, ap, subst, ◌∙◌}
+use Rattle.std.proofs.Common.{◌≡◌, List, [], ◌∷◌, map, refl, sym, ap, subst, ◌∙◌}
 use Rattle.std.specs.Prelude.{IsTrue}
 use Rattle.text_model.specs.Lists.{Each, rises}
 use Rattle.text_model.specs.Text.{Bytes, IsBytes, is_below}
-use Rattle.text_model.specs.Id.{Id, IsId, null, is_null, node_id}
+use Rattle.text_model.specs.Id.{Id, IsId, node_id}
 use Rattle.text_model.specs.Path.{is_fit_path}
-use Rattle.hg_model.specs.Changeset.{Changeset, IsChangesetText, changeset_text}
-use Rattle.hg_model.specs.Manifest.{ManifestEntry, IsManifest, IsManifestText, manifest_text}
-use Rattle.hg_model.specs.FileText.{file_text, file_order, manifest_order}
-use Rattle.hg_model.specs.Revision.{Revision, Changesets, Manifests, FilesAt, revision_of}
+use Rattle.hg_model.proofs.ParentOrder.{file_order-again, file_order-ids, manifest_order-again, manifest_order-ids, manifest_order-node}
+use Rattle.hg_model.specs.Manifest.{IsManifest}
+use Rattle.hg_model.specs.FileText.{file_order, manifest_order}
+use Rattle.hg_model.specs.Revision.{Revision, Changesets, Manifests, FilesAt}
 use Rattle.hg_store.specs.Known.{AreAdded}
-use Rattle.view_model.specs.View.{Row, file_node, entry_of_row, rows_text, paths_of, IsRevision, ManifestParents, NoManifest, Over, manifest_node, AreManifestParents, ChangesetView, changeset_node, IsChangesetView}
-use Rattle.view_model.specs.Held.{IsFileHeld, IsManifestRevision, IsManifestHeld, IsChangesetHeld}
-use Rattle.hg_view.proofs.Canonical.{manifest_order-again, file_order-again, manifest_order-ids, file_order-ids, manifest_order-node}
-use Rattle.hg_view.proofs.Found.{Found, found, node_is, good_order, first_null, one_parent_twice}
+use Rattle.view_model.specs.View.{Row, file_node, entry_of_row, paths_of, IsRevision, ManifestParents, NoManifest, Over, manifest_node, AreManifestParents, ChangesetView, changeset_node, IsChangesetView}
+use Rattle.view_model.specs.Held.{IsFileHeld, IsManifestHeld, IsChangesetHeld}
+use Rattle.hg_store.proofs.Found.{found, node_is, good_order, first_null, one_parent_twice}
 
 module _ (known : List Revision) (added : AreAdded known) where
   -- ---- files

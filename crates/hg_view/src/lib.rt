@@ -4,6 +4,3 @@
 mod laws;
 
 pub use laws::views_are_held;
-
-#[cfg(test)]
-mod tests;

@@ -14,7 +14,7 @@ returns-in-Ok c =
     let known = c.args.store.now in
     let hs = c.requires in
     let node = (c.args.arrival.now).node in
-    let one = c.views_are_held.ensures.held c.in-Ok.field-0 c.in-Ok.ensures in
+    let one = c.views_are_held.ensures.held c.in-Ok.field-0 c.in-Ok.ensures.value in
     on_ok c.push.result c.push.ensures.ok (λ is. (
       hs.0 ++ one.0 ∷ [],
       subst (λ (l : List Id). AreChangesetsHeld known l (hs.0 ++ one.0 ∷ [])) (sym is) (held-push known c.args.order.now hs.0 node one.0 hs.1 one.1),

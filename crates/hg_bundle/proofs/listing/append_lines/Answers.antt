@@ -33,17 +33,17 @@ returns-in_err-next-2-clause-lists g c =
     rw (p.1, p.2)
     (step_told _ _ _ _ _ _ (place_value c.in-Some.place) c.next.new.into.items c.in_err-next-2.field-0.0 so_far c.in_ok-next.ensures.bytes
     (rw c.most.ensures at c.in_ok-next.ensures.judged) (is_small (place_value c.in-Some.place) _ (rw c.most.ensures at c.in_ok-next.ensures.field))
-    (rw (c.deref-in-Some.ensures.value, c.offset-at.ensures.value) at c.in_err-next-2.ensures.fault))
+    (rw (c.deref.ensures.value, c.offset-at.ensures.value) at c.in_err-next-2.ensures.fault))
 
 pub chunks-preserved : goal.chunks-preserved
 chunks-preserved g c =
     let so_far = rw c.in-Some.is at c.chunks.invariant.progress in record {
       progress =
-          rw (c.in_ok-next-2.ensures.next, c.in_ok-next.ensures.offset, c.deref-in-Some.ensures.value)
+          rw (c.in_ok-next-2.ensures.next, c.in_ok-next.ensures.offset, c.deref.ensures.value)
           (progress_goes_on _ _ _ _ _ _ _ (place_value c.in-Some.place) c.next.new.into.items so_far c.in_ok-next.ensures.bytes
           (rw c.most.ensures at c.in_ok-next.ensures.judged) (is_small (place_value c.in-Some.place) _ (rw c.most.ensures at c.in_ok-next.ensures.field))
-          (rw c.deref-in-Some.ensures.value at c.in_ok-next-2.ensures.long) (rw c.deref-in-Some.ensures.value at c.in_ok-next-2.ensures.line));
-      bytes = read_goes_on _ _ _ c.next.new.into.items c.chunks.invariant.bytes c.in_ok-next.ensures.bytes (rw c.deref.ensures.value at c.each_is_byte.ensures);
+          (rw c.deref.ensures.value at c.in_ok-next-2.ensures.long) (rw c.deref.ensures.value at c.in_ok-next-2.ensures.line));
+      bytes = read_goes_on _ _ _ c.next.new.into.items c.chunks.invariant.bytes c.in_ok-next.ensures.bytes (rw c.deref.ensures.value at c.in_ok-next-2.ensures.bytes);
       front = front_of_front _ _ _ c.in_ok-next-2.ensures.front c.chunks.invariant.front;
       kept = c.in_ok-next.ensures.cause ∙ c.chunks.invariant.kept;
     }

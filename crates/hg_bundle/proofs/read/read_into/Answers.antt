@@ -38,18 +38,18 @@ returns-in_err-next-2-clause-reads g c =
     rw (p.1, p.2)
     (step_told _ _ _ _ _ _ (place_value c.in-Some.place) c.next.new.into.items c.in_err-next-2.field-0.0 so_far c.in_ok-next.ensures.bytes
     (rw c.most.ensures at c.in_ok-next.ensures.judged) (is_small (place_value c.in-Some.place) _ (rw c.most.ensures at c.in_ok-next.ensures.field))
-    (rw (c.deref-in-Some.ensures.value, c.offset-at.ensures.value) at c.in_err-next-2.ensures.fault))
+    (rw (c.deref.ensures.value, c.offset-at.ensures.value) at c.in_err-next-2.ensures.fault))
 
 pub chunks-preserved : goal.chunks-preserved
 chunks-preserved g c =
     let so_far = rw c.in-Some.is at c.chunks.invariant.reading in record {
       reading =
-          rw (c.in_ok-next-2.ensures.next, c.in_ok-next.ensures.offset, c.deref-in-Some.ensures.value)
+          rw (c.in_ok-next-2.ensures.next, c.in_ok-next.ensures.offset, c.deref.ensures.value)
           (reading_goes_on _ _ _ _ _ _ _ (place_value c.in-Some.place) c.next.new.into.items so_far c.in_ok-next.ensures.bytes
           (rw c.most.ensures at c.in_ok-next.ensures.judged) (is_small (place_value c.in-Some.place) _ (rw c.most.ensures at c.in_ok-next.ensures.field))
-          (rw (c.deref-in-Some.ensures.value, c.offset-at.ensures.value) at c.in_ok-next-2.ensures.steps));
+          (rw (c.deref.ensures.value, c.offset-at.ensures.value) at c.in_ok-next-2.ensures.steps));
       grown = steps-grown _ _ _ _ _ _ c.chunks.invariant.grown c.in_ok-next-2.ensures.steps;
-      bytes = read_goes_on _ _ _ c.next.new.into.items c.chunks.invariant.bytes c.in_ok-next.ensures.bytes (rw c.deref.ensures.value at c.each_is_byte.ensures);
+      bytes = read_goes_on _ _ _ c.next.new.into.items c.chunks.invariant.bytes c.in_ok-next.ensures.bytes (rw c.deref.ensures.value at c.in_ok-next-2.ensures.bytes);
       fit = c.in_ok-next-2.ensures.fit;
       last = c.in_ok-next-2.ensures.last;
       sum = c.in_ok-next-2.ensures.sum;

@@ -1,5 +1,4 @@
-use Rattle.std.proofs.Common.{refl, sym, ◌∙◌}
-use Rattle.hg_changeset.specs.Values.{changeset_value}
+use Rattle.std.proofs.Common.{refl}
 use Rattle.hg_changeset.proofs.HeadLemmas.{whole_read}
 use Rattle.hg_changeset.proofs.changeset.read_behind.Goals as goal
 

@@ -1,4 +1,4 @@
-use Rattle.std.proofs.Common.{◌≡◌, ◌∷◌, ◌++◌, take}
+use Rattle.std.proofs.Common.{◌≡◌, ◌++◌, take}
 use Rattle.std.specs.List.{flat_map}
 use Rattle.hg_model.specs.Changeset.{extra_byte}
 use Rattle.hg_changeset.proofs.escape.put_escaped.Given as goal

@@ -1,4 +1,4 @@
-use Rattle.std.proofs.Common.{sym, ◌∙◌}
+use Rattle.std.proofs.Common.{sym}
 use Rattle.hg_changeset.proofs.EscapeLemmas.{first_byte-takes, spelled-start, spelled-more, spelled-bad, spelled-all}
 use Rattle.hg_changeset.proofs.escape.unescaped.Goals as goal
 

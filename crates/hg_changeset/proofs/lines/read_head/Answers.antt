@@ -1,4 +1,4 @@
-use Rattle.std.proofs.Common.{sym, arith}
+use Rattle.std.proofs.Common.{arith}
 use Rattle.hg_changeset.proofs.HeadLemmas.{files-shorter, no_user, empty_user, no_date, head}
 use Rattle.hg_changeset.proofs.lines.read_head.Goals as goal
 

@@ -1,10 +1,11 @@
-use Rattle.std.proofs.Common.{List, ◌∷◌, ◌++◌, [], ap, ◌∙◌, arith}
+use Rattle.std.proofs.Common.{◌∷◌, ◌++◌, [], ap, ◌∙◌, arith}
 use Rattle.text_model.specs.Text.{Bytes}
+use Rattle.text_model.proofs.ByteLemmas.{IsBytes-by_index}
 use Rattle.hg_changeset.proofs.HeadLemmas.{files-start, files-shorter, files-more, files-all, files-none}
 use Rattle.hg_changeset.proofs.lines.take_files.Goals as goal
 
 pub files-init : goal.files-init
-files-init c = files-start c.args.text.now c.args.files.now c.each_is_byte.ensures
+files-init c = files-start c.args.text.now c.args.files.now (IsBytes-by_index c.args.text.now (λ i. omega (arith, c.type_inv.text i)))
 
 pub files-smaller : goal.files-smaller
 files-smaller c = files-shorter c.files.rest.now c.in-Some.file.now c.in-Some.after.now c.in-Some.ensures

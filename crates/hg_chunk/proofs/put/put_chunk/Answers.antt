@@ -1,4 +1,4 @@
-use Rattle.std.proofs.Common.{◌≡◌, ◌+◌, sym, length, rules, append_assoc}
+use Rattle.std.proofs.Common.{◌+◌, sym, length, rules, append_assoc}
 use Rattle.hg_model.proofs.ChunkLemmas.{chunk_of_field, field_of-length}
 use Rattle.hg_chunk.proofs.put.put_chunk.Goals as goal
 

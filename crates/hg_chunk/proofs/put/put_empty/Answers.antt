@@ -1,4 +1,4 @@
-use Rattle.std.proofs.Common.{refl, [], rules}
+use Rattle.std.proofs.Common.{refl, []}
 use Rattle.hg_model.proofs.ChunkLemmas.{chunk_of_field}
 use Rattle.hg_chunk.proofs.put.put_empty.Goals as goal
 

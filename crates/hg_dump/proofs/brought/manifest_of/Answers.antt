@@ -1,11 +1,19 @@
-use Rattle.hg_changeset.specs.Values.{changeset_value}
-use Rattle.hg_dump.proofs.HeldLemmas.{held-marks, held-has_manifest}
+use Rattle.std.proofs.Common.{sym, ap, subst, ◌∙◌}
+use Rattle.text_model.specs.Id.{Id}
+use Rattle.hg_store.specs.Views.{IsManifestOf}
+use Rattle.hg_dump.specs.Marks.{view_marks}
+use Rattle.hg_dump.proofs.HeldLemmas.{held-marks, held-names_manifest}
 use Rattle.hg_dump.proofs.brought.manifest_of.Goals as goal
 
-pub unreachable-requires-in-None : goal.unreachable-requires-in-None
-unreachable-requires-in-None c =
-    held-has_manifest c.args.store.now c.check.ensures c.args.node.now c.requires.held.0 c.requires.held.1 c.in-Some.field-0-0 c.in-Some.field-0-1 (changeset_value c.in-Some.changeset.now) c.in-Some.ensures c.in-None.ensures
+pub unreachable-requires : goal.unreachable-requires
+unreachable-requires c =
+    held-names_manifest c.args.store.now c.in-None.ensures.known c.args.node.now c.requires.held.0 c.requires.held.1 c.in-None.ensures.value
 
 pub returns : goal.returns
 returns c = λ h held.
-    held-marks c.args.store.now c.check.ensures c.args.node.now h held c.in-Some.field-0-0 c.in-Some.field-0-1 (changeset_value c.in-Some.changeset.now) c.in-Some-manifest.manifest.now c.in-Some.ensures c.in-Some-manifest.ensures
+    let known = c.args.store.now in
+    let node = c.args.node.now in
+    let es = c.in-Some.found.1.now in
+    let is = c.in-Some.ensures.value in
+    held-marks known c.in-Some.ensures.known node h held is.p is.q is.fields es is.changeset (subst (λ (n : Id). IsManifestOf known n es) is.named is.is_manifest)
+    ∙ ap (λ (n : Id). view_marks node n es) (sym is.named)

@@ -23,7 +23,7 @@ returns-then-is_null c = λ rs are.
 
 pub overflow_cast-result : goal.overflow_cast-result
 overflow_cast-result c =
-    omega (arith, text-short c.args.store.now (group_value c.args.group) c.parents-p.result.0 c.in-Some-revision_text.text.now c.check.ensures (sym c.in-Some-revision_text.ensures))
+    omega (arith, text-short c.args.store.now (group_value c.args.group) c.parents-p.result.0 c.in-Some-revision_text.text.now c.in-Some-revision_text.ensures.known (sym c.in-Some-revision_text.ensures.value))
 
 pub returns-in-Some-revision_text : goal.returns-in-Some-revision_text
 returns-in-Some-revision_text c = λ rs are.
@@ -33,7 +33,7 @@ returns-in-Some-revision_text c = λ rs are.
     let pair = c.parents-p.result in
     let o = of-at known group c.args.references.now rs are 0 reference (sym c.in-Some.ensures.value) in
     sym (base-of_first known group reference rs o pair.0 pair.1 c.parents-p.ensures
-    ∙ base-text known group pair.0 c.in-Some-revision_text.text.now (sym c.is_null.ensures ∙ c.if-is_null.false) (sym c.in-Some-revision_text.ensures))
+    ∙ base-text known group pair.0 c.in-Some-revision_text.text.now (sym c.is_null.ensures ∙ c.if-is_null.false) (sym c.in-Some-revision_text.ensures.value))
 
 pub returns-in-None : goal.returns-in-None
 returns-in-None c = λ rs are.
@@ -43,4 +43,4 @@ returns-in-None c = λ rs are.
     let pair = c.parents-p.result in
     let o = of-at known group c.args.references.now rs are 0 reference (sym c.in-Some.ensures.value) in
     sym (base-of_first known group reference rs o pair.0 pair.1 c.parents-p.ensures
-    ∙ base-unknown known group pair.0 (sym c.is_null.ensures ∙ c.if-is_null.false) (sym c.in-None.ensures))
+    ∙ base-unknown known group pair.0 (sym c.is_null.ensures ∙ c.if-is_null.false) (sym c.in-None.ensures.value))

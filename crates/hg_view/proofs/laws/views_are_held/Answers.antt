@@ -1,6 +1,6 @@
 use Rattle.hg_view.proofs.Held.{view-is_held}
 use Rattle.hg_view.proofs.Right.{held-is_view, held-node}
-use Rattle.hg_view.proofs.One.{one_held}
+use Rattle.hg_view.proofs.One.{no_null, one_held}
 use Rattle.hg_view.proofs.laws.views_are_held.Goals as goal
 
 pub returns-clause-held : goal.returns-clause-held
@@ -13,4 +13,4 @@ pub returns-clause-node : goal.returns-clause-node
 returns-clause-node c = held-node c.args.store.now c.check.ensures c.args.node.now
 
 pub returns-clause-one : goal.returns-clause-one
-returns-clause-one c = one_held c.args.store.now c.check.ensures c.args.node.now
+returns-clause-one c = one_held c.args.store.now (no_null c.args.store.now c.check.ensures) c.args.node.now

@@ -9,7 +9,7 @@ use Rattle.hg_bundle.proofs.gather.Gathered.add.Goals as goal
 
 pub returns-in-Err-clause-fault : goal.returns-in-Err-clause-fault
 returns-in-Err-clause-fault c =
-    rw c.addition_fault.ensures
+    rw c.addition_fault.ensures.value
     (refused_addition c.args.self.now.store c.args.self.now.sum (group_value c.args.group.now) c.args.self.now.last c.args.at (entry_value c.args.entry.now)
     c.in_ok-text.text.items (revision_value c.with_text.result) c.in-Err.fault c.in_ok-text.ensures.text c.with_text.ensures c.in-Err.ensures.fault)
 

@@ -1,7 +1,6 @@
-use Rattle.std.proofs.Common.{◌≡◌, ◌≤◌, arith, take, length, Option}
+use Rattle.std.proofs.Common.{◌≡◌, arith, take, length, Option}
 use Rattle.std.proofs.lemmas.Result.{err_from_is_err_and}
 use Rattle.std.proofs.lemmas.List.{take_all}
-use Rattle.std.specs.Io.KnownBytes.{Consumes}
 use Rattle.text_model.specs.Fault.{Refusal}
 use Rattle.hg_chunk.specs.Faults.{IsFault}
 use Rattle.hg_chunk.proofs.FaultLemmas.{told_of_magic}

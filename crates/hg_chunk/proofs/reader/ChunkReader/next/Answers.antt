@@ -1,4 +1,4 @@
-use Rattle.std.proofs.Common.{◌≡◌, ◌+◌, ◌-◌, ◌++◌, [], List, ℕ, arith, length, refl}
+use Rattle.std.proofs.Common.{[], arith, refl}
 use Rattle.std.proofs.KnownBytes.{Consumes-trans}
 use Rattle.hg_model.proofs.ChunkLemmas.{chunk_of_field, field_of-length}
 use Rattle.hg_chunk.proofs.reader.ChunkReader.next.Goals as goal

@@ -5,5 +5,5 @@ use Rattle.hg_store.proofs.store.HgStore.file_parents.Goals as goal
 
 pub returns-in-Err : goal.returns-in-Err
 returns-in-Err c =
-    let splits = file-splits c.args.self.now c.args.path.now c.args.node.now _ c.check.ensures (sym c.in-Some.ensures.revision) in
+    let splits = file-splits c.args.self.now c.args.path.now c.args.node.now _ c.get.ensures.known (sym c.in_ok-held.ensures.revision) in
     absurd (true≢false (c.in-Err.ensures.fault ∙ ap lacks_second_mark c.as_slice.ensures ∙ splits))

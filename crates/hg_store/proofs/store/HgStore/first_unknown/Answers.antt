@@ -13,7 +13,7 @@ returns-then-not-knows c =
     let e = manifest_entry c.at-entry.result.now in
     let is : c.knows.result ≡ knows known (FilesAt e.path) e.node = c.knows.ensures ∙ ap (λ (p : Bytes). knows known (FilesAt p) e.node) c.as_slice.ensures in
     let test : is_unknown known e ≡ true = ap not (sym is ∙ c.if-not-knows.true) in
-    sym (position-first (is_unknown known) c.args.manifest.now c.loop-line.line e (omega (arith, c.loop-line-test.true, c.len-line-end.ensures))
+    sym (position-first (is_unknown known) c.args.manifest.now c.loop-line.line e (omega (arith, c.loop-line-test.true, c.len-line-end.ensures.len))
     (ap (is_unknown known) (get_or_from_slice_get c.args.manifest.now c.loop-line.line e e c.at-entry.ensures) ∙ test) (λ k. c.loop-line.invariant k e))
 
 pub loop-line-preserved : goal.loop-line-preserved
@@ -27,4 +27,4 @@ loop-line-preserved c =
 pub returns : goal.returns
 returns c =
     sym (position-none (is_unknown c.args.self.now) c.args.manifest.now
-    (λ k d within. c.loop-line.invariant k d (omega (arith, within, c.loop-line-test.false, c.len-line-end.ensures))))
+    (λ k d within. c.loop-line.invariant k d (omega (arith, within, c.loop-line-test.false, c.len-line-end.ensures.len))))
