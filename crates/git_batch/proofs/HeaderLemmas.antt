@@ -7,6 +7,7 @@ use Rattle.text_model.specs.Cuts.{cut_of}
 use Rattle.text_model.specs.Id.{Id, hex, id_of_hex, ObjectKind, kind_word}
 use Rattle.text_model.specs.Fault.{Refusal, refusal, refusal_at}
 use Rattle.text_model.specs.Fault as fault
+use Rattle.text_model.proofs.Options.{some_is}
 use Rattle.text_model.proofs.HexLemmas.{id_of_hex-takes}
 use Rattle.text_model.proofs.DecimalLemmas.{decimal_below-takes, number_of-decimal}
 use Rattle.git_model.specs.Stream.{Header, BadLine, header_of, header_by, is_kind_word, kind_of, size_limit}
@@ -40,16 +41,13 @@ all_words text first rest second third e f g =
     ∙ ap (λ (l : List Bytes). first ∷ l) (words-cut rest second third (sym f))
     ∙ ap (λ (l : List Bytes). first ∷ second ∷ l) (words-last third (sym g))))
 
-some_is : (x y : Bytes × Bytes × Bytes) → Some x ≡ Some y → x ≡ y
-some_is x y h = cc
-
 -- the three words that a line has
 pub words_are : (parts : List Bytes) (first second third : Bytes) → Some (first, second, third) ≡ three_words parts → parts ≡ first ∷ second ∷ third ∷ []
 words_are [] first second third e = absurd cc
 words_are (a ∷ []) first second third e = absurd cc
 words_are (a ∷ b ∷ []) first second third e = absurd cc
 words_are (a ∷ b ∷ d ∷ []) first second third e =
-    ap (λ (w : Bytes × Bytes × Bytes). w.0 ∷ w.1 ∷ w.2 ∷ []) (sym (some_is (first, second, third) (a, b, d) e))
+    ap (λ (w : Bytes × Bytes × Bytes). w.0 ∷ w.1 ∷ w.2 ∷ []) (sym (some_is {x = (first, second, third)} {y = (a, b, d)} e))
 words_are (a ∷ b ∷ d ∷ f ∷ parts) first second third e = absurd cc
 
 -- the line is its words

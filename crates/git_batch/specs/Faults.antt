@@ -1,10 +1,35 @@
 -- Which refusal a fault of the reader is, and what it says of the source.
-use Rattle.std.specs.Prelude.{◌≡◌, ℕ, Option, None, Some, Result, MatchResult, ⊤}
-use Rattle.text_model.specs.Fault.{Refusal, refusal, refusal_at, input_limit}
+use Rattle.std.specs.Prelude.{◌≡◌, ℕ, Option, None, Some, Result, MatchResult, ⊤, codes}
+use Rattle.text_model.specs.Text.{Bytes}
+use Rattle.text_model.specs.Fault.{Refusal, refusal, refusal_at, input_limit, fault_word}
 use Rattle.text_model.specs.Fault as fault
 use Rattle.bridge_io.specs.Causes.{Rose}
+use Rattle.bridge_io.specs.declared.filling.FillFault.{FillFault}
+use Rattle.bridge_io.specs.declared.filling.FillFault.TheVariants as fill
 use Rattle.git_batch.specs.declared.fault.BatchFault.{BatchFault}
 use Rattle.git_batch.specs.declared.fault.BatchFault.TheVariants.{Read, Line, Missing, KindUnknown, Limit, Truncated, InputLimit, IdWrong, Memory}
+
+-- the word of a fault: that of the refusal, or the name of the variant where the bytes aren't refused
+abbrev pub name_of : BatchFault → Bytes
+name_of Read = codes "Read"
+name_of (Line place) = fault_word fault.Line
+name_of (Missing place) = fault_word fault.Missing
+name_of (KindUnknown id place) = fault_word fault.KindUnknown
+name_of (Limit place) = fault_word fault.Limit
+name_of (Truncated place) = fault_word fault.Truncated
+name_of InputLimit = fault_word fault.InputLimit
+name_of (IdWrong id place) = fault_word fault.IdWrong
+name_of Memory = codes "Memory"
+
+-- a fault of the framing: any but that of an id, which only a reader that compares ids with contents finds
+abbrev pub IsFraming : BatchFault → Type 0
+IsFraming (IdWrong id place) = ⊥
+IsFraming fault = ⊤
+
+-- the fault of a buffer that isn't filled
+abbrev pub fault_of_fill : FillFault → BatchFault
+fault_of_fill fill.Read = Read
+fault_of_fill fill.Memory = Memory
 
 -- The fault is what the bytes are refused for. What the source and the memory do isn't told by the bytes.
 abbrev pub IsFault : Option Refusal → BatchFault → Type 0

@@ -3,3 +3,6 @@ pub mod Header
 pub mod Item
 pub mod Line
 pub mod Listing
+pub mod Arrivals
+pub mod StreamFaults
+pub mod Steps

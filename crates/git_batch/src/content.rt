@@ -1,14 +1,13 @@
 // The content of an object and the LF behind it.
-ghost use Rattle.std.specs.Prelude.{◌≡◌, ◌+◌, ◌≤◌, ◌^◌, [], length, OnOk, IfSome};
+ghost use Rattle.std.specs.Prelude.{◌≡◌, ◌+◌, ◌≤◌, ◌^◌, [], length, OnOk, IfErr, IfSome};
 ghost use Rattle.std.specs.Io.KnownBytes.{Consumes};
 ghost use Rattle.text_model.specs.Text.{line};
 ghost use Rattle.git_model.specs.Stream.{body_fault};
-ghost use Rattle.git_batch.specs.Faults.{AnswerCause, Judges};
+ghost use Rattle.git_batch.specs.Faults.{AnswerCause, IsFraming, Judges};
 
 use crate::BatchFault;
-use crate::fill::fill_vec;
 use crate::input::{input_ends, within_limit};
-use bridge_io::Source;
+use bridge_io::{Source, fill_vec};
 
 /// Reads the content at an offset, and the LF behind it, and puts the content into an empty vector.
 #[tactic(auto, unfolding(git_model::specs::Stream::body_fault))]
@@ -25,6 +24,7 @@ pub fn read_content<S: Source>(
     ensures len { OnOk result (length into.new.items ≡ size) }
     ensures fits { OnOk result (at + size + 1 ≤ 2 ^ 29) }
     ensures judged { IfSome (S.left src.old) (λ bytes. Judges (body_fault at size bytes) result) }
+    ensures names { IfErr result IsFraming }
     ensures cause { AnswerCause (S.faults src.old) (S.faults src.new) result }
 {
     fill_vec(src, into, size + 1)?;

@@ -1,8 +1,10 @@
+// Why no object was read.
 ghost use Rattle.std.specs.Prelude.{◌≡◌};
+ghost use Rattle.git_batch.specs.Faults.{fault_of_fill, name_of};
 ghost use Rattle.git_batch.specs.declared.fault.BatchFault.TheVariants.{Read, Memory};
 
-use bridge_io::Failed;
-use bridge_text::{Id, NoMemory};
+use bridge_io::{Failed, FillFault};
+use bridge_text::{Fault, Id, NoMemory};
 use thiserror::Error;
 
 /// Why no object was read. Each number is an offset in the input.
@@ -38,11 +40,42 @@ pub enum BatchFault {
     Memory,
 }
 
+impl BatchFault {
+    /// The word that is printed: the variant's name.
+    #[tactic(auto, unfolding(text_model::specs::Fault::fault_word))]
+    pub fn name(&self) -> &'static [u8]
+        ensures { result.now ≡ name_of self.now }
+    {
+        match self {
+            BatchFault::Read => b"Read",
+            BatchFault::Line(_) => Fault::Line.name(),
+            BatchFault::Missing(_) => Fault::Missing.name(),
+            BatchFault::KindUnknown(_, _) => Fault::KindUnknown.name(),
+            BatchFault::Limit(_) => Fault::Limit.name(),
+            BatchFault::Truncated(_) => Fault::Truncated.name(),
+            BatchFault::InputLimit => Fault::InputLimit.name(),
+            BatchFault::IdWrong(_, _) => Fault::IdWrong.name(),
+            BatchFault::Memory => b"Memory",
+        }
+    }
+}
+
 impl From<Failed> for BatchFault {
     ghost from_gives = { λ _ e. e ≡ Read };
 
     fn from(_: Failed) -> BatchFault {
         BatchFault::Read
+    }
+}
+
+impl From<FillFault> for BatchFault {
+    ghost from_gives = { λ fault e. e ≡ fault_of_fill fault };
+
+    fn from(fault: FillFault) -> BatchFault {
+        match fault {
+            FillFault::Read => BatchFault::Read,
+            FillFault::Memory => BatchFault::Memory,
+        }
     }
 }
 

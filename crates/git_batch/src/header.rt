@@ -1,15 +1,15 @@
 // What the line of an object says.
-ghost use Rattle.std.specs.Prelude.{◌≡◌, ◌&&◌, ◌==◌, ◌≤◌, ℕ, nat_le, IfOk, option_map};
+ghost use Rattle.std.specs.Prelude.{◌≡◌, ◌&&◌, ◌==◌, ◌≤◌, ℕ, nat_le, IfOk, IfErr, option_map};
 ghost use Rattle.std.specs.List.{list_all, slice_split};
 ghost use Rattle.text_model.specs.Text.{sp, is_digit, is_decimal};
 ghost use Rattle.git_model.specs.Stream.{is_kind_word, kind_of, size_limit};
 ghost use Rattle.git_model.specs.Stream as stream;
 ghost use Rattle.bridge_text.specs.Kinds.{object_kind};
-ghost use Rattle.git_batch.specs.Faults.{AnswerCause};
+ghost use Rattle.git_batch.specs.Faults.{AnswerCause, IsFraming};
 ghost use Rattle.git_batch.specs.Header.{ReadsHeader, header_text, three_words};
 
 use crate::BatchFault;
-use bridge_text::{Id, Kind, cut_at, decimal_of};
+use bridge_text::{COMMIT_LIMIT, Id, Kind, TEXT_LIMIT, cut_at, decimal_of};
 
 /// The line of an object.
 #[derive(Clone, Copy, Debug, PartialEq, Eq)]
@@ -28,6 +28,7 @@ pub fn header_of(at: u64, text: &[u8]) -> Result<Header, BatchFault>
     ensures reads { ReadsHeader (stream.header_of at (slice_split (λ b. b == sp) text.now)) result }
     ensures text { IfOk result (λ header. text.now ≡ header_text header) }
     ensures limit { IfOk result (λ header. header.size ≤ size_limit (object_kind header.kind)) }
+    ensures names { IfErr result IsFraming }
     ensures cause { (faults : ℕ) → AnswerCause faults faults result }
 {
     let Some((digits, word, size)) = words_of(text) else {
@@ -84,8 +85,8 @@ fn size_limit(kind: Kind) -> u64
     ensures { result ≡ size_limit (object_kind kind) }
 {
     match kind {
-        Kind::Commit => 1 << 24,
-        Kind::Blob | Kind::Tree | Kind::Tag => 1 << 26,
+        Kind::Commit => COMMIT_LIMIT as u64,
+        Kind::Blob | Kind::Tree | Kind::Tag => TEXT_LIMIT as u64,
     }
 }
 

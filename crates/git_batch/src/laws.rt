@@ -1,10 +1,12 @@
 //! Laws of what this crate reads and writes.
-ghost use Rattle.std.specs.Prelude.{◌≡◌, ◌+◌, ◌≤◌, ℕ, List, ◌++◌, length, map, None};
+ghost use Rattle.std.specs.Prelude.{◌≡◌, ◌+◌, ◌≤◌, ℕ, List, ◌++◌, length, map, None, Ok};
 ghost use Rattle.text_model.specs.Lists.{Each};
 ghost use Rattle.text_model.specs.Text.{Bytes};
+ghost use Rattle.text_model.specs.Id.{ObjectKind};
 ghost use Rattle.text_model.specs.Fault.{input_limit};
 ghost use Rattle.git_model.specs.Object.{Object};
-ghost use Rattle.git_model.specs.Stream.{IsFit, IsFitStream, Found, object_text, object_reading, ReadsAll, stream_text, stream_framing};
+ghost use Rattle.git_model.specs.Stream.{IsFit, IsFitStream, IsChecked, Found, Placed, object_text, object_reading, ReadsAll, stream_text, stream_framing, stream_reading, count_of_kind};
+ghost use Rattle.git_batch.specs.Arrivals.{arrival_of, count_of, AddsAll, BringsAll};
 
 /// What is written of an object within its limit is read as this object, wherever it stands in an input within its
 /// limit, and what is read as an object is what is written of it. So an input is read whole exactly where it is a
@@ -18,4 +20,14 @@ pub fn stream_laws()
         → ReadsAll (stream_framing (stream_text objects)) objects }
     ensures whole { (bytes : Bytes) → (stream_framing bytes).bad ≡ None
         → IsFitStream bytes (map (λ p. p.object) (stream_framing bytes).objects) }
+{}
+
+/// A stream within the limits is read whole exactly where each of its objects has the id of its kind and content, and
+/// none is refused behind those before it. The arrivals count as the objects do. This function does nothing when it runs.
+pub fn stream_reading_laws()
+    ensures all { (known objects : List Object) → Each IsFit objects → length (stream_text objects) ≤ input_limit
+        → IsChecked objects → AddsAll known objects → BringsAll known (stream_text objects) objects }
+    ensures only { (known : List Object) (bytes : Bytes) (placed : List Placed) → stream_reading known bytes ≡ Ok placed
+        → IsFitStream bytes (map (λ p. p.object) placed) × IsChecked (map (λ p. p.object) placed) × AddsAll known (map (λ p. p.object) placed) }
+    ensures counts { (kind : ObjectKind) (placed : List Placed) → count_of kind (map arrival_of placed) ≡ count_of_kind kind placed }
 {}

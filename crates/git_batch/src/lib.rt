@@ -1,22 +1,27 @@
-//! Objects of Git, read from the output of `git cat-file --batch` and written as it writes them.
+//! Streams of Git objects, as `git cat-file --batch` writes them: object by object, listed, read into a store and
+//! written.
 #![tactic(auto)]
 
+mod arrival;
+mod byte;
 mod content;
 mod fault;
-mod fill;
+mod gather;
 mod header;
 mod input;
 mod laws;
 mod line;
 mod listing;
 mod put;
+mod read;
 mod reader;
-#[cfg(test)]
-mod tests;
+mod stream_fault;
 
+pub use arrival::{ObjectArrival, ObjectArrivals};
 pub use fault::BatchFault;
-pub use input::INPUT_LIMIT;
-pub use laws::stream_laws;
+pub use laws::{stream_laws, stream_reading_laws};
 pub use listing::list;
 pub use put::put_object;
+pub use read::read_into;
 pub use reader::{BatchReader, Item};
+pub use stream_fault::StreamFault;

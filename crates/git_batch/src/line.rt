@@ -1,12 +1,12 @@
 // The line of an object, up to where it is cut off.
 ghost use Rattle.std.specs.Prelude.{◌≡◌, ◌≤◌, ◌^◌, ℕ, [], length, IfOk, IfErr, IfSome};
 ghost use Rattle.git_model.specs.Stream.{line_reading};
-ghost use Rattle.git_batch.specs.Faults.{AnswerCause, IsDevice};
+ghost use Rattle.git_batch.specs.Faults.{AnswerCause, IsDevice, IsFraming};
 ghost use Rattle.git_batch.specs.Line.{HasLine, piece_reading};
 ghost use Rattle.git_batch.specs.Header.{ReadsLine, IsTextOf, HasHeader};
 
 use crate::BatchFault;
-use crate::fill::{next_byte, push};
+use crate::byte::{next_byte, push};
 use crate::header::{Header, header_of};
 use crate::input::{input_ends, within_limit};
 use bridge_io::Source;
@@ -38,6 +38,7 @@ pub fn read_header<S: Source>(
     requires at { at ≤ 2 ^ 29 }
     ensures reads { IfSome (S.left src.old) (λ bytes. ReadsLine (line_reading at bytes) result) }
     ensures header { IfOk result (HasHeader (S.left src.old) (S.left src.new) at line.new.items) }
+    ensures names { IfErr result IsFraming }
     ensures cause { AnswerCause (S.faults src.old) (S.faults src.new) result }
 {
     let end = read_line(src, line)?;
@@ -70,6 +71,7 @@ fn judge_line(at: u64, end: LineEnd, text: &[u8]) -> Result<Option<Header>, Batc
     requires text { length text.now ≤ 4096 }
     ensures reads { ReadsLine (piece_reading at end text.now) result }
     ensures header { IfOk result (IsTextOf at end text.now) }
+    ensures names { IfErr result IsFraming }
     ensures cause { (faults : ℕ) → AnswerCause faults faults result }
 {
     let len = text.len() as u64;

@@ -1,10 +1,10 @@
 // The objects of a stream, a line each.
-ghost use Rattle.std.specs.Prelude.{◌≡◌, ◌++◌, OnOk, OnErr, IfSome};
+ghost use Rattle.std.specs.Prelude.{◌≡◌, ◌++◌, OnOk, OnErr, IfErr, IfSome};
 ghost use Rattle.std.specs.Io.{StartsWith};
 ghost use Rattle.std.specs.Io.KnownBytes.{IsAtEnd};
 ghost use Rattle.bridge_text.specs.Kinds.{object_kind};
 ghost use Rattle.git_model.specs.Stream.{object_line};
-ghost use Rattle.git_batch.specs.Faults.{AnswerCause};
+ghost use Rattle.git_batch.specs.Faults.{AnswerCause, IsFraming};
 ghost use Rattle.git_batch.specs.Listing.{Lists};
 
 use crate::BatchFault;
@@ -20,6 +20,7 @@ pub fn list<S: Source>(alloc: Global, src: &mut S, out: &mut Vec<u8>) -> Result<
     ensures lists { IfSome (S.left src.old) (λ bytes. Lists bytes out.old.items result out.new.items) }
     ensures end { OnOk result (IsAtEnd (S.left src.new)) }
     ensures kept { OnErr result (out.new.items ≡ out.old.items) }
+    ensures names { IfErr result IsFraming }
     ensures cause { AnswerCause (S.faults src.old) (S.faults src.new) result }
 {
     let start = out.len();
@@ -34,6 +35,7 @@ fn append_lines<S: Source>(alloc: Global, src: &mut S, out: &mut Vec<u8>) -> Res
     ensures lists { IfSome (S.left src.old) (λ bytes. Lists bytes out.old.items result out.new.items) }
     ensures end { OnOk result (IsAtEnd (S.left src.new)) }
     ensures front { StartsWith out.new.items out.old.items }
+    ensures names { IfErr result IsFraming }
     ensures cause { AnswerCause (S.faults src.old) (S.faults src.new) result }
 {
     let mut reader = BatchReader::new();

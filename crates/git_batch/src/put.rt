@@ -8,7 +8,7 @@ ghost use Rattle.bridge_text.specs.Kinds.{object_kind};
 use bridge_text::{Kind, NoMemory, decimal_into, object_id};
 
 /// Appends an object as `git cat-file --batch` writes it: its id in hex digits, the kind's word and the size of the
-/// content in decimal with a space between each two, LF, the content and LF. After want of memory `out` is as it was.
+/// content in decimal with a space between each two, LF, the content and LF. If memory runs out, `out` is as it was.
 pub fn put_object(out: &mut Vec<u8>, kind: Kind, content: &[u8]) -> Result<(), NoMemory>
     ensures ok { OnOk result (out.new.items ≡ out.old.items ++ object_text (object_of (object_kind kind) content.now)) }
     ensures err { OnErr result (out.new.items ≡ out.old.items) }

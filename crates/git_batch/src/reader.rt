@@ -1,9 +1,9 @@
 // A reader of objects, which knows how far it is.
-ghost use Rattle.std.specs.Prelude.{◌≡◌, ◌+◌, ◌≤◌, ◌^◌, ℕ, [], length, IfOk, OnOk, OnErr, IfSome};
+ghost use Rattle.std.specs.Prelude.{◌≡◌, ◌+◌, ◌≤◌, ◌^◌, ℕ, [], length, IfOk, IfErr, OnOk, OnErr, IfSome};
 ghost use Rattle.std.specs.Io.KnownBytes.{Consumes};
 ghost use Rattle.text_model.specs.Fault.{input_limit};
 ghost use Rattle.git_model.specs.Stream.{object_reading, checked_at};
-ghost use Rattle.git_batch.specs.Faults.{AnswerCause};
+ghost use Rattle.git_batch.specs.Faults.{AnswerCause, IsFraming};
 ghost use Rattle.git_batch.specs.Item.{Reads, IsItem, EndsThere, HasItsId, item_text};
 
 use crate::BatchFault;
@@ -12,9 +12,6 @@ use crate::line::read_header;
 use bridge_io::Source;
 use bridge_text::{Id, Kind, object_id};
 use std::marker::Model;
-
-#[cfg(test)]
-mod tests;
 
 /// What was read.
 #[derive(Clone, Copy, Debug, PartialEq, Eq)]
@@ -73,6 +70,7 @@ impl BatchReader {
         ensures offset { IfOk result (λ item. self.new ≡ self.old + length (item_text item into.new.items)) }
         ensures limit { OnOk result (self.new ≤ input_limit) }
         ensures err { OnErr result (into.new.items ≡ []) }
+        ensures names { IfErr result IsFraming }
         ensures cause { AnswerCause (S.faults src.old) (S.faults src.new) result }
     {
         into.clear();
@@ -83,7 +81,7 @@ impl BatchReader {
         read
     }
 
-    /// Reads the next object as `next` does, and also sees that it has the id that its line names. `IdWrong` comes
+    /// Reads the next object as `next` does, and checks that it has the id that its line names. `IdWrong` comes
     /// where it has another, and no other fault does.
     pub fn next_checked<S: Source>(
         &mut self,
@@ -124,6 +122,7 @@ impl BatchReader {
         ensures item { IfOk result (IsItem self.old into.new.items) }
         ensures offset { IfOk result (λ item. self.new ≡ self.old + length (item_text item into.new.items)) }
         ensures limit { OnOk result (self.new ≤ input_limit) }
+        ensures names { IfErr result IsFraming }
         ensures cause { AnswerCause (S.faults src.old) (S.faults src.new) result }
     {
         let at = self.offset;

@@ -1,21 +1,24 @@
 -- The objects of a commit that is held, and commits one by one.
-use Rattle.std.proofs.Common.{◌≡◌, ◌+◌, ◌<◌, ℕ, zero, suc, get_or, arith, List, [], ◌∷◌, ◌++◌, codes, length, map, take, drop, Some, None, refl, sym, ap, subst, ◌∙◌, append-nil}
+use Rattle.std.proofs.Common.{◌≡◌, ◌+◌, ◌<◌, ℕ, zero, suc, get_or, arith, Bool, true, false, List, [], ◌∷◌, ◌++◌, codes, length, map, take, drop, Some, None, refl, sym, ap, subst, ◌∙◌, append-nil}
 use Rattle.std.specs.Prelude.{slice_get, if◌then◌else◌}
 use Rattle.std.proofs.lemmas.List.Concat.{flat_map-append}
 use Rattle.text_model.specs.Lists.{Each}
+use Rattle.text_model.specs.Text.{Bytes}
 use Rattle.text_model.specs.Id.{Id, IsId, ObjectKind, commit, tree, same_kind, object_id, hex}
 use Rattle.git_model.specs.Commit.{Commit, commit_text}
 use Rattle.git_model.specs.Object.{Object, object_of}
 use Rattle.git_model.specs.Shape.{leaf_of, shape_objects}
-use Rattle.git_model.specs.Unfold.{FileRow}
+use Rattle.git_model.specs.Tree.{is_blob_mode}
+use Rattle.git_model.specs.Unfold.{FileRow, met_rows, tree_rows}
 use Rattle.git_model.proofs.CommitLemmas.{id_line-lacks, commit_text-lines}
 use Rattle.git_model.proofs.OneTextLemmas.{same_cut, same_id}
-use Rattle.git_model.proofs.OptionLemmas.{none_some, some_is}
+use Rattle.text_model.proofs.Options.{none_some, some_is}
 use Rattle.git_store.specs.Known.{AreKnown, content_of, content_at, IsCommitAt}
-use Rattle.tree_shape.proofs.Again.{root-tree}
+use Rattle.tree_shape.proofs.Again.{root-tree, same-rows, one-row}
+use Rattle.tree_shape.proofs.AnyOrder.{leaf_with, objects-any_order}
 use Rattle.tree_shape.proofs.Rebuilding.{walk-leaves}
 use Rattle.view_model.specs.View.{CommitView, TreeRow, leaf_of_row, commit_objects}
-use Rattle.view_model.specs.Held.{file_row_of, IsBlobHeld, AreCommitsHeld}
+use Rattle.view_model.specs.Held.{file_row_of, IsRowHeld, AreCommitsHeld}
 use Rattle.view_model.specs.Dump.{objects_in}
 use Rattle.git_view.proofs.Found.{found, some-tree}
 use Rattle.git_view.proofs.Held.{commit-at}
@@ -33,17 +36,32 @@ module _ (known : List Object) (are : AreKnown known) (id : Id) where
   module _ (c : CommitView) (is : IsWalkableCommit known id c) where
     -- ---- the objects
 
-    leaves-full : (rs : List TreeRow) → Each (IsBlobHeld known) rs → map leaf_of_row rs ≡ map (filled (rows.content_in known)) (map leaf_of (map file_row_of rs))
+    -- the content of a row by its mode and id
+    abbrev full_content : FileRow → Bytes
+    full_content row = rows.content_for known row.mode row.id
+
+    row-content : (row : TreeRow) → IsRowHeld known row → row.content ≡ rows.content_for known row.mode row.id
+    row-content row h = by (is_blob_mode row.mode) refl
+      where
+        by : (t : Bool) → is_blob_mode row.mode ≡ t → row.content ≡ rows.content_by t known row.id
+        by true t = let b = h.blob t in sym b.2 ∙ sym (ap rows.content_of b.1)
+        by false t = h.none t
+
+    leaves-full : (rs : List TreeRow) → Each (IsRowHeld known) rs → map leaf_of_row rs ≡ map (leaf_with full_content) (map file_row_of rs)
     leaves-full [] h = refl
-    leaves-full (row ∷ rs) h =
-        let content : row.content ≡ rows.content_in known row.id = sym h.0.2 ∙ sym (ap rows.content_of h.0.1) in
-        (λ i. record { names = (leaf_of_row row).names; mode = row.mode; id = row.id; content = content i } ∷ leaves-full rs h.1 i)
+    leaves-full (row ∷ rs) h = (λ i. record { names = (leaf_of_row row).names; mode = row.mode; id = row.id; content = row-content row h.0 i } ∷ leaves-full rs h.1 i)
+
+    leaves-filled : (rs : List FileRow) → map (leaf_with full_content) rs ≡ map (filled (rows.content_for known)) (map leaf_of rs)
+    leaves-filled [] = refl
+    leaves-filled (row ∷ rs) = (λ i. leaf_with full_content row ∷ leaves-filled rs i)
 
     tree-objects : shape_objects 257 (map leaf_of_row c.rows) ≡ walk_objects known 257 (c.value).tree_id
     tree-objects =
-        ap (shape_objects 257) (leaves-full c.rows is.0.blobs ∙ ap (λ (rs : List FileRow). map (filled (rows.content_in known)) (map leaf_of rs)) (rows.rows-are known id c are.are is.0 is.1)
-        ∙ ap (map (filled (rows.content_in known))) (walk-leaves known (c.value).tree_id are.are))
-        ∙ root-objects known are.are (c.value).tree_id is.1
+        let root : Id = (c.value).tree_id in
+        ap (shape_objects 257) (leaves-full c.rows is.0.blobs ∙ ap (map (leaf_with full_content)) (rows.rows-are known id c are.are is.0 is.1))
+        ∙ objects-any_order full_content (tree_rows known root) (met_rows known root) (same-rows known are.are root) (one-row known are.are root)
+        ∙ ap (shape_objects 257) (leaves-filled (met_rows known root) ∙ ap (map (filled (rows.content_for known))) (walk-leaves known root are.are))
+        ∙ root-objects known are.are root is.1
 
     own-object : object_of commit (commit_text c.value) ∷ [] ≡ objects_at known id
     own-object =
@@ -66,7 +84,7 @@ module _ (known : List Object) (are : AreKnown known) (id : Id) where
     pub tree-is : (v : Commit) → IsCommitAt known id v → v.tree_id ≡ (c.value).tree_id
     tree-is v at =
         let of = commit-at known id at.content at.held in
-        let object : of.object ≡ is.0.object = some_is of.object is.0.object (sym of.at ∙ is.0.is_held) in
+        let object : of.object ≡ is.0.object = some_is {x = of.object} {y = is.0.object} (sym of.at ∙ is.0.is_held) in
         let text : commit_text v ≡ commit_text c.value = sym at.is.1 ∙ sym of.content_is ∙ ap (λ (o : Object). o.content) object ∙ is.0.text.1 in
         let cut = same_cut (codes "tree " ++ hex v.tree_id) _ (codes "tree " ++ hex (c.value).tree_id) _ (id_line-lacks (codes "tree ") v.tree_id refl at.is.0.tree_id) (id_line-lacks (codes "tree ") (c.value).tree_id refl tree-id)
         (sym (commit_text-lines v) ∙ text ∙ commit_text-lines c.value) in
@@ -76,7 +94,7 @@ module _ (known : List Object) (are : AreKnown known) (id : Id) where
     is-there none =
         let there : content_at commit known id ≡ Some is.0.object.content =
         ap (content_of commit) is.0.is_held ∙ ap (λ (k : ObjectKind). if same_kind k commit then Some is.0.object.content else None) is.0.kind in
-        none_some is.0.object.content (sym none ∙ there)
+        none_some {x = is.0.object.content} (sym none ∙ there)
 
     pub own-closed : (a b : Walk) → IsClosed known a.met → Visited (objects_at known id) a b → IsClosed known b.met
     own-closed a b closed v = closed-other known id a b closed v (no-tree known id is.0.object is.0.is_held (ap (λ k. same_kind k tree) is.0.kind))
@@ -122,8 +140,8 @@ commits-drop known (id ∷ ids) [] (suc n) are = absurd are.0
 commits-drop known (id ∷ ids) (c ∷ cs) (suc n) are = commits-drop known ids cs n (are.0.1, are.1.1)
 
 take-push : (cs : List CommitView) (i : ℕ) (c : CommitView) → slice_get cs i ≡ Some c → take (i + 1) cs ≡ take i cs ++ c ∷ []
-take-push [] i c h = absurd (none_some c h)
-take-push (d ∷ cs) zero c h = ap (λ (x : CommitView). x ∷ []) (some_is d c h)
+take-push [] i c h = absurd (none_some {x = c} h)
+take-push (d ∷ cs) zero c h = ap (λ (x : CommitView). x ∷ []) (some_is {x = d} {y = c} h)
 take-push (d ∷ cs) (suc i) c h = let e : suc i + 1 ≡ suc (i + 1) = omega arith in rw e (ap (λ (l : List CommitView). d ∷ l) (take-push cs i c h))
 
 pub visited-push : (cs : List CommitView) (i : ℕ) (c : CommitView) (a b d : Walk) → slice_get cs i ≡ Some c → Visited (objects_in (take i cs)) a b → Visited (commit_objects c) b d → Visited (objects_in (take (i + 1) cs)) a d

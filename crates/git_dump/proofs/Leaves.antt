@@ -1,5 +1,6 @@
 -- The files below an entry of a tree are found by the entry's name.
-use Rattle.std.proofs.Common.{◌≡◌, ◌≢◌, ℕ, zero, suc, Bool, true, false, true≢false, not, ◌||◌, List, [], ◌∷◌, ◌++◌, map, Option, Some, None, refl, sym, ap, subst, ◌∙◌, append-nil, inl, inr}
+use Rattle.tree_shape.proofs.Rebuilding.{HasName, leaves-named, leaves-empty, below-put}
+use Rattle.std.proofs.Common.{◌≡◌, ◌≢◌, ℕ, Bool, true, false, true≢false, not, ◌||◌, List, [], ◌∷◌, ◌++◌, map, Some, None, refl, sym, ap, subst, ◌∙◌, append-nil, inl, inr}
 use Rattle.std.specs.Prelude.{bytes_eq, if◌then◌else◌}
 use Rattle.std.specs.List.{flat_map, cons_option, list_any}
 use Rattle.std.proofs.lemmas.List.Elements.{filter_map-append}
@@ -7,51 +8,18 @@ use Rattle.std.proofs.lemmas.Slice.Eq.{bytes_eq-Decides}
 use Rattle.text_model.specs.Lists.{In, Each}
 use Rattle.text_model.specs.Text.{Bytes}
 use Rattle.text_model.specs.Id.{Id}
-use Rattle.text_model.proofs.EachLemmas.{Each-append}
 use Rattle.text_model.proofs.TestLemmas.{both, or_true}
 use Rattle.git_model.specs.Tree.{is_directory, TreeEntry, has_distinct}
 use Rattle.git_model.specs.Object.{Object, tree_at}
 use Rattle.git_model.specs.Shape.{Leaf, cut_name, leaves_below, is_named, leaf_named}
 use Rattle.tree_shape.proofs.Leaves.{same, other}
 use Rattle.tree_shape.proofs.Names.{not-true}
-use Rattle.tree_shape.proofs.Rebuilding.{put_name, leaf_at, entry_leaves, leaves_in}
-
--- ---- each leaf has a name
-
-abbrev HasName : Leaf → Type 0
-HasName leaf = (name : Bytes) × (names : List Bytes) × (leaf.names ≡ name ∷ names)
-
-put-named : (name : Bytes) (leaves : List Leaf) → Each HasName (map (put_name name) leaves)
-put-named name [] = tt
-put-named name (leaf ∷ leaves) = ((name, leaf.names, refl), put-named name leaves)
-
-entries-named : (below : Id → List Leaf) (entries : List TreeEntry) → Each HasName (flat_map (entry_leaves below) entries)
-entries-named below [] = tt
-entries-named below (e ∷ entries) = Each-append HasName (entry_leaves below e) (flat_map (entry_leaves below) entries) (by (is_directory e.mode)) (entries-named below entries)
-  where
-    by : (t : Bool) → Each HasName (if t then map (put_name e.name) (below e.id) else leaf_at e ∷ [])
-    by true = put-named e.name (below e.id)
-    by false = ((e.name, [], refl), tt)
-
-leaves-named : (known : List Object) (depth : ℕ) (id : Id) → Each HasName (leaves_in known depth id)
-leaves-named known zero id = tt
-leaves-named known (suc depth) id = by (tree_at known id)
-  where
-    by : (o : Option (List TreeEntry)) → Each HasName (elim o as (λ _. List Leaf) [ None ↦ [] | Some entries ↦ flat_map (entry_leaves (leaves_in known depth)) entries ])
-    by None = tt
-    by (Some entries) = entries-named (leaves_in known depth) entries
+use Rattle.git_model.specs.Unfold.{has_no_entries}
+use Rattle.tree_shape.proofs.Rebuilding.{file-leaf}
+use Rattle.tree_shape.specs.Wholes.{put_name, leaf_at, is_leaf, entry_leaves, leaves_in}
+use Rattle.tree_shape.proofs.Unfolding.{no-entries}
 
 -- ---- leaves of one entry
-
-cut-put : (name : Bytes) (leaf : Leaf) → HasName leaf → cut_name name (put_name name leaf) (name ∷ leaf.names) ≡ Some leaf
-cut-put name leaf h =
-    ap (λ (names : List Bytes). cut_name name (put_name name leaf) (name ∷ names)) h.2
-    ∙ ap (λ (t : Bool). if t then Some (record { names = h.0 ∷ h.1; mode = leaf.mode; id = leaf.id; content = leaf.content }) else None) (same name)
-    ∙ ap (λ (names : List Bytes). Some (record { names = names; mode = leaf.mode; id = leaf.id; content = leaf.content })) (sym h.2)
-
-below-put : (name : Bytes) (leaves : List Leaf) → Each HasName leaves → leaves_below name (map (put_name name) leaves) ≡ leaves
-below-put name [] h = refl
-below-put name (leaf ∷ leaves) h = (λ k. cons_option (cut-put name leaf h.0 k) (below-put name leaves h.1 k))
 
 none-put : (name other : Bytes) (leaves : List Leaf) → Each HasName leaves → leaf_named name (map (put_name other) leaves) ≡ None
 none-put name other [] h = refl
@@ -67,21 +35,21 @@ below-apart : (name first : Bytes) (leaves : List Leaf) → first ≢ name → l
 below-apart name first [] h = refl
 below-apart name first (leaf ∷ leaves) h = (λ k. cons_option (cut-apart name first (put_name first leaf) leaf.names h k) (below-apart name first leaves h k))
 
-module _ (below : Id → List Leaf) (named : (id : Id) → Each HasName (below id)) where
+module _ (known : List Object) (below : Id → List Leaf) (named : (id : Id) → Each HasName (below id)) (empty : (id : Id) → tree_at known id ≡ Some [] → below id ≡ []) where
   -- another name finds nothing
-  other-below : (name : Bytes) (e : TreeEntry) → e.name ≢ name → leaves_below name (entry_leaves below e) ≡ []
-  other-below name e h = by (is_directory e.mode)
+  other-below : (name : Bytes) (e : TreeEntry) → e.name ≢ name → leaves_below name (entry_leaves known below e) ≡ []
+  other-below name e h = by (is_leaf known e)
     where
-      by : (t : Bool) → leaves_below name (if t then map (put_name e.name) (below e.id) else leaf_at e ∷ []) ≡ []
-      by true = below-apart name e.name (below e.id) h
-      by false = refl
+      by : (t : Bool) → leaves_below name (if t then leaf_at e ∷ [] else map (put_name e.name) (below e.id)) ≡ []
+      by true = refl
+      by false = below-apart name e.name (below e.id) h
 
-  other-named : (name : Bytes) (e : TreeEntry) → e.name ≢ name → leaf_named name (entry_leaves below e) ≡ None
-  other-named name e h = by (is_directory e.mode)
+  other-named : (name : Bytes) (e : TreeEntry) → e.name ≢ name → leaf_named name (entry_leaves known below e) ≡ None
+  other-named name e h = by (is_leaf known e)
     where
-      by : (t : Bool) → leaf_named name (if t then map (put_name e.name) (below e.id) else leaf_at e ∷ []) ≡ None
-      by true = none-put name e.name (below e.id) (named e.id)
-      by false = ap (λ (t : Bool). if t then Some (leaf_at e) else None) (other e.name name h)
+      by : (t : Bool) → leaf_named name (if t then leaf_at e ∷ [] else map (put_name e.name) (below e.id)) ≡ None
+      by true = ap (λ (t : Bool). if t then Some (leaf_at e) else None) (other e.name name h)
+      by false = none-put name e.name (below e.id) (named e.id)
 
   named-append : (name : Bytes) (xs ys : List Leaf) → leaf_named name xs ≡ None → leaf_named name (xs ++ ys) ≡ leaf_named name ys
   named-append name [] ys h = refl
@@ -98,18 +66,22 @@ module _ (below : Id → List Leaf) (named : (id : Id) → Each HasName (below i
   below-append : (name : Bytes) (xs ys : List Leaf) → leaves_below name (xs ++ ys) ≡ leaves_below name xs ++ leaves_below name ys
   below-append name xs ys = filter_map-append (λ leaf. cut_name name leaf leaf.names) xs ys
 
-  nothing-below : (name : Bytes) (entries : List TreeEntry) → ((e : TreeEntry) → In e entries → e.name ≢ name) → leaves_below name (flat_map (entry_leaves below) entries) ≡ []
+  nothing-below : (name : Bytes) (entries : List TreeEntry) → ((e : TreeEntry) → In e entries → e.name ≢ name) → leaves_below name (flat_map (entry_leaves known below) entries) ≡ []
   nothing-below name [] h = refl
   nothing-below name (e ∷ entries) h =
-      below-append name (entry_leaves below e) (flat_map (entry_leaves below) entries)
+      below-append name (entry_leaves known below e) (flat_map (entry_leaves known below) entries)
       ∙ (λ k. other-below name e (h e (inl refl)) k ++ nothing-below name entries (λ f i. h f (inr i)) k)
 
-  same-below : (e : TreeEntry) → is_directory e.mode ≡ true → leaves_below e.name (entry_leaves below e) ≡ below e.id
-  same-below e d = ap (λ (t : Bool). leaves_below e.name (if t then map (put_name e.name) (below e.id) else leaf_at e ∷ [])) d ∙ below-put e.name (below e.id) (named e.id)
+  same-below : (e : TreeEntry) → is_directory e.mode ≡ true → leaves_below e.name (entry_leaves known below e) ≡ below e.id
+  same-below e d = by (is_leaf known e) refl
+    where
+      by : (t : Bool) → is_leaf known e ≡ t → leaves_below e.name (if t then leaf_at e ∷ [] else map (put_name e.name) (below e.id)) ≡ below e.id
+      by true l = sym (empty e.id (no-entries (tree_at known e.id) (sym (ap (λ (t : Bool). not t || has_no_entries (tree_at known e.id)) d) ∙ l)))
+      by false l = below-put e.name (below e.id) (named e.id)
 
-  same-named : (e : TreeEntry) (rest : List Leaf) → is_directory e.mode ≡ false → leaf_named e.name (entry_leaves below e ++ rest) ≡ Some (leaf_at e)
+  same-named : (e : TreeEntry) (rest : List Leaf) → is_directory e.mode ≡ false → leaf_named e.name (entry_leaves known below e ++ rest) ≡ Some (leaf_at e)
   same-named e rest d =
-      ap (λ (t : Bool). leaf_named e.name ((if t then map (put_name e.name) (below e.id) else leaf_at e ∷ []) ++ rest)) d
+      ap (λ (t : Bool). leaf_named e.name ((if t then leaf_at e ∷ [] else map (put_name e.name) (below e.id)) ++ rest)) (file-leaf known e d)
       ∙ ap (λ (t : Bool). if t then Some (leaf_at e) else leaf_named e.name rest) (same e.name)
 
   -- a name stands in one entry
@@ -129,29 +101,29 @@ module _ (below : Id → List Leaf) (named : (id : Id) → Each HasName (below i
   rest-distinct e entries h = (both (not (list_any (bytes_eq e.name) (map (λ e. e.name) entries))) (has_distinct (map (λ e. e.name) entries)) h).1
 
   -- below the name of a directory stands what lies in it
-  pub found-below : (entries : List TreeEntry) (e : TreeEntry) → has_distinct (map (λ e. e.name) entries) ≡ true → In e entries → is_directory e.mode ≡ true → leaves_below e.name (flat_map (entry_leaves below) entries) ≡ below e.id
+  pub found-below : (entries : List TreeEntry) (e : TreeEntry) → has_distinct (map (λ e. e.name) entries) ≡ true → In e entries → is_directory e.mode ≡ true → leaves_below e.name (flat_map (entry_leaves known below) entries) ≡ below e.id
   found-below [] e h i d = absurd i
-  found-below (f ∷ entries) e h i d = below-append e.name (entry_leaves below f) (flat_map (entry_leaves below) entries) ∙ elim i [
+  found-below (f ∷ entries) e h i d = below-append e.name (entry_leaves known below f) (flat_map (entry_leaves known below) entries) ∙ elim i [
     | inl q ↦
-        (λ k. leaves_below (ap (λ (x : TreeEntry). x.name) q k) (entry_leaves below f) ++ leaves_below (ap (λ (x : TreeEntry). x.name) q k) (flat_map (entry_leaves below) entries))
+        (λ k. leaves_below (ap (λ (x : TreeEntry). x.name) q k) (entry_leaves known below f) ++ leaves_below (ap (λ (x : TreeEntry). x.name) q k) (flat_map (entry_leaves known below) entries))
         ∙ (λ k. same-below f (ap (λ (x : TreeEntry). is_directory x.mode) (sym q) ∙ d) k ++ nothing-below f.name entries (λ g j r. apart f entries h g j (sym r)) k)
         ∙ append-nil (below f.id) ∙ ap (λ (x : TreeEntry). below x.id) (sym q)
     | inr j ↦ (λ k. other-below e.name f (apart f entries h e j) k ++ found-below entries e (rest-distinct f entries h) j d k)
   ]
 
   -- the name of a file finds it
-  pub found-named : (entries : List TreeEntry) (e : TreeEntry) → has_distinct (map (λ e. e.name) entries) ≡ true → In e entries → is_directory e.mode ≡ false → leaf_named e.name (flat_map (entry_leaves below) entries) ≡ Some (leaf_at e)
+  pub found-named : (entries : List TreeEntry) (e : TreeEntry) → has_distinct (map (λ e. e.name) entries) ≡ true → In e entries → is_directory e.mode ≡ false → leaf_named e.name (flat_map (entry_leaves known below) entries) ≡ Some (leaf_at e)
   found-named [] e h i d = absurd i
   found-named (f ∷ entries) e h i d = elim i [
-    | inl q ↦ subst (λ (x : TreeEntry). leaf_named x.name (entry_leaves below f ++ flat_map (entry_leaves below) entries) ≡ Some (leaf_at x)) (sym q)
-        (same-named f (flat_map (entry_leaves below) entries) (ap (λ (x : TreeEntry). is_directory x.mode) (sym q) ∙ d))
-    | inr j ↦ named-append e.name (entry_leaves below f) (flat_map (entry_leaves below) entries) (other-named e.name f (apart f entries h e j)) ∙ found-named entries e (rest-distinct f entries h) j d
+    | inl q ↦ subst (λ (x : TreeEntry). leaf_named x.name (entry_leaves known below f ++ flat_map (entry_leaves known below) entries) ≡ Some (leaf_at x)) (sym q)
+        (same-named f (flat_map (entry_leaves known below) entries) (ap (λ (x : TreeEntry). is_directory x.mode) (sym q) ∙ d))
+    | inr j ↦ named-append e.name (entry_leaves known below f) (flat_map (entry_leaves known below) entries) (other-named e.name f (apart f entries h e j)) ∙ found-named entries e (rest-distinct f entries h) j d
   ]
 
 pub tree-below : (known : List Object) (depth : ℕ) (entries : List TreeEntry) (e : TreeEntry) → has_distinct (map (λ e. e.name) entries) ≡ true → In e entries → is_directory e.mode ≡ true
-    → leaves_below e.name (flat_map (entry_leaves (leaves_in known depth)) entries) ≡ leaves_in known depth e.id
-tree-below known depth = found-below (leaves_in known depth) (leaves-named known depth)
+    → leaves_below e.name (flat_map (entry_leaves known (leaves_in known depth)) entries) ≡ leaves_in known depth e.id
+tree-below known depth = found-below known (leaves_in known depth) (leaves-named known depth) (leaves-empty known depth)
 
 pub tree-named : (known : List Object) (depth : ℕ) (entries : List TreeEntry) (e : TreeEntry) → has_distinct (map (λ e. e.name) entries) ≡ true → In e entries → is_directory e.mode ≡ false
-    → leaf_named e.name (flat_map (entry_leaves (leaves_in known depth)) entries) ≡ Some (leaf_at e)
-tree-named known depth = found-named (leaves_in known depth) (leaves-named known depth)
+    → leaf_named e.name (flat_map (entry_leaves known (leaves_in known depth)) entries) ≡ Some (leaf_at e)
+tree-named known depth = found-named known (leaves_in known depth) (leaves-named known depth) (leaves-empty known depth)

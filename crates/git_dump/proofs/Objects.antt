@@ -5,30 +5,30 @@ use Rattle.std.specs.List.{flat_map}
 use Rattle.text_model.specs.Lists.{In}
 use Rattle.text_model.specs.Text.{Bytes}
 use Rattle.text_model.specs.Id.{Id, blob, tree}
-use Rattle.git_model.specs.Tree.{is_directory, TreeEntry, tree_text}
+use Rattle.git_model.specs.Tree.{is_directory, is_blob_mode, TreeEntry, tree_text}
 use Rattle.git_model.specs.Object.{Object, object_of, object_at, tree_at, AreObjects}
 use Rattle.git_model.specs.Shape.{Leaf, leaves_below, leaf_named, leaf_object, shape_entries, shape_objects}
-use Rattle.git_model.specs.Unfold.{FileRow, is_kind_there, mode_kind, joined_path, visits, walk, walk_fault}
+use Rattle.git_model.specs.Unfold.{FileRow, is_kind_there, is_object_there, joined_path, visits, walk, walk_fault}
 use Rattle.git_model.proofs.ObjectLemmas.{tree_at-tree}
 use Rattle.tree_shape.specs.Walks.{row_at, entry_visits}
-use Rattle.tree_shape.proofs.Again.{sound, all-fine, root-tree}
+use Rattle.tree_shape.proofs.Again.{root-sound, root-tree}
 use Rattle.tree_shape.proofs.Elements.{each-in, each-from, in-flat}
 use Rattle.tree_shape.proofs.Held.{held}
-use Rattle.tree_shape.proofs.Rebuilding.{Sound, leaf_at, entry_leaves, leaves_in, leaves-some, level}
+use Rattle.tree_shape.proofs.Rebuilding.{leaves-some, level}
+use Rattle.tree_shape.specs.Wholes.{Sound, leaf_at, entry_leaves, leaves_in}
 use Rattle.tree_shape.proofs.Unfolding.{visits-suc}
-use Rattle.git_view.proofs.Right.{blob-mode}
 use Rattle.git_view.proofs.Found.{found-id, there}
-use Rattle.git_view.proofs.Rows.{content_of, content_in}
+use Rattle.git_view.proofs.Rows.{content_of, content_by, content_for, blob-there}
 use Rattle.git_view.proofs.Shapes.{filled, below-filled, named-filled, entries-filled}
 use Rattle.git_view.proofs.Walks.{all-there, none-refused}
-use Rattle.git_dump.specs.Walks.{object_list, objects_at, entry_objects, walk_objects, IsWalkableEntry, IsWalkable}
+use Rattle.git_dump.specs.Walks.{object_list, objects_at, file_objects, entry_objects, walk_objects, IsWalkableEntry, IsWalkable}
 use Rattle.git_dump.proofs.Leaves.{tree-below, tree-named}
 use Rattle.git_dump.proofs.WalkLemmas.{walk-some}
 
 -- ---- all that a walk meets is there
 
 abbrev AreThere : List Object → List FileRow → Type 0
-AreThere known vs = (v : FileRow) → In v vs → is_kind_there (mode_kind v.mode) (object_at known v.id) ≡ true
+AreThere known vs = (v : FileRow) → In v vs → is_object_there known v ≡ true
 
 module _ (known : List Object) where
   -- the visits of an entry
@@ -39,9 +39,8 @@ module _ (known : List Object) where
   subtree-there : (depth : ℕ) (path : Bytes) (e : TreeEntry) → is_directory e.mode ≡ true → AreThere known (entry_visits known depth path e) → AreThere known (visits known depth (joined_path path e.name) e.id)
   subtree-there depth path e d all v j = all v (inr (subst (λ (t : Bool). In v (if t then visits known depth (joined_path path e.name) e.id else [])) (sym d) j))
 
-  file-there : (depth : ℕ) (path : Bytes) (e : TreeEntry) → is_directory e.mode ≡ false → AreThere known (entry_visits known depth path e) → is_kind_there blob (object_at known e.id) ≡ true
-  file-there depth path e d all =
-      sym (ap (λ (t : Bool). is_kind_there (if t then tree else blob) (object_at known e.id)) d) ∙ all (row_at (joined_path path e.name) e) (inl refl)
+  file-there : (depth : ℕ) (path : Bytes) (e : TreeEntry) → is_blob_mode e.mode ≡ true → AreThere known (entry_visits known depth path e) → is_kind_there blob (object_at known e.id) ≡ true
+  file-there depth path e b all = blob-there known (row_at (joined_path path e.name) e) b (all (row_at (joined_path path e.name) e) (inl refl))
 
   pub walkable : (depth : ℕ) (path : Bytes) (id : Id) (entries : List TreeEntry) → Sound known depth id entries → AreThere known (visits known depth path id) → IsWalkable known depth id
   unfolding IsWalkable
@@ -52,7 +51,7 @@ module _ (known : List Object) where
     each-from (IsWalkableEntry known (IsWalkable known depth)) entries (λ e i. record {
       subtree = λ d.
           let b = each-in _ entries e s.1 i d in
-          walkable depth (joined_path path e.name) e.id b.0 b.2 (subtree-there depth path e d (entry-there depth path id entries e s.0 i all));
+          walkable depth (joined_path path e.name) e.id b.0 b.1 (subtree-there depth path e d (entry-there depth path id entries e s.0 i all));
       file = λ d. file-there depth path e d (entry-there depth path id entries e s.0 i all);
     }),
   )
@@ -65,15 +64,18 @@ flat-same f g (e ∷ entries) h = (λ k. h e (inl refl) k ++ flat-same f g entri
 
 module _ (known : List Object) (are : AreObjects known) where
   abbrev full : Leaf → Leaf
-  full = filled (content_in known)
+  full = filled (content_for known)
 
   -- the object of a file
-  file-object : (e : TreeEntry) → is_directory e.mode ≡ false → is_kind_there blob (object_at known e.id) ≡ true → leaf_object (Some (full (leaf_at e))) ≡ objects_at known e.id
-  file-object e d h =
-      let t = there known blob e.id h in
-      ap (λ (b : Bool). if b then record { id = e.id; kind = blob; content = content_in known e.id } ∷ [] else []) (blob-mode e.mode d)
-      ∙ (λ k. record { id = found-id known e.id t.object t.at k; kind = sym t.kind_is k; content = ap content_of t.at k } ∷ [])
-      ∙ sym (ap object_list t.at)
+  file-object : (e : TreeEntry) → (is_blob_mode e.mode ≡ true → is_kind_there blob (object_at known e.id) ≡ true) → leaf_object (Some (full (leaf_at e))) ≡ file_objects known e
+  file-object e h = by (is_blob_mode e.mode) refl
+    where
+      by : (t : Bool) → is_blob_mode e.mode ≡ t → (if t then record { id = e.id; kind = blob; content = content_by t known e.id } ∷ [] else []) ≡ (if t then objects_at known e.id else [])
+      by true b =
+          let t = there known blob e.id (h b) in
+          (λ k. record { id = found-id known e.id t.object t.at k; kind = sym t.kind_is k; content = ap content_of t.at k } ∷ [])
+          ∙ sym (ap object_list t.at)
+      by false b = refl
 
   -- the objects of an entry, among the files of the tree
   abbrev shape_part : ℕ → List Leaf → TreeEntry → List Object
@@ -81,18 +83,18 @@ module _ (known : List Object) (are : AreObjects known) where
 
   entry-part : (depth : ℕ) (path : Bytes) (id : Id) (entries : List TreeEntry) (e : TreeEntry) → Sound known (suc depth) id entries → In e entries → AreThere known (entry_visits known depth path e)
       → ((p : Bytes) (i : Id) (es : List TreeEntry) → Sound known depth i es → AreThere known (visits known depth p i) → shape_objects depth (map full (leaves_in known depth i)) ≡ walk_objects known depth i)
-      → shape_part depth (map full (flat_map (entry_leaves (leaves_in known depth)) entries)) e ≡ entry_objects known (walk_objects known depth) e
+      → shape_part depth (map full (flat_map (entry_leaves known (leaves_in known depth)) entries)) e ≡ entry_objects known (walk_objects known depth) e
   entry-part depth path id entries e s i all rec = by (is_directory e.mode) refl
     where
-      by : (t : Bool) → is_directory e.mode ≡ t → (if t then shape_objects depth (leaves_below e.name (map full (flat_map (entry_leaves (leaves_in known depth)) entries)))
-          else leaf_object (leaf_named e.name (map full (flat_map (entry_leaves (leaves_in known depth)) entries)))) ≡ (if t then walk_objects known depth e.id else objects_at known e.id)
+      by : (t : Bool) → is_directory e.mode ≡ t → (if t then shape_objects depth (leaves_below e.name (map full (flat_map (entry_leaves known (leaves_in known depth)) entries)))
+          else leaf_object (leaf_named e.name (map full (flat_map (entry_leaves known (leaves_in known depth)) entries)))) ≡ (if t then walk_objects known depth e.id else file_objects known e)
       by true d =
           let b = each-in _ entries e s.1 i d in
-          ap (shape_objects depth) (below-filled (content_in known) e.name (flat_map (entry_leaves (leaves_in known depth)) entries) ∙ ap (map full) (tree-below known depth entries e (tree_at-tree known id entries are s.0).2 i d))
-          ∙ rec (joined_path path e.name) e.id b.0 b.2 (subtree-there known depth path e d all)
+          ap (shape_objects depth) (below-filled (content_for known) e.name (flat_map (entry_leaves known (leaves_in known depth)) entries) ∙ ap (map full) (tree-below known depth entries e (tree_at-tree known id entries are s.0).2 i d))
+          ∙ rec (joined_path path e.name) e.id b.0 b.1 (subtree-there known depth path e d all)
       by false d =
-          ap leaf_object (named-filled (content_in known) e.name (flat_map (entry_leaves (leaves_in known depth)) entries) ∙ ap (option_map full) (tree-named known depth entries e (tree_at-tree known id entries are s.0).2 i d))
-          ∙ file-object e d (file-there known depth path e d all)
+          ap leaf_object (named-filled (content_for known) e.name (flat_map (entry_leaves known (leaves_in known depth)) entries) ∙ ap (option_map full) (tree-named known depth entries e (tree_at-tree known id entries are s.0).2 i d))
+          ∙ file-object e (λ b. file-there known depth path e b all)
 
   self-object : (id : Id) (entries : List TreeEntry) → tree_at known id ≡ Some entries → object_of tree (tree_text entries) ∷ [] ≡ objects_at known id
   self-object id entries at = let h = held known id entries are at in sym (ap (objects_at known) h.is_id ∙ ap object_list h.known_as)
@@ -101,10 +103,10 @@ module _ (known : List Object) (are : AreObjects known) where
   unfolding shape_objects
   objects-are zero path id entries s all = absurd s
   objects-are (suc depth) path id entries s all =
-      let leaves : List Leaf = flat_map (entry_leaves (leaves_in known depth)) entries in
+      let leaves : List Leaf = flat_map (entry_leaves known (leaves_in known depth)) entries in
       let at : leaves_in known (suc depth) id ≡ leaves = leaves-some known depth id entries s.0 in
       let shape : shape_entries (suc depth) (map full leaves) ≡ entries =
-      entries-filled (content_in known) (suc depth) leaves ∙ ap (shape_entries (suc depth)) (sym at) ∙ (level known are (suc depth)).shape id entries s in
+      entries-filled (content_for known) (suc depth) leaves ∙ ap (shape_entries (suc depth)) (sym at) ∙ (level known are (suc depth)).shape id entries s in
       ap (λ (ls : List Leaf). shape_objects (suc depth) (map full ls)) at
       ∙ ap (λ (es : List TreeEntry). flat_map (shape_part depth (map full leaves)) es ++ object_of tree (tree_text es) ∷ []) shape
       ∙ (λ k. flat-same (shape_part depth (map full leaves)) (entry_objects known (walk_objects known depth)) entries
@@ -113,15 +115,12 @@ module _ (known : List Object) (are : AreObjects known) where
 
   -- ---- the whole
 
-  root-sound : (root : Id) (entries : List TreeEntry) → walk_fault known root ≡ None → tree_at known root ≡ Some entries → Sound known 257 root entries
-  root-sound root entries h at = sound known are 256 [] root entries refl at (λ v i. all-fine known 0 (walk known root) v (none-refused known are root h) i)
-
   pub root-walkable : (root : Id) → walk_fault known root ≡ None → IsWalkable known 257 root
   root-walkable root h =
       let t = root-tree known are root h in
-      walkable known 257 [] root t.0 (root-sound root t.0 h t.1) (λ v i. all-there known 0 (walk known root) v (none-refused known are root h) i)
+      walkable known 257 [] root t.0 (root-sound known are root t.0 h t.1) (λ v i. all-there known 0 (walk known root) v (none-refused known are root h) i)
 
   pub root-objects : (root : Id) → walk_fault known root ≡ None → shape_objects 257 (map full (leaves_in known 257 root)) ≡ walk_objects known 257 root
   root-objects root h =
       let t = root-tree known are root h in
-      objects-are 257 [] root t.0 (root-sound root t.0 h t.1) (λ v i. all-there known 0 (walk known root) v (none-refused known are root h) i)
+      objects-are 257 [] root t.0 (root-sound known are root t.0 h t.1) (λ v i. all-there known 0 (walk known root) v (none-refused known are root h) i)

@@ -8,7 +8,7 @@ use Rattle.text_model.specs.Text.{Bytes}
 use Rattle.text_model.specs.Id.{Id, ObjectKind, has_id}
 use Rattle.git_model.specs.Object.{Object, object_at}
 use Rattle.git_model.specs.Stream.{object_text, stream_text}
-use Rattle.git_model.proofs.OptionLemmas.{none_some, some_is}
+use Rattle.text_model.proofs.Options.{none_some, some_is}
 use Rattle.git_view.proofs.Found.{found-id}
 use Rattle.git_dump.specs.declared.walk.Walk.{Walk}
 use Rattle.git_dump.specs.Walks.{objects_at, object_list}
@@ -71,9 +71,9 @@ pub there-is : (known : List Object) (id : Id) (kind : ObjectKind) (content : By
 there-is known id kind content h = by (object_at known id) refl h
   where
     by : (found : Option Object) → object_at known id ≡ found → Some (kind, content) ≡ option_map {U = ObjectKind × Bytes} kind_and_content found → objects_at known id ≡ record { id = id; kind = kind; content = content } ∷ []
-    by None e i = absurd (none_some (kind, content) (sym i))
+    by None e i = absurd (none_some {x = (kind, content)} (sym i))
     by (Some o) e i =
-        let same : (kind, content) ≡ (o.kind, o.content) = some_is (kind, content) (o.kind, o.content) i in
+        let same : (kind, content) ≡ (o.kind, o.content) = some_is {x = (kind, content)} {y = (o.kind, o.content)} i in
         ap object_list e ∙ (λ k. record { id = sym (found-id known id o e) k; kind = (sym same k).0; content = (sym same k).1 } ∷ [])
 
 -- the object that is known

@@ -1,4 +1,5 @@
 -- What a walk has met: with a tree all that it reaches.
+use Rattle.tree_shape.proofs.VisitLemmas.{no-dir}
 use Rattle.std.proofs.Common.{◌≡◌, ℕ, zero, suc, ◌+◌, ◌-◌, ◌≤◌, ◌<◌, length, take, get_or, arith, append-nil, Bool, true, false, List, [], ◌∷◌, ◌++◌, Option, Some, None, refl, sym, ap, subst, ◌∙◌, append_assoc, inl, inr}
 use Rattle.std.specs.Prelude.{if◌then◌else◌}
 use Rattle.std.specs.List.{flat_map}
@@ -9,15 +10,15 @@ use Rattle.text_model.specs.Lists.{In, Each}
 use Rattle.text_model.specs.Id.{Id, ObjectKind, blob, tree, same_kind, has_id}
 use Rattle.text_model.proofs.EachLemmas.{Each-append, Each-front, Each-rest, Each-weaker}
 use Rattle.text_model.proofs.OrderLemmas.{has_id-In, In-has_id}
-use Rattle.git_model.specs.Tree.{TreeEntry, is_directory}
+use Rattle.git_model.specs.Tree.{TreeEntry, is_directory, is_blob_mode}
 use Rattle.git_model.specs.Object.{Object, object_at, entries_of, tree_at}
 use Rattle.git_model.specs.Unfold.{is_kind_there}
 use Rattle.git_model.specs.Stream.{stream_text}
-use Rattle.git_model.proofs.OptionLemmas.{none_some, some_is}
+use Rattle.text_model.proofs.Options.{none_some, some_is}
 use Rattle.tree_shape.proofs.Elements.{in-left, in-right, in-append}
 use Rattle.git_view.proofs.Found.{found-id, some-tree, there}
 use Rattle.git_dump.specs.declared.walk.Walk.{Walk}
-use Rattle.git_dump.specs.Walks.{IsKnown, object_list, objects_at, entry_objects, walk_objects, IsWalkableEntry, IsWalkable, IsClosed}
+use Rattle.git_dump.specs.Walks.{IsKnown, object_list, objects_at, file_objects, entry_objects, walk_objects, IsWalkableEntry, IsWalkable, IsMetEntry, IsClosed}
 use Rattle.git_dump.specs.Visits.{ids_of, first_met, Visited}
 use Rattle.git_dump.proofs.VisitLemmas.{visited-none, visited-append}
 
@@ -26,6 +27,9 @@ AreMet met objects = Each (λ o. has_id met o.id ≡ true) objects
 
 pub stays-met : (met more : List Id) (id : Id) → has_id met id ≡ true → has_id (met ++ more) id ≡ true
 stays-met met more id h = In-has_id (met ++ more) id (in-left id met more (has_id-In met id h))
+
+entry-stays : (met more : List Id) (e : TreeEntry) → IsMetEntry met e → IsMetEntry (met ++ more) e
+entry-stays met more e h = record { subtree = λ d. stays-met met more e.id (h.subtree d); file = λ d. stays-met met more e.id (h.file d) }
 
 -- ---- the walk, step by step
 
@@ -47,18 +51,22 @@ one-met known met id h = by (object_at known id) refl
     by None e = tt
     by (Some o) e = (subst (λ (x : Id). has_id met x ≡ true) (found-id known id o e) h, tt)
 
-entry-met : (known : List Object) (met : List Id) (subtree : Id → List Object) (e : TreeEntry) → has_id met e.id ≡ true → AreMet met (subtree e.id) → AreMet met (entry_objects known subtree e)
-entry-met known met subtree e h below = by (is_directory e.mode)
+entry-met : (known : List Object) (met : List Id) (subtree : Id → List Object) (e : TreeEntry) → IsMetEntry met e → (has_id met e.id ≡ true → AreMet met (subtree e.id)) → AreMet met (entry_objects known subtree e)
+entry-met known met subtree e h below = by (is_directory e.mode) refl
   where
-    by : (t : Bool) → AreMet met (if t then subtree e.id else objects_at known e.id)
-    by true = below
-    by false = one-met known met e.id h
+    file : (t : Bool) → is_blob_mode e.mode ≡ t → AreMet met (if t then objects_at known e.id else [])
+    file true t = one-met known met e.id (h.file t)
+    file false t = tt
 
-entries-met : (known : List Object) (met : List Id) (subtree : Id → List Object) → ((id : Id) → has_id met id ≡ true → AreMet met (subtree id)) → (entries : List TreeEntry) → Each (λ e. has_id met e.id ≡ true) entries
+    by : (t : Bool) → is_directory e.mode ≡ t → AreMet met (if t then subtree e.id else file_objects known e)
+    by true t = below (h.subtree t)
+    by false t = file (is_blob_mode e.mode) refl
+
+entries-met : (known : List Object) (met : List Id) (subtree : Id → List Object) → ((id : Id) → has_id met id ≡ true → AreMet met (subtree id)) → (entries : List TreeEntry) → Each (IsMetEntry met) entries
     → AreMet met (flat_map (entry_objects known subtree) entries)
 entries-met known met subtree below [] h = tt
 entries-met known met subtree below (e ∷ entries) h =
-    Each-append (λ o. has_id met o.id ≡ true) (entry_objects known subtree e) (flat_map (entry_objects known subtree) entries) (entry-met known met subtree e h.0 (below e.id h.0)) (entries-met known met subtree below entries h.1)
+    Each-append (λ o. has_id met o.id ≡ true) (entry_objects known subtree e) (flat_map (entry_objects known subtree) entries) (entry-met known met subtree e h.0 (below e.id)) (entries-met known met subtree below entries h.1)
 
 pub all-met : (known : List Object) (met : List Id) → IsClosed known met → (depth : ℕ) (id : Id) → has_id met id ≡ true → AreMet met (walk_objects known depth id)
 unfolding walk_objects
@@ -117,13 +125,13 @@ of-first met (o ∷ objects) id h = by (has_id met o.id) h (of-first met objects
     by false i known new = elim i [ inl q ↦ inl q | inr j ↦ inr (new j) ]
 
 closed-after : (known : List Object) (objects : List Object) (a b : Walk) → IsClosed known a.met → Visited objects a b
-    → ((id : Id) (es : List TreeEntry) → In id (ids_of objects) → tree_at known id ≡ Some es → Each (λ e. has_id b.met e.id ≡ true) es) → IsClosed known b.met
+    → ((id : Id) (es : List TreeEntry) → In id (ids_of objects) → tree_at known id ≡ Some es → Each (IsMetEntry b.met) es) → IsClosed known b.met
 closed-after known objects a b closed v new = record {
   entries = λ id es h at.
       elim (in-append id a.met (ids_of (first_met a.met objects)) (subst (λ (m : List Id). In id m) v.met (has_id-In b.met id h))) [
         | inl i ↦
-            Each-weaker (λ e. has_id a.met e.id ≡ true) (λ e. has_id b.met e.id ≡ true)
-            (λ e k. subst (λ (m : List Id). has_id m e.id ≡ true) (sym v.met) (stays-met a.met (ids_of (first_met a.met objects)) e.id k)) es (closed.entries id es (In-has_id a.met id i) at)
+            Each-weaker (IsMetEntry a.met) (IsMetEntry b.met)
+            (λ e k. subst (λ (m : List Id). IsMetEntry m e) (sym v.met) (entry-stays a.met (ids_of (first_met a.met objects)) e k)) es (closed.entries id es (In-has_id a.met id i) at)
         | inr j ↦ new id es (of-first a.met objects id j) at
       ];
 }
@@ -138,7 +146,7 @@ of-one known id other h = by (object_at known id) refl h
 
 -- an object that is no tree
 pub closed-other : (known : List Object) (id : Id) (a b : Walk) → IsClosed known a.met → Visited (objects_at known id) a b → tree_at known id ≡ None → IsClosed known b.met
-closed-other known id a b closed v none = closed-after known (objects_at known id) a b closed v (λ other es i at. absurd (none_some es (sym none ∙ ap (tree_at known) (sym (of-one known id other i)) ∙ at)))
+closed-other known id a b closed v none = closed-after known (objects_at known id) a b closed v (λ other es i at. absurd (none_some {x = es} (sym none ∙ ap (tree_at known) (sym (of-one known id other i)) ∙ at)))
 
 pub no-tree : (known : List Object) (id : Id) (o : Object) → object_at known id ≡ Some o → same_kind o.kind tree ≡ false → tree_at known id ≡ None
 no-tree known id o at other = ap entries_of at ∙ rw other refl
@@ -158,15 +166,17 @@ root-met known met (suc depth) id w h =
     let o = some-tree known id w.0 w.1 in
     self-met known met id o.0 o.1 (Each-rest (λ o. has_id met o.id ≡ true) (flat_map (entry_objects known (walk_objects known depth)) w.0) (objects_at known id) (subst (AreMet met) (walk-some known depth id w.0 w.1) h))
 
-entry-id-met : (known : List Object) (met : List Id) (depth : ℕ) (e : TreeEntry) → IsWalkableEntry known (IsWalkable known depth) e → AreMet met (entry_objects known (walk_objects known depth) e) → has_id met e.id ≡ true
-entry-id-met known met depth e w h = by (is_directory e.mode) refl h
-  where
-    by : (t : Bool) → is_directory e.mode ≡ t → AreMet met (if t then walk_objects known depth e.id else objects_at known e.id) → has_id met e.id ≡ true
-    by true t i = root-met known met depth e.id (w.subtree t) i
-    by false t i = let o = blob-there known e.id (w.file t) in self-met known met e.id o.0 o.1 i
+entry-id-met : (known : List Object) (met : List Id) (depth : ℕ) (e : TreeEntry) → IsWalkableEntry known (IsWalkable known depth) e → AreMet met (entry_objects known (walk_objects known depth) e) → IsMetEntry met e
+entry-id-met known met depth e w h = record {
+  subtree = λ d. root-met known met depth e.id (w.subtree d) (subst (λ (t : Bool). AreMet met (if t then walk_objects known depth e.id else file_objects known e)) d h);
+  file = λ b.
+      let o = blob-there known e.id (w.file b) in
+      self-met known met e.id o.0 o.1 (subst (λ (t : Bool). AreMet met (if t then objects_at known e.id else [])) b
+      (subst (λ (t : Bool). AreMet met (if t then walk_objects known depth e.id else file_objects known e)) (no-dir e.mode b) h));
+}
 
 ids-met : (known : List Object) (met : List Id) (depth : ℕ) (entries : List TreeEntry) → Each (IsWalkableEntry known (IsWalkable known depth)) entries
-    → AreMet met (flat_map (entry_objects known (walk_objects known depth)) entries) → Each (λ e. has_id met e.id ≡ true) entries
+    → AreMet met (flat_map (entry_objects known (walk_objects known depth)) entries) → Each (IsMetEntry met) entries
 ids-met known met depth [] w h = tt
 ids-met known met depth (e ∷ entries) w h = (
   entry-id-met known met depth e w.0 (Each-front (λ o. has_id met o.id ≡ true) (entry_objects known (walk_objects known depth) e) (flat_map (entry_objects known (walk_objects known depth)) entries) h),
@@ -175,16 +185,16 @@ ids-met known met depth (e ∷ entries) w h = (
 
 pub walkable-entries : (known : List Object) (depth : ℕ) (id : Id) (entries : List TreeEntry) → IsWalkable known (suc depth) id → tree_at known id ≡ Some entries → Each (IsWalkableEntry known (IsWalkable known depth)) entries
 unfolding IsWalkable
-walkable-entries known depth id entries w at = subst (Each (IsWalkableEntry known (IsWalkable known depth))) (some_is w.0 entries (sym w.1 ∙ at)) w.2
+walkable-entries known depth id entries w at = subst (Each (IsWalkableEntry known (IsWalkable known depth))) (some_is {x = w.0} {y = entries} (sym w.1 ∙ at)) w.2
 
 pub closed-tree : (known : List Object) (depth : ℕ) (id : Id) (entries : List TreeEntry) (a b c : Walk) → IsWalkable known (suc depth) id → tree_at known id ≡ Some entries
     → IsClosed known b.met → Visited (flat_map (entry_objects known (walk_objects known depth)) entries) a b → Visited (objects_at known id) b c → IsClosed known c.met
 closed-tree known depth id entries a b c w at closed v last =
-    let below : Each (λ e. has_id b.met e.id ≡ true) entries = ids-met known b.met depth entries (walkable-entries known depth id entries w at) (visited-met _ a b v) in
+    let below : Each (IsMetEntry b.met) entries = ids-met known b.met depth entries (walkable-entries known depth id entries w at) (visited-met _ a b v) in
     closed-after known (objects_at known id) b c closed last (λ other es i there.
-    let same : entries ≡ es = some_is entries es (sym at ∙ ap (tree_at known) (sym (of-one known id other i)) ∙ there) in
-    Each-weaker (λ e. has_id b.met e.id ≡ true) (λ e. has_id c.met e.id ≡ true)
-    (λ e k. subst (λ (m : List Id). has_id m e.id ≡ true) (sym last.met) (stays-met b.met (ids_of (first_met b.met (objects_at known id))) e.id k)) es (subst (Each (λ e. has_id b.met e.id ≡ true)) same below))
+    let same : entries ≡ es = some_is {x = entries} {y = es} (sym at ∙ ap (tree_at known) (sym (of-one known id other i)) ∙ there) in
+    Each-weaker (IsMetEntry b.met) (IsMetEntry c.met)
+    (λ e k. subst (λ (m : List Id). IsMetEntry m e) (sym last.met) (entry-stays b.met (ids_of (first_met b.met (objects_at known id))) e k)) es (subst (Each (IsMetEntry b.met)) same below))
 
 -- ---- the entries one by one
 
@@ -223,17 +233,22 @@ turn-visited known depth id items i e a b c t v w =
 pub dir-objects : (known : List Object) (subtree : Id → List Object) (e : TreeEntry) (id : Id) → is_directory e.mode ≡ true → id ≡ e.id → subtree id ≡ entry_objects known subtree e
 dir-objects known subtree e id d is = ap subtree is ∙ sym (rw d refl)
 
-pub file-objects : (known : List Object) (subtree : Id → List Object) (e : TreeEntry) (id : Id) → is_directory e.mode ≡ false → id ≡ e.id → objects_at known id ≡ entry_objects known subtree e
-file-objects known subtree e id d is = ap (objects_at known) is ∙ sym (rw d refl)
+pub file-entry : (known : List Object) (subtree : Id → List Object) (e : TreeEntry) → is_directory e.mode ≡ false → file_objects known e ≡ entry_objects known subtree e
+file-entry known subtree e d = sym (ap (λ (t : Bool). if t then subtree e.id else file_objects known e) d)
 
-pub file-known : (known : List Object) (depth : ℕ) (e : TreeEntry) (id : Id) → IsWalkableEntry known (IsWalkable known depth) e → is_directory e.mode ≡ false → id ≡ e.id → IsKnown known id
-file-known known depth e id w d is = let o = blob-there known e.id (w.file d) in (o.0, ap (object_at known) is ∙ o.1)
+-- a commit of another repository
+pub no-object : (known : List Object) (e : TreeEntry) (a : Walk) → is_blob_mode e.mode ≡ false → Visited (file_objects known e) a a
+no-object known e a other = subst (λ (os : List Object). Visited os a a) (sym (ap (λ (t : Bool). if t then objects_at known e.id else []) other)) (visited-none a)
 
-pub file-closed : (known : List Object) (depth : ℕ) (e : TreeEntry) (id : Id) (a b : Walk) → IsWalkableEntry known (IsWalkable known depth) e → is_directory e.mode ≡ false → id ≡ e.id → IsClosed known a.met
-    → Visited (objects_at known id) a b → IsClosed known b.met
-file-closed known depth e id a b w d is closed v =
-    let o = blob-there known e.id (w.file d) in
-    closed-other known id a b closed v (ap (tree_at known) is ∙ no-tree known e.id o.0 o.1 o.2)
+pub file-known : (known : List Object) (depth : ℕ) (e : TreeEntry) → IsWalkableEntry known (IsWalkable known depth) e → is_blob_mode e.mode ≡ true → IsKnown known e.id
+file-known known depth e w b = let o = blob-there known e.id (w.file b) in (o.0, o.1)
+
+pub file-closed : (known : List Object) (depth : ℕ) (e : TreeEntry) (a b : Walk) → IsWalkableEntry known (IsWalkable known depth) e → IsClosed known a.met → Visited (file_objects known e) a b → IsClosed known b.met
+file-closed known depth e a b w closed v = by (is_blob_mode e.mode) refl v
+  where
+    by : (t : Bool) → is_blob_mode e.mode ≡ t → Visited (if t then objects_at known e.id else []) a b → IsClosed known b.met
+    by true t v = let o = blob-there known e.id (w.file t) in closed-other known e.id a b closed v (no-tree known e.id o.0 o.1 o.2)
+    by false t v = closed-after known [] a b closed v (λ id es i. absurd i)
 
 pub last-visited : (known : List Object) (depth : ℕ) (id : Id) (items : List TreeEntry) (i : ℕ) (a b c : Walk) → tree_at known id ≡ Some items → length items ≤ i
     → Visited (flat_map (entry_objects known (walk_objects known depth)) (take i items)) a b → Visited (objects_at known id) b c → Visited (walk_objects known (suc depth) id) a c
@@ -255,4 +270,4 @@ no-depth known (suc depth) id is w = absurd (omega (arith, is))
 pub no-root : (known : List Object) (depth : ℕ) (id : Id) → tree_at known id ≡ None → IsWalkable known depth id → ⊥
 unfolding IsWalkable
 no-root known zero id at w = w
-no-root known (suc depth) id at w = none_some w.0 (sym at ∙ w.1)
+no-root known (suc depth) id at w = none_some {x = w.0} (sym at ∙ w.1)

@@ -4,8 +4,6 @@
 
 mod dump;
 mod put;
-#[cfg(test)]
-mod tests;
 mod walk;
 
 pub use dump::write;

@@ -1,14 +1,15 @@
 // The walk through the trees of commits.
-ghost use Rattle.std.specs.Prelude.{◌≡◌, List, [], false, OnOk};
+ghost use Rattle.std.specs.Prelude.{◌≡◌, List, [], true, false, OnOk};
 ghost use Rattle.view_model.specs.View.{CommitView, commit_objects};
 ghost use Rattle.git_dump.specs.Commits.{IsWalkableCommit, AreWalkableCommits};
 ghost use Rattle.git_dump.specs.Visits.{Visited};
-ghost use Rattle.git_dump.specs.Walks.{IsKnown, objects_at, walk_objects, IsWalkable, IsClosed};
+ghost use Rattle.git_model.specs.Tree.{is_blob_mode};
+ghost use Rattle.git_dump.specs.Walks.{IsKnown, objects_at, file_objects, walk_objects, IsWalkable, IsClosed};
 ghost use Rattle.view_model.specs.Dump.{objects_in};
 
 use crate::put::put_object;
 use bridge_text::{Id, IdSet, NoMemory};
-use git_object::Objects;
+use git_object::{Objects, TreeEntry};
 use git_store::GitStore;
 use std::alloc::Global;
 
@@ -58,7 +59,6 @@ impl Walk {
         ensures visited { OnOk result ((c : CommitView) → IsWalkableCommit store.now id.now c → Visited (commit_objects c) self.old self.new) }
         ensures closed { OnOk result (IsClosed store.now self.new.met) }
     {
-        store.check();
         let Some(commit) = store.commit(id) else {
             return Ok(());
         };
@@ -87,10 +87,22 @@ impl Walk {
             if entry.mode().is_directory() {
                 self.visit_tree(store, entry.id(), below)?;
             } else {
-                self.visit_object(store, entry.id())?;
+                self.visit_file(store, entry)?;
             }
         }
         self.visit_object(store, root)
+    }
+
+    // Visits the object of an entry that is no directory. The commit of another repository is none.
+    fn visit_file(&mut self, store: &GitStore, entry: &TreeEntry) -> Result<(), NoMemory>
+        requires { is_blob_mode entry.now.mode ≡ true → IsKnown store.now entry.now.id }
+        ensures { OnOk result (Visited (file_objects store.now entry.now) self.old self.new) }
+    {
+        if entry.mode().is_blob() {
+            self.visit_object(store, entry.id())
+        } else {
+            Ok(())
+        }
     }
 
     // Visits an object that is known. It is met then.

@@ -3,12 +3,13 @@ use Rattle.std.proofs.Common.{◌≡◌, ◌+◌, Bool, true, false, ◌∷◌, 
 use Rattle.std.specs.Prelude.{◌&&◌}
 use Rattle.std.specs.Option.{option_and_then}
 use Rattle.text_model.specs.Text.{Bytes, lf}
-use Rattle.text_model.specs.Id.{Id, IsId, hex, is_hex_id, id_of_hex, bytes_of_digits}
+use Rattle.text_model.specs.Id.{Id, IsId, hex, is_hex_id, id_of_hex}
 use Rattle.text_model.specs.Cuts.{Lacks, cut_of}
 use Rattle.text_model.proofs.CutLemmas.{cut_of-takes}
 use Rattle.text_model.proofs.HexLemmas.{id_of_hex-takes, id_of_hex-some}
 use Rattle.git_model.specs.Commit.{begins, is_id_line}
-use Rattle.git_model.proofs.OptionLemmas.{none_some, some_is, and_then-some, if-some}
+use Rattle.text_model.proofs.Options.{none_some, some_is}
+use Rattle.git_model.proofs.OptionLemmas.{and_then-some, if-some}
 use Rattle.git_model.proofs.WordLemmas.{begins-takes}
 use Rattle.git_object.specs.Lines.{behind, worded_line, id_line}
 
@@ -19,8 +20,8 @@ pub record HasLine (text word value rest : Bytes) : Type 0 where
   pub len : length text ≡ length word + length value + 1 + length rest
 
 pub map-some : {A B : Type 0} (f : A → B) (o : Option A) (y : B) → option_map f o ≡ Some y → (x : A) × (o ≡ Some x) × (f x ≡ y)
-map-some f None y h = absurd (none_some y h)
-map-some f (Some x) y h = (x, refl, some_is (f x) y h)
+map-some f None y h = absurd (none_some h)
+map-some f (Some x) y h = (x, refl, some_is h)
 
 pub worded_line-takes : (word text value rest : Bytes) → worded_line word text ≡ Some (value, rest) → HasLine text word value rest
 unfolding worded_line
@@ -29,7 +30,7 @@ worded_line-takes word text value rest e =
     let parts = cut_of-takes lf text cut.0.0 cut.0.1 cut.1 in
     let read = map-some (λ v. (v, cut.0.1)) (behind word cut.0.0) (value, rest) cut.2 in
     let worded = if-some (begins word cut.0.0) (Some (drop (length word) cut.0.0)) read.0 read.1 in
-    let is_value : drop (length word) cut.0.0 ≡ value = some_is (drop (length word) cut.0.0) read.0 worded.1 ∙ ap (λ (p : Bytes × Bytes). p.0) read.2 in
+    let is_value : drop (length word) cut.0.0 ≡ value = some_is worded.1 ∙ ap (λ (p : Bytes × Bytes). p.0) read.2 in
     let is_rest : cut.0.1 ≡ rest = ap (λ (p : Bytes × Bytes). p.1) read.2 in
     let line : cut.0.0 ≡ word ++ value = begins-takes word cut.0.0 worded.0 ∙ ap (λ (v : Bytes). word ++ v) is_value in
     let whole : text ≡ (word ++ value) ++ lf ∷ rest = parts.0 ∙ (λ i. line i ++ lf ∷ is_rest i) in
@@ -63,12 +64,12 @@ no_word : (word text : Bytes) → behind word text ≡ None → begins word text
 no_word word text e = by (begins word text) refl
   where
     by : (t : Bool) → begins word text ≡ t → begins word text ≡ false
-    by true t = absurd (none_some (drop (length word) text) (sym e ∙ rw t refl))
+    by true t = absurd (none_some {x = drop (length word) text} (sym e ∙ rw t refl))
     by false t = t
 
 map-none : {A B : Type 0} (f : A → B) (o : Option A) → option_map f o ≡ None → o ≡ None
 map-none f None h = refl
-map-none f (Some x) h = absurd (none_some (f x) (sym h))
+map-none f (Some x) h = absurd (none_some (sym h))
 
 -- the first line, where there is one, doesn't begin with the word
 pub worded_line-none : (word text front rest : Bytes) → worded_line word text ≡ None → cut_of lf text ≡ Some (front, rest) → begins word front ≡ false
@@ -80,7 +81,7 @@ no_id : (text : Bytes) → id_of_hex text ≡ None → is_hex_id text ≡ false
 no_id text e = by (is_hex_id text) refl
   where
     by : (t : Bool) → is_hex_id text ≡ t → is_hex_id text ≡ false
-    by true t = absurd (none_some (bytes_of_digits text) (sym e ∙ id_of_hex-some text t))
+    by true t = absurd (none_some (sym e ∙ id_of_hex-some text t))
     by false t = t
 
 not_id : (a b : Bool) → b ≡ false → (a && b) ≡ false

@@ -9,7 +9,8 @@ use Rattle.text_model.specs.Id.{Id, IsId, hex, ObjectKind, blob, tree, commit, t
 use Rattle.text_model.specs.Cuts.{cut_of}
 use Rattle.text_model.proofs.ByteLemmas.{IsBytes-rest}
 use Rattle.git_model.specs.Commit.{Tag, begins, is_type_line, next_tag_place, tag_fault, IsTagText}
-use Rattle.git_model.proofs.OptionLemmas.{none_some, and_then-some}
+use Rattle.text_model.proofs.Options.{none_some, some_is}
+use Rattle.git_model.proofs.OptionLemmas.{and_then-some}
 use Rattle.git_model.proofs.PlaceLemmas.{reached_start, reached_refused, next_at}
 use Rattle.git_model.proofs.WordLemmas.{begins-word, behind-word}
 use Rattle.git_model.proofs.TagLemmas.{TagAt, at_type, at_name, tag_lines, tag_text-lines}
@@ -20,12 +21,9 @@ use Rattle.git_object.proofs.CommitSteps.{value_line}
 -- ---- the line of the kind
 
 find-takes : {X : Type 0} (p : X → Bool) (xs : List X) (x : X) → find p xs ≡ Some x → p x ≡ true
-find-takes p [] x h = absurd (none_some x h)
+find-takes p [] x h = absurd (none_some h)
 find-takes p (y ∷ ys) x h = by (p y) refl (find-takes p ys x)
   where
-    some_is : Some y ≡ Some x → y ≡ x
-    some_is h = cc
-
     by : (t : Bool) → p y ≡ t → (find p ys ≡ Some x → p x ≡ true) → p x ≡ true
     by true t later = ap p (sym (some_is (sym (rw t refl) ∙ h))) ∙ t
     by false t later = later (sym (rw t refl) ∙ h)
@@ -69,7 +67,7 @@ type_line-none text front rest e cut = by (is_type_line front) refl
         let value : drop 5 front ≡ kind_word found.0 = ap (drop 5) is ∙ behind-word (codes "type ") (kind_word found.0) in
         let line : worded_line (codes "type ") text ≡ Some (kind_word found.0, rest) = rw (cut, worded, value) refl in
         let reads : type_line text ≡ Some (found.0, rest) = rw (line, kind_of-word found.0) refl in
-        absurd (none_some (found.0, rest) (sym e ∙ reads))
+        absurd (none_some (sym e ∙ reads))
     by false t = t
 
 -- ---- the lines, one after the other

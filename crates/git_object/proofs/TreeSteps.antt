@@ -4,19 +4,17 @@ use Rattle.std.specs.Result.{IsErrAnd}
 use Rattle.std.specs.Prelude.{IfErr}
 use Rattle.text_model.specs.Text.{Bytes}
 use Rattle.text_model.specs.Fault.{FaultName}
+use Rattle.text_model.proofs.Options.{none_some}
 use Rattle.git_model.specs.Tree.{TreeEntry, RawEntry, TreeFault, first_entry, judged, tree_fault}
 use Rattle.git_model.proofs.TreeReadLemmas.{TreeTo, read_bad}
 use Rattle.git_object.specs.declared.fault.TreeReadFault.{TreeReadFault}
 use Rattle.git_object.specs.declared.fault.TreeReadFault.TheVariants.{Shape, ModeOut, NameUnfit, Memory}
 use Rattle.git_object.specs.Faults.{IsTreeFault, fault_at}
 
-none_some : (f : TreeFault) → None ≡ Some f → ⊥
-none_some f h = cc
-
 no_fault : (e : TreeReadFault) → IsTreeFault None e → (why : Option TreeFault) → IsTreeFault why e
-no_fault (Shape at) is why = absurd (none_some _ is)
-no_fault (ModeOut at) is why = absurd (none_some _ is)
-no_fault (NameUnfit at) is why = absurd (none_some _ is)
+no_fault (Shape at) is why = absurd (none_some is)
+no_fault (ModeOut at) is why = absurd (none_some is)
+no_fault (NameUnfit at) is why = absurd (none_some is)
 no_fault Memory is why = tt
 
 -- what is wrong with the next entry is what is wrong with the content

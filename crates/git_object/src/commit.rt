@@ -7,7 +7,7 @@ ghost use Rattle.git_object.specs.Lines.{AreParents};
 
 use crate::fault::CommitFault;
 use crate::line::{id_line, put_line, split_headers, worded_line};
-use bridge_text::{Bytes, Id, IdList, NoMemory, each_is_byte};
+use bridge_text::{Bytes, Id, IdList, NoMemory};
 use std::alloc::Global;
 use std::marker::Model;
 
@@ -46,7 +46,6 @@ impl Commit {
         ensures parents { IfOk result (λ commit. commit.parents ≡ parent_ids content.now) }
         ensures fault { IfErr result (IsCommitFault content.now) }
     {
-        each_is_byte(content);
         let Some(tree) = id_line(b"tree ", content) else {
             return Err(CommitFault::Shape(0));
         };
@@ -72,7 +71,7 @@ impl Commit {
         })
     }
 
-    /// Appends the content of the commit, which `read` gives back. After want of memory `out` is
+    /// Appends the content of the commit, which `read` gives back. If memory runs out, `out` is
     /// as it was.
     pub fn write_into(&self, out: &mut Vec<u8>) -> Result<(), NoMemory>
         ensures ok { OnOk result (out.new.items ≡ out.old.items ++ commit_text self.now) }

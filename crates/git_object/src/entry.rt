@@ -133,7 +133,7 @@ fn is_octal_digit(digit: u8) -> bool
     digit >= b'0' && digit <= b'7'
 }
 
-/// Appends the text of an entry. After want of memory `out` is as it was.
+/// Appends the text of an entry. If memory runs out, `out` is as it was.
 pub fn put_entry(out: &mut Vec<u8>, entry: &TreeEntry) -> Result<(), NoMemory>
     ensures ok { OnOk result (out.new.items ≡ out.old.items ++ tree_entry_text entry.now) }
     ensures err { OnErr result (out.new.items ≡ out.old.items) }

@@ -10,9 +10,8 @@ mod line;
 mod mode;
 mod objects;
 mod order;
+mod residue;
 mod tag;
-#[cfg(test)]
-mod tests;
 mod tree;
 
 pub use commit::Commit;
@@ -22,5 +21,7 @@ pub use ident::{Ident, is_zone};
 pub use laws::{commit_laws, ident_laws, object_laws, tag_laws, tree_laws};
 pub use mode::Mode;
 pub use objects::Objects;
+pub use order::OrderName;
+pub use residue::{Residue, ResidueItem, ResidueKind};
 pub use tag::Tag;
 pub use tree::Tree;

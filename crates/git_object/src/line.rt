@@ -4,7 +4,7 @@ ghost use Rattle.text_model.specs.Text.{line};
 ghost use Rattle.bridge_text.specs.Kinds.{object_kind};
 ghost use Rattle.git_object.specs.Lines.{behind, worded_line, id_line, kind_of, type_line, IsSplit, IsCutAt};
 
-use bridge_text::{Id, Kind, NoMemory, cut_at, each_is_byte};
+use bridge_text::{Id, Kind, NoMemory, cut_at};
 
 /// What stands behind the word in the first line, and what follows that line.
 #[tactic(auto, unfolding(crate::specs::Lines::worded_line))]
@@ -67,7 +67,6 @@ fn kind_of(word: &[u8]) -> Option<Kind>
 pub fn split_headers(text: &[u8]) -> Result<(&[u8], &[u8]), usize>
     ensures { MatchResult result (λ x. IsSplit text.now x.0.now x.1.now) (λ at. IsCutAt text.now at) }
 {
-    each_is_byte(text);
     let mut rest = text;
     'lines: while let Some((line, after)) = cut_at(b'\n', rest) {
         if line.is_empty() {
@@ -79,7 +78,7 @@ pub fn split_headers(text: &[u8]) -> Result<(&[u8], &[u8]), usize>
     Err(text.len() - rest.len())
 }
 
-/// Appends a line: the word, the value and an LF. After want of memory `out` is as it was.
+/// Appends a line: the word, the value and an LF. If memory runs out, `out` is as it was.
 pub fn put_line(out: &mut Vec<u8>, word: &[u8], value: &[u8]) -> Result<(), NoMemory>
     ensures ok { OnOk result (out.new.items ≡ out.old.items ++ line (word.now ++ value.now)) }
     ensures err { OnErr result (out.new.items ≡ out.old.items) }

@@ -1,5 +1,5 @@
-ghost use Rattle.std.specs.Prelude.{◌≡◌, option_map};
-ghost use Rattle.git_model.specs.Tree.{is_directory, mode_text, mode_of, is_directory_text};
+ghost use Rattle.std.specs.Prelude.{◌≡◌, option_map, bytes_eq};
+ghost use Rattle.git_model.specs.Tree.{is_directory, is_blob_mode, mode_text, mode_of, is_directory_text};
 ghost use Rattle.git_object.specs.Values.{mode_value};
 
 /// What an entry of a tree is, by its mode, as `git ls-tree` shows it.
@@ -7,12 +7,16 @@ ghost use Rattle.git_object.specs.Values.{mode_value};
 pub enum Mode {
     /// A plain file: `100644`.
     File,
+    /// A plain file that its group may write: `100664`.
+    Group,
     /// A file that can be run: `100755`.
     Exec,
     /// A symbolic link: `120000`.
     Link,
     /// A directory, whose id is that of a tree: `40000`.
     Dir,
+    /// A commit of another repository, whose id it is: `160000`.
+    Gitlink,
 }
 
 impl Mode {
@@ -22,7 +26,17 @@ impl Mode {
     {
         match self {
             Mode::Dir => true,
-            Mode::File | Mode::Exec | Mode::Link => false,
+            Mode::File | Mode::Group | Mode::Exec | Mode::Link | Mode::Gitlink => false,
+        }
+    }
+
+    /// Whether this is the mode of a blob.
+    pub fn is_blob(&self) -> bool
+        ensures { result ≡ is_blob_mode (mode_value self.now) }
+    {
+        match self {
+            Mode::File | Mode::Group | Mode::Exec | Mode::Link => true,
+            Mode::Dir | Mode::Gitlink => false,
         }
     }
 
@@ -32,9 +46,11 @@ impl Mode {
     {
         match self {
             Mode::File => b"100644",
+            Mode::Group => b"100664",
             Mode::Exec => b"100755",
             Mode::Link => b"120000",
             Mode::Dir => b"40000",
+            Mode::Gitlink => b"160000",
         }
     }
 
@@ -42,18 +58,28 @@ impl Mode {
     pub fn of_text(text: &[u8]) -> Option<Mode>
         ensures { option_map mode_value result ≡ mode_of text.now }
     {
-        if text == b"100644".as_slice() {
+        if is_text_of(Mode::File, text) {
             Some(Mode::File)
-        } else if text == b"100755".as_slice() {
+        } else if is_text_of(Mode::Group, text) {
+            Some(Mode::Group)
+        } else if is_text_of(Mode::Exec, text) {
             Some(Mode::Exec)
-        } else if text == b"120000".as_slice() {
+        } else if is_text_of(Mode::Link, text) {
             Some(Mode::Link)
-        } else if text == b"40000".as_slice() {
+        } else if is_text_of(Mode::Dir, text) {
             Some(Mode::Dir)
+        } else if is_text_of(Mode::Gitlink, text) {
+            Some(Mode::Gitlink)
         } else {
             None
         }
     }
+}
+
+fn is_text_of(mode: Mode, text: &[u8]) -> bool
+    ensures { result ≡ bytes_eq (mode_text (mode_value mode)) text.now }
+{
+    text == mode.text()
 }
 
 /// Whether this is the text of a directory's mode.

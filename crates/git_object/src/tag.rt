@@ -5,7 +5,7 @@ ghost use Rattle.git_object.specs.Faults.{IsTagFault};
 
 use crate::fault::TagFault;
 use crate::line::{id_line, put_line, type_line, worded_line};
-use bridge_text::{Bytes, Id, Kind, NoMemory, each_is_byte};
+use bridge_text::{Bytes, Id, Kind, NoMemory};
 use std::alloc::Global;
 use std::marker::Model;
 
@@ -41,7 +41,6 @@ impl Tag {
         ensures target { IfOk result (λ tag. tag.target ≡ tag_target content.now) }
         ensures fault { IfErr result (IsTagFault content.now) }
     {
-        each_is_byte(content);
         let Some(target) = id_line(b"object ", content) else {
             return Err(TagFault::Shape(0));
         };
@@ -59,7 +58,7 @@ impl Tag {
         })
     }
 
-    /// Appends the content of the tag, which `read` gives back. After want of memory `out` is as
+    /// Appends the content of the tag, which `read` gives back. If memory runs out, `out` is as
     /// it was.
     pub fn write_into(&self, out: &mut Vec<u8>) -> Result<(), NoMemory>
         ensures ok { OnOk result (out.new.items ≡ out.old.items ++ tag_text self.now) }

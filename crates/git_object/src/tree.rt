@@ -11,7 +11,7 @@ use crate::entry::{RawEntry, TreeEntry, first_entry, is_octal, put_entry};
 use crate::fault::TreeReadFault;
 use crate::mode::{Mode, is_directory_text};
 use crate::order::OrderName;
-use bridge_text::{Bytes, NoMemory, each_is_byte, fit_name};
+use bridge_text::{Bytes, NoMemory, fit_name};
 use std::alloc::Global;
 use std::marker::Model;
 
@@ -51,7 +51,6 @@ impl Tree {
         ensures entries { IfOk result (λ tree. tree ≡ tree_entries content.now) }
         ensures fault { IfErr result (IsTreeFault (tree_fault content.now)) }
     {
-        each_is_byte(content);
         let mut tree = Tree::new(alloc);
         let mut rest = content;
         'entries: while !rest.is_empty() {
@@ -71,8 +70,8 @@ impl Tree {
         Ok(tree)
     }
 
-    /// Puts an entry at the end, which stands above the others and has a name of its own. After
-    /// want of memory the tree is as it was.
+    /// Puts an entry at the end, which stands above the others and has a name of its own. If
+    /// memory runs out, the tree is as it was.
     pub fn push(&mut self, entry: TreeEntry) -> Result<(), NoMemory>
         requires { IsTree (self.old ++ entry ∷ []) }
         ensures ok { OnOk result (self.new ≡ self.old ++ entry ∷ []) }
@@ -111,7 +110,7 @@ impl Tree {
         self.entries.as_slice()
     }
 
-    /// Appends the content of the tree, which `read` gives back. After want of memory `out` is as
+    /// Appends the content of the tree, which `read` gives back. If memory runs out, `out` is as
     /// it was.
     pub fn write_into(&self, out: &mut Vec<u8>) -> Result<(), NoMemory>
         ensures ok { OnOk result (out.new.items ≡ out.old.items ++ tree_text self.now) }

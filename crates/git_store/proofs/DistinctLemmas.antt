@@ -44,3 +44,12 @@ has_distinct-front [] ys h = absurd (true≢false h)
 has_distinct-front (x ∷ xs) ys h =
     ap (λ (t : Bool). not t && has_distinct (xs ++ ys)) (list_any-append (bytes_eq x) xs ys)
     ∙ spread (list_any (bytes_eq x) xs) (list_any (bytes_eq x) ys) (has_distinct xs) (has_distinct (xs ++ ys)) h (has_distinct-front xs ys)
+
+-- what an insertion into a set says of the ids that were in it
+pub fresh : (new there : Bool) → new ≡ not there → new ≡ true → there ≡ false
+fresh new true is h = absurd (true≢false (sym h ∙ is))
+fresh new false is h = refl
+
+pub again : (new there : Bool) → new ≡ not there → new ≡ false → there ≡ true
+again new true is h = refl
+again new false is h = absurd (true≢false (sym is ∙ h))

@@ -7,6 +7,7 @@ use Rattle.std.specs.List.{list_any}
 use Rattle.std.proofs.lemmas.Slice.Eq.{bytes_eq-Decides}
 use Rattle.text_model.specs.Text.{Bytes}
 use Rattle.text_model.specs.Lists.{Each}
+use Rattle.text_model.proofs.Options.{some_is}
 use Rattle.text_model.proofs.EachLemmas.{Each-push}
 use Rattle.text_model.specs.Id.{Id, IsId, object_id, same_kind}
 use Rattle.text_model.specs.Id as kind
@@ -36,9 +37,6 @@ value-in : (id : Id) (es : List (Id × Held)) → Each (λ e. IsValue e.1.conten
 value-in id [] all held at = absurd cc
 value-in id (e ∷ es) all held at = by (bytes_eq id e.0) refl (value-in id es all.1 held)
   where
-    some_is : {x y : Held} → Some x ≡ Some y → x ≡ y
-    some_is e = cc
-
     by : (t : Bool) → bytes_eq id e.0 ≡ t → (lookup (bytes_eq id) es ≡ Some held → IsValue held.content held.parsed) → IsValue held.content held.parsed
     by true t later = subst (λ (x : Held). IsValue x.content x.parsed) {x = e.1} {y = held} (some_is (sym (rw t refl) ∙ at)) all.0
     by false t later = later (sym (rw t refl) ∙ at)

@@ -1,5 +1,5 @@
 -- The faults of an addition, by the object that has the id.
-use Rattle.std.proofs.Common.{◌≡◌, Bool, true, false, true≢false, not, ◌&&◌, ◌||◌, List, [], ◌∷◌, map, Option, Some, None, refl, sym, ap, subst, ◌∙◌, bytes_eq}
+use Rattle.std.proofs.Common.{◌≡◌, Bool, true, false, true≢false, not, ◌&&◌, List, [], ◌∷◌, map, Option, Some, None, refl, sym, ap, subst, ◌∙◌, bytes_eq}
 use Rattle.std.specs.Prelude.{if◌then◌else◌, is_some}
 use Rattle.std.specs.List.{list_any}
 use Rattle.std.proofs.lemmas.Slice.Eq.{bytes_eq-Decides}
@@ -7,6 +7,7 @@ use Rattle.text_model.specs.Lists.{Each}
 use Rattle.text_model.specs.Id.{Id, ObjectKind, blob, tree, commit, tag, same_kind}
 use Rattle.text_model.specs.Fault.{FaultName, Collision}
 use Rattle.text_model.specs.Fault as name
+use Rattle.text_model.proofs.Options.{some_is, not_true, or_false}
 use Rattle.text_model.proofs.TestLemmas.{both}
 use Rattle.git_model.specs.Tree.{has_distinct}
 use Rattle.git_model.specs.Object.{Object, object_at, knows_object, is_other_content, content_fault, object_fault}
@@ -17,10 +18,6 @@ use Rattle.git_store.specs.Known.{AreKnown, IsSound, is_same_as, knows_same}
 
 abbrev pub ids_of : List Object → List Id
 ids_of known = map (λ (o : Object). o.id) known
-
-not_true : (b : Bool) → not b ≡ true → b ≡ false
-not_true true h = absurd (true≢false (sym h))
-not_true false h = refl
 
 -- an object that was found is of another kind or content
 abbrev is_other_of : Object → Option Object → Bool
@@ -34,10 +31,6 @@ none_other o (x ∷ known) h = by (bytes_eq o.id x.id) refl (none_other o known)
     by : (t : Bool) → bytes_eq o.id x.id ≡ t → (list_any (bytes_eq o.id) (ids_of known) ≡ false → list_any (is_other_content o) known ≡ false) → list_any (is_other_content o) (x ∷ known) ≡ false
     by true t later = absurd (true≢false (sym (rw t refl) ∙ h))
     by false t later = rw t (later (sym (rw t refl) ∙ h))
-
-or_false : (b : Bool) → (b || false) ≡ b
-or_false true = refl
-or_false false = refl
 
 -- where no two have one id, another content is that of the object with this id
 other_content : (o : Object) (known : List Object) → has_distinct (ids_of known) ≡ true → list_any (is_other_content o) known ≡ is_other_of o (object_at known o.id)
@@ -57,7 +50,7 @@ other_content o (x ∷ known) distinct = by (bytes_eq o.id x.id) refl (other_con
 
 -- ---- a content without a fault
 
-fault_by : (known : List Object) (o : Object) → content_fault o.kind o.content ≡ None → object_fault known o ≡ (if list_any (is_other_content o) known then Some Collision else None)
+pub fault_by : (known : List Object) (o : Object) → content_fault o.kind o.content ≡ None → object_fault known o ≡ (if list_any (is_other_content o) known then Some Collision else None)
 unfolding object_fault
 fault_by known o fits = rw (fits, object_fault) refl
 
@@ -80,7 +73,7 @@ module _ (known : List Object) (are : AreKnown known) (o : Object) where
       by (Some h) e k = rw e refl
 
 -- a fault of the content comes first
-first : (known : List Object) (o : Object) (name : FaultName) → content_fault o.kind o.content ≡ Some name → object_fault known o ≡ Some name
+pub first : (known : List Object) (o : Object) (name : FaultName) → content_fault o.kind o.content ≡ Some name → object_fault known o ≡ Some name
 unfolding object_fault
 first known o name h = rw (h, object_fault) refl
 
@@ -118,9 +111,6 @@ pub found-sound : (P : Object → Type 0) (known : List Object) (id : Id) (h : O
 found-sound P [] id h all e = absurd cc
 found-sound P (x ∷ known) id h all e = by (bytes_eq id x.id) refl (found-sound P known id h all.1)
   where
-    some_is : {x y : Object} → Some x ≡ Some y → x ≡ y
-    some_is e = cc
-
     by : (t : Bool) → bytes_eq id x.id ≡ t → (object_at known id ≡ Some h → P h) → P h
     by true t later = subst P {x = x} {y = h} (some_is (sym (rw t refl) ∙ e)) all.0
     by false t later = later (sym (rw t refl) ∙ e)

@@ -1,10 +1,11 @@
 ghost use Rattle.std.specs.Prelude.{◌≡◌, None, false, IfOk, OnOk, OnErr, IfErr};
 ghost use Rattle.text_model.specs.Id.{object_id};
+ghost use Rattle.text_model.specs.Text.{IsBytes};
 ghost use Rattle.bridge_text.specs.Kinds.{object_kind};
 ghost use Rattle.git_model.specs.Object.{content_fault, object_fault, objects_after, knows_object};
 ghost use Rattle.git_store.specs.Faults.{IsFault};
 ghost use Rattle.git_store.specs.Held.{IsParsed};
-ghost use Rattle.git_store.specs.Known.{object_with, answer_of, knows_same};
+ghost use Rattle.git_store.specs.Known.{AreKnown, object_with, answer_of, knows_same};
 
 use crate::fault::GitAddFault;
 use crate::held::Parsed;
@@ -23,8 +24,9 @@ impl GitStore {
         ensures ok { OnOk result (self.new ≡ objects_after self.old (object_with id kind content.items)) }
         ensures fault { IfErr result (IsFault (object_fault self.old (object_with id kind content.items))) }
         ensures err { OnErr result (self.new ≡ self.old) }
+        ensures before { AreKnown self.old }
+        ensures known { AreKnown self.new }
     {
-        self.check();
         if self.knows_same(&id, kind, &content) {
             return Ok(Added::Known);
         }
@@ -35,7 +37,9 @@ impl GitStore {
 
     // Whether the id is known with this kind and content.
     fn knows_same(&self, id: &Id, kind: Kind, content: &[u8]) -> bool
-        ensures { result ≡ knows_same self.now (object_with id.now kind content.now) }
+        ensures same { result ≡ knows_same self.now (object_with id.now kind content.now) }
+        ensures bytes { IsBytes content.now }
+        ensures known { AreKnown self.now }
     {
         match self.get(id) {
             Some(held) => held.is_like(kind, content),
@@ -52,7 +56,6 @@ impl GitStore {
         ensures value { IfOk result (IsParsed (object_kind kind) content.now) }
         ensures fault { IfErr result (IsFault (object_fault self.now (object_with id.now kind content.now))) }
     {
-        self.check();
         let parsed = parse(self.alloc(), kind, content)?;
         if self.knows(id) {
             return Err(GitAddFault::Collision);

@@ -29,7 +29,7 @@ impl Parsed {
     }
 }
 
-/// An object that is held: its content and what this says.
+/// A stored object: its content and what this says.
 #[derive(Drop)]
 pub struct Held {
     pub content: Bytes,

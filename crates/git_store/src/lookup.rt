@@ -1,6 +1,6 @@
 ghost use Rattle.std.specs.Prelude.{◌≡◌, None, MatchOption};
 ghost use Rattle.text_model.specs.Id as kinds;
-ghost use Rattle.git_store.specs.Known.{content_at, IsCommitAt, IsTagAt};
+ghost use Rattle.git_store.specs.Known.{AreKnown, content_at, IsCommitAt, IsTagAt};
 
 use crate::held::Parsed;
 use crate::store::GitStore;
@@ -10,11 +10,10 @@ use git_object::{Commit, Objects, Tag, Tree};
 impl GitStore {
     /// The commit with this id; `None` exactly where no object with this id is a commit. It takes no memory.
     pub fn commit(&self, id: &Id) -> Option<&Commit>
-        ensures { MatchOption result (content_at kinds.commit self.now id.now ≡ None) (λ commit. IsCommitAt self.now id.now commit.now) }
+        ensures commit { MatchOption result (content_at kinds.commit self.now id.now ≡ None) (λ commit. IsCommitAt self.now id.now commit.now) }
+        ensures known { AreKnown self.now }
     {
-        let Some(held) = self.get(id) else {
-            return None;
-        };
+        let held = self.get(id)?;
         match &held.parsed {
             Parsed::Commit(commit) => Some(commit),
             Parsed::Blob => None,
@@ -25,11 +24,10 @@ impl GitStore {
 
     /// The tag with this id; `None` exactly where no object with this id is a tag. It takes no memory.
     pub fn tag(&self, id: &Id) -> Option<&Tag>
-        ensures { MatchOption result (content_at kinds.tag self.now id.now ≡ None) (λ tag. IsTagAt self.now id.now tag.now) }
+        ensures tag { MatchOption result (content_at kinds.tag self.now id.now ≡ None) (λ tag. IsTagAt self.now id.now tag.now) }
+        ensures known { AreKnown self.now }
     {
-        let Some(held) = self.get(id) else {
-            return None;
-        };
+        let held = self.get(id)?;
         match &held.parsed {
             Parsed::Tag(tag) => Some(tag),
             Parsed::Blob => None,
@@ -43,18 +41,12 @@ impl Objects for GitStore {
     ghost objects = { λ store. store };
 
     fn content(&self, id: &Id) -> Option<(Kind, &[u8])> {
-        self.check();
-        match self.get(id) {
-            Some(held) => Some((held.parsed.kind(), held.content.as_slice())),
-            None => None,
-        }
+        let held = self.get(id)?;
+        Some((held.parsed.kind(), held.content.as_slice()))
     }
 
     fn tree(&self, id: &Id) -> Option<&Tree> {
-        self.check();
-        let Some(held) = self.get(id) else {
-            return None;
-        };
+        let held = self.get(id)?;
         match &held.parsed {
             Parsed::Tree(tree) => Some(tree),
             Parsed::Blob => None,

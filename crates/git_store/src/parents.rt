@@ -11,7 +11,7 @@ use std::alloc::Global;
 /// How many parents a commit has at most.
 const MOST_PARENTS: usize = 64;
 
-/// Sees that no parent is named twice, and that there are at most 64, in this order.
+/// Checks that no parent is named twice, and then that there are at most 64.
 pub fn check_parents(alloc: Global, parents: &[Id]) -> Result<(), GitAddFault>
     ensures ok { OnOk result (parents_fault parents.now ≡ None) }
     ensures fault { IfErr result (IsFault (parents_fault parents.now)) }

@@ -1,12 +1,13 @@
 ghost use Rattle.std.specs.Prelude.{◌≡◌, ◌++◌, [], ◌∷◌, None, false, OnOk, OnErr, IfSome, option_map};
 ghost use Rattle.std.specs.Option.{option_copied};
 ghost use Rattle.text_model.specs.Id.{object_id};
+ghost use Rattle.text_model.specs.Text.{IsBytes};
 ghost use Rattle.git_model.specs.Object.{object_at, knows_object, content_fault};
 ghost use Rattle.git_store.specs.Known.{AreKnown};
 ghost use Rattle.git_store.specs.Held.{object_in, IsValue, parsed_kind};
 
 use crate::held::{Held, Parsed};
-use bridge_text::{Bytes, Id, NoMemory, each_is_byte};
+use bridge_text::{Bytes, Id, NoMemory};
 use indexmap::IndexMap;
 use std::alloc::Global;
 use std::marker::Model;
@@ -53,17 +54,21 @@ impl GitStore {
     pub(crate) fn get(&self, id: &Id) -> Option<&Held>
         ensures object { option_map (λ h. object_in (id.now, h)) (option_copied result) ≡ object_at self.now id.now }
         ensures value { IfSome result (λ held. IsValue held.now.content held.now.parsed) }
+        ensures known { AreKnown self.now }
     {
         self.objects.get(id)
     }
 
     pub(crate) fn knows(&self, id: &Id) -> bool
-        ensures { result ≡ knows_object self.now id.now }
+        ensures there { result ≡ knows_object self.now id.now }
+        ensures known { AreKnown self.now }
     {
         self.get(id).is_some()
     }
 
-    pub(crate) fn alloc(&self) -> Global {
+    pub(crate) fn alloc(&self) -> Global
+        ensures known { AreKnown self.now }
+    {
         self.alloc
     }
 
@@ -73,11 +78,11 @@ impl GitStore {
         requires fresh { knows_object self.old id ≡ false }
         requires fits { content_fault (parsed_kind parsed) content.items ≡ None }
         requires value { IsValue content.items parsed }
+        requires bytes { IsBytes content.items }
         ensures ok { OnOk result (self.new ≡ self.old ++ record { id = id; kind = parsed_kind parsed; content = content.items } ∷ []) }
         ensures err { OnErr result (self.new ≡ self.old) }
+        ensures known { AreKnown self.new }
     {
-        let _bytes = id.bytes();
-        each_is_byte(&content);
         let held = Held {
             content: Bytes::keep(content),
             parsed,

@@ -7,16 +7,16 @@ use Rattle.text_model.specs.Id.{Id, ObjectKind, blob, tree, commit, tag, same_ki
 use Rattle.git_model.specs.Tree.{TreeEntry}
 use Rattle.git_model.specs.Object.{Object, object_at, entries_of, tree_at}
 use Rattle.git_model.specs.Unfold.{is_kind_there}
-use Rattle.git_model.proofs.OptionLemmas.{none_some, some_is}
+use Rattle.text_model.proofs.Options.{none_some, some_is}
 use Rattle.git_store.specs.Known.{IsSound, AreKnown}
 
 -- what holds of all objects holds of one that is found, and its id is the one asked for
 find-each : (P : Object → Type 0) (known : List Object) (id : Id) (o : Object) → Each P known → object_at known id ≡ Some o → P o × (id ≡ o.id)
-find-each P [] id o each at = absurd (none_some o at)
+find-each P [] id o each at = absurd (none_some {x = o} at)
 find-each P (x ∷ known) id o each at = by (bytes_eq id x.id) refl at (find-each P known id o each.1)
   where
     by : (t : Bool) → bytes_eq id x.id ≡ t → (if t then Some x else object_at known id) ≡ Some o → (object_at known id ≡ Some o → P o × (id ≡ o.id)) → P o × (id ≡ o.id)
-    by true t is later = let same = some_is x o is in (subst P same each.0, (bytes_eq-Decides id x.id).0 t ∙ ap (λ (p : Object). p.id) same)
+    by true t is later = let same = some_is {x = x} {y = o} is in (subst P same each.0, (bytes_eq-Decides id x.id).0 t ∙ ap (λ (p : Object). p.id) same)
     by false t is later = later is
 
 pub found-id : (known : List Object) (id : Id) (o : Object) → object_at known id ≡ Some o → id ≡ o.id
@@ -40,7 +40,7 @@ pub some-tree : (known : List Object) (id : Id) (entries : List TreeEntry) → t
 some-tree known id entries h = by (object_at known id) refl h
   where
     by : (o : Option Object) → object_at known id ≡ o → entries_of o ≡ Some entries → (o : Object) × (object_at known id ≡ Some o)
-    by None e i = absurd (none_some entries i)
+    by None e i = absurd (none_some {x = entries} i)
     by (Some o) e i = (o, e)
 
 pub kind-is : (a b : ObjectKind) → same_kind a b ≡ true → a ≡ b

@@ -6,3 +6,4 @@ pub mod Shapes
 pub mod Held
 pub mod Right
 pub mod One
+pub mod WalkGrowth

@@ -1,6 +1,6 @@
 -- A held commit is a right view: its tree is the root of its files.
-use Rattle.std.proofs.Common.{◌≡◌, ◌≤◌, ℕ, Bool, true, false, true≢false, not, List, [], ◌∷◌, map, length, Some, None, refl, sym, ap, subst, ◌∙◌, inl, inr, arith}
-use Rattle.std.specs.Prelude.{IsTrue, filter, if◌then◌else◌, is_some, nat_lt}
+use Rattle.std.proofs.Common.{◌≡◌, ◌≤◌, ℕ, Bool, true, false, not, List, [], ◌∷◌, map, length, Some, None, refl, sym, ap, subst, ◌∙◌, inl, inr, arith}
+use Rattle.std.specs.Prelude.{IsTrue, if◌then◌else◌, is_some, nat_lt}
 use Rattle.std.specs.List.{list_any}
 use Rattle.std.proofs.lemmas.Bool.Decides.{nat_tests}
 use Rattle.text_model.specs.Lists.{In, Each, rises}
@@ -9,19 +9,19 @@ use Rattle.text_model.specs.Id.{Id, blob, tree, commit, blob_id, object_id}
 use Rattle.text_model.specs.Path.{is_fit_path, lies_below}
 use Rattle.text_model.specs.Fault.{FaultName}
 use Rattle.text_model.specs.Fault as fault
-use Rattle.git_model.specs.Tree.{Mode, File, Exec, Link, Directory, is_directory, is_blob_mode, tree_text, has_distinct}
+use Rattle.git_model.specs.Tree.{Mode, File, GroupFile, Exec, Link, Directory, Gitlink, is_directory, is_blob_mode, tree_text, has_distinct}
 use Rattle.git_model.specs.Commit.{commit_fault, parent_ids}
 use Rattle.git_model.specs.Object.{Object, content_fault}
-use Rattle.git_model.specs.Unfold.{FileRow, is_row, walk, walk_fault}
+use Rattle.git_model.specs.Unfold.{FileRow, tree_rows, walk_fault}
 use Rattle.git_model.specs.Shape.{leaf_of, shape_entries, root_of}
 use Rattle.git_model.proofs.CommitLemmas.{parent_ids-text}
-use Rattle.git_model.proofs.OptionLemmas.{some_is}
+use Rattle.text_model.proofs.Options.{some_is}
 use Rattle.git_store.specs.Known.{AreKnown}
 use Rattle.tree_shape.specs.Sets.{IsFileRow, IsFiles}
 use Rattle.tree_shape.proofs.Again.{root-again}
 use Rattle.tree_shape.proofs.Unfolding.{walk-files}
-use Rattle.view_model.specs.View.{CommitView, TreeRow, IsCommitView, leaf_of_row, root_of_rows, tree_paths, has_clash}
-use Rattle.view_model.specs.Held.{file_row_of, IsBlobHeld, IsCommitHeld}
+use Rattle.view_model.specs.View.{CommitView, TreeRow, IsRowId, IsCommitView, leaf_of_row, root_of_rows, tree_paths, has_clash}
+use Rattle.view_model.specs.Held.{file_row_of, IsBlobHeld, IsRowHeld, IsCommitHeld}
 use Rattle.git_view.proofs.Found.{There, found}
 use Rattle.git_view.proofs.Walks.{none-refused, apart}
 use Rattle.git_view.proofs.Rows.{blob-of, rows-are}
@@ -49,28 +49,36 @@ parents-of content h =
 
 -- ---- the rows
 
-pub blob-mode : (m : Mode) → is_directory m ≡ false → is_blob_mode m ≡ true
-blob-mode File h = refl
-blob-mode Exec h = refl
-blob-mode Link h = refl
-blob-mode Directory h = absurd (true≢false h)
-
 abbrev IsRow : TreeRow → Type 0
-IsRow row = IsTrue (is_fit_path row.path) × IsBytes row.path × IsBytes row.content × IsTrue (is_blob_mode row.mode) × (row.id ≡ blob_id row.content)
+IsRow row = IsTrue (is_fit_path row.path) × IsBytes row.path × IsBytes row.content × IsRowId row.mode row.id row.content
 
 module _ (known : List Object) (are : AreKnown known) where
-  row-is : (row : TreeRow) → IsFileRow (file_row_of row) → There known blob row.id → IsBlobHeld known row → IsRow row
-  row-is row is there held =
-      let o : there.object ≡ held.0 = some_is there.object held.0 (sym there.at ∙ held.1) in
-      let of = found known row.id held.0 are held.1 in (
-        is.fit,
-        is.bytes,
-        subst IsBytes held.2 of.sound.bytes,
-        blob-mode row.mode is.file,
-        of.id_is ∙ of.of_content ∙ (λ i. object_id ((ap (λ (x : Object). x.kind) (sym o) ∙ there.kind_is) i) (held.2 i)),
-      )
+  -- what is known of a row that is a file
+  blob-is : (row : TreeRow) → There known blob row.id → IsBlobHeld known row → IsBytes row.content × (row.id ≡ blob_id row.content)
+  blob-is row there held =
+      let o : there.object ≡ held.0 = some_is {x = there.object} {y = held.0} (sym there.at ∙ held.1) in
+      let of = found known row.id held.0 are held.1 in
+      (subst IsBytes held.2 of.sound.bytes, of.id_is ∙ of.of_content ∙ (λ i. object_id ((ap (λ (x : Object). x.kind) (sym o) ∙ there.kind_is) i) (held.2 i)))
 
-  rows-are_rows : (rows : List TreeRow) → Each IsFileRow (map file_row_of rows) → ((row : FileRow) → In row (map file_row_of rows) → There known blob row.id) → Each (IsBlobHeld known) rows → Each IsRow rows
+  row-is : (row : TreeRow) → IsFileRow (file_row_of row) → (is_blob_mode row.mode ≡ true → There known blob row.id) → IsRowHeld known row → IsRow row
+  row-is row is there held = (is.fit, is.bytes, bytes (is_blob_mode row.mode) refl, id row.mode refl)
+    where
+      file : is_blob_mode row.mode ≡ true → IsBytes row.content × (row.id ≡ blob_id row.content)
+      file t = blob-is row (there t) (held.blob t)
+
+      bytes : (t : Bool) → is_blob_mode row.mode ≡ t → IsBytes row.content
+      bytes true t = (file t).0
+      bytes false t = subst IsBytes (sym (held.none t)) tt
+
+      id : (m : Mode) → row.mode ≡ m → IsRowId m row.id row.content
+      id File m = (file (ap is_blob_mode m)).1
+      id GroupFile m = (file (ap is_blob_mode m)).1
+      id Exec m = (file (ap is_blob_mode m)).1
+      id Link m = (file (ap is_blob_mode m)).1
+      id Directory m = (is.empty (ap is_directory m), held.none (ap is_blob_mode m))
+      id Gitlink m = (is.id, held.none (ap is_blob_mode m))
+
+  rows-are_rows : (rows : List TreeRow) → Each IsFileRow (map file_row_of rows) → ((row : FileRow) → In row (map file_row_of rows) → is_blob_mode row.mode ≡ true → There known blob row.id) → Each (IsRowHeld known) rows → Each IsRow rows
   rows-are_rows [] files there held = tt
   rows-are_rows (row ∷ rows) files there held = (row-is row files.0 (there (file_row_of row) (inl refl)) held.0, rows-are_rows rows files.1 (λ r i. there r (inr i)) held.1)
 
@@ -106,7 +114,7 @@ module _ (known : List Object) (are : AreKnown known) (id : Id) where
       let of = found known id held.object are held.is_held in
       let parents : Parents (parent_ids held.object.content) = parents-of held.object.content (subst (λ k. content_fault k held.object.content ≡ None) held.kind of.sound.fits) in
       let same : parent_ids held.object.content ≡ (c.value).parents = parent_ids-text held.object.content c.value held.text in
-      let rows : map file_row_of c.rows ≡ filter is_row (walk known root) = rows-are known id c are.are held walks in
+      let rows : map file_row_of c.rows ≡ tree_rows known root = rows-are known id c are.are held walks in
       let files : IsFiles (map file_row_of c.rows) = subst IsFiles (sym rows) (walk-files known root are.are (none-refused known are.are root walks)) in
       record {
         value = held.text.0;

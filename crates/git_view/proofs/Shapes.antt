@@ -5,16 +5,16 @@ use Rattle.std.specs.List.{filter_map, cons_option}
 use Rattle.text_model.specs.Lists.{first_of_each, in_order}
 use Rattle.text_model.specs.Text.{Bytes}
 use Rattle.text_model.specs.Id.{Id, tree, object_id}
-use Rattle.git_model.specs.Tree.{Directory, TreeEntry, tree_text, is_entry_below}
+use Rattle.git_model.specs.Tree.{Mode, Directory, TreeEntry, tree_text, is_entry_below}
 use Rattle.git_model.specs.Shape.{Leaf, leaf_of, first_name_of, first_names, cut_name, leaves_below, is_named, leaf_named, shape_entries}
 use Rattle.tree_shape.specs.Shapes.{entry_of}
 use Rattle.view_model.specs.View.{TreeRow, leaf_of_row}
 use Rattle.view_model.specs.Held.{file_row_of}
 
 -- files with other contents
-module _ (content : Id → Bytes) where
+module _ (content : Mode → Id → Bytes) where
   abbrev pub filled : Leaf → Leaf
-  filled leaf = record { names = leaf.names; mode = leaf.mode; id = leaf.id; content = content leaf.id }
+  filled leaf = record { names = leaf.names; mode = leaf.mode; id = leaf.id; content = content leaf.mode leaf.id }
 
   pub first_names-filled : (leaves : List Leaf) → first_names (map filled leaves) ≡ first_names leaves
   first_names-filled leaves = ap (first_of_each bytes_eq) (each leaves)
@@ -28,7 +28,7 @@ module _ (content : Id → Bytes) where
   cut-filled name leaf (first ∷ []) = refl
   cut-filled name leaf (first ∷ next ∷ names) = by (bytes_eq first name)
     where
-      by : (t : Bool) → (if t then Some (record { names = next ∷ names; mode = leaf.mode; id = leaf.id; content = content leaf.id }) else None)
+      by : (t : Bool) → (if t then Some (record { names = next ∷ names; mode = leaf.mode; id = leaf.id; content = content leaf.mode leaf.id }) else None)
           ≡ option_map filled (if t then Some (record { names = next ∷ names; mode = leaf.mode; id = leaf.id; content = leaf.content }) else None)
       by true = refl
       by false = refl
@@ -75,9 +75,9 @@ module _ (content : Id → Bytes) where
           ∙ entry-filled name (leaf_named name leaves) (shape_entries depth (leaves_below name leaves))) i ∷ each names rec i)
 
 -- rows without their contents
-same-leaves : (rows : List TreeRow) → map (filled (λ _. [])) (map leaf_of_row rows) ≡ map leaf_of (map file_row_of rows)
+pub same-leaves : (rows : List TreeRow) → map (filled (λ _ _. [])) (map leaf_of_row rows) ≡ map leaf_of (map file_row_of rows)
 same-leaves [] = refl
 same-leaves (row ∷ rows) = ap (λ (l : List Leaf). leaf_of (file_row_of row) ∷ l) (same-leaves rows)
 
 pub same-entries : (depth : ℕ) (rows : List TreeRow) → shape_entries depth (map leaf_of_row rows) ≡ shape_entries depth (map leaf_of (map file_row_of rows))
-same-entries depth rows = sym (entries-filled (λ _. []) depth (map leaf_of_row rows)) ∙ ap (shape_entries depth) (same-leaves rows)
+same-entries depth rows = sym (entries-filled (λ _ _. []) depth (map leaf_of_row rows)) ∙ ap (shape_entries depth) (same-leaves rows)

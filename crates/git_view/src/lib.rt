@@ -4,6 +4,3 @@
 mod laws;
 
 pub use laws::commits_are_held;
-
-#[cfg(test)]
-mod tests;

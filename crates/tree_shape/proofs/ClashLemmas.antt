@@ -126,15 +126,15 @@ below-row (a ∷ rows) row b o i = elim i [
   | inr j ↦ below-row rows row b (rises-rest a (rows ++ row ∷ []) o) j
 ]
 
-drop-front : (d s : Bytes) → drop (length d) (d ++ s) ≡ s
+pub drop-front : (d s : Bytes) → drop (length d) (d ++ s) ≡ s
 drop-front [] s = refl
 drop-front (x ∷ d) s = drop-front d s
 
-take-front : (d s : Bytes) → take (length d) (d ++ s) ≡ d
+pub take-front : (d s : Bytes) → take (length d) (d ++ s) ≡ d
 take-front [] s = refl
 take-front (x ∷ d) s = (λ k. x ∷ take-front d s k)
 
-slash-first : (s : Bytes) → begins_with_slash s ≡ true → (more : Bytes) × (s ≡ 47 ∷ more)
+pub slash-first : (s : Bytes) → begins_with_slash s ≡ true → (more : Bytes) × (s ≡ 47 ∷ more)
 slash-first [] h = absurd (clash (sym h))
 slash-first (b ∷ s) h = (s, (λ k. eqb-true b 47 h k ∷ s))
 

@@ -1,18 +1,18 @@
 -- Sets of files: their order and their clashes.
-use Rattle.std.proofs.Common.{◌≡◌, ◌≢◌, ◌<◌, ◌+◌, ℕ, suc, Bool, true, false, not, ◌&&◌, ◌||◌, ◌==◌, List, [], ◌∷◌, ◌++◌, length, take, drop, get_or, map, Option, Some, None, refl, sym, ap, subst, ◌∙◌, inl, inr, arith}
+use Rattle.std.proofs.Common.{◌≡◌, ◌≢◌, ◌<◌, ◌+◌, ℕ, suc, Bool, true, false, not, ◌&&◌, ◌||◌, ◌==◌, List, [], ◌∷◌, ◌++◌, length, take, drop, get_or, map, Option, Some, None, refl, sym, ap, ◌∙◌, inl, inr, arith}
 use Rattle.std.specs.Prelude.{if◌then◌else◌, nat_le}
 use Rattle.std.specs.List.{list_any, list_all, onto_first}
 use Rattle.std.proofs.lemmas.Bool.{eqb-true}
 use Rattle.std.proofs.Math.Seq.{take-suc, drop-cons}
 use Rattle.text_model.specs.Lists.{In, Each, rises}
 use Rattle.text_model.specs.Text.{Bytes, is_below, has_byte}
+use Rattle.text_model.specs.Id.{tree, object_id}
 use Rattle.text_model.specs.Path.{components, is_fit_path, is_fit_component, lies_below}
 use Rattle.git_model.specs.Tree.{is_directory}
 use Rattle.git_model.specs.Unfold.{FileRow}
-use Rattle.git_model.specs.Shape.{first_clash, clash_from, root_of, trees_of}
-use Rattle.tree_shape.specs.Shapes.{shorts, Before, IsFile, Good, id_of_rows, trees_of_rows}
-use Rattle.tree_shape.specs.Sets.{IsFileRow, IsFiles}
-use Rattle.tree_shape.proofs.Elements.{each-from, in-left, in-right}
+use Rattle.git_model.specs.Shape.{first_clash, clash_from}
+use Rattle.tree_shape.specs.Shapes.{IsFile}
+use Rattle.tree_shape.proofs.Elements.{in-left}
 use Rattle.text_model.proofs.OrderLemmas.{is_below-chain}
 use Rattle.text_model.proofs.TestLemmas.{both}
 
@@ -84,7 +84,7 @@ plain-onto : (b : ℕ) (parts : List Bytes) → (b == 47) ≡ false → Each (λ
 plain-onto b [] e h = (ap (λ (t : Bool). t || false) e, tt)
 plain-onto b (p ∷ parts) e h = (ap (λ (t : Bool). t || has_byte 47 p) e ∙ h.0, h.1)
 
-plain-components : (path : Bytes) → Each (λ n. has_byte 47 n ≡ false) (components path)
+pub plain-components : (path : Bytes) → Each (λ n. has_byte 47 n ≡ false) (components path)
 plain-components [] = (refl, tt)
 plain-components (b ∷ path) = by (b == 47) refl (plain-components path)
   where
@@ -102,13 +102,13 @@ names-fit (n ∷ names) h p =
     some [] h e = absurd cc
     some (b ∷ n) h e = cc
 
-fit-file : (row : FileRow) → is_fit_path row.path ≡ true → is_directory row.mode ≡ false → IsFile row
+pub fit-file : (row : FileRow) → is_fit_path row.path ≡ true → (is_directory row.mode ≡ true → row.id ≡ object_id tree []) → IsFile row
 unfolding is_fit_path
 fit-file row h d = record {
   names = names-fit (components row.path)
       (both (not (length row.path == 0) && nat_le (length row.path) 4096 && nat_le (length (components row.path)) 256 && not (has_byte 0 row.path) && not (has_byte 10 row.path) && not (has_byte 13 row.path)) (list_all is_fit_component (components row.path)) h).1
       (plain-components row.path);
-  file = d;
+  empty = d;
 }
 
 -- ---- rows that stand in order
@@ -125,31 +125,3 @@ later a (b ∷ rows) t h i =
 pub rises-rest : (a : FileRow) (rows : List FileRow) → rises is_below (map (λ r. r.path) (a ∷ rows)) ≡ true → rises is_below (map (λ r. r.path) rows) ≡ true
 rises-rest a [] h = refl
 rises-rest a (b ∷ rows) h = (both (is_below a.path b.path) (rises is_below (map (λ r. r.path) (b ∷ rows))) h).1
-
-good-from : (at : ℕ) (before rows : List FileRow) → clash_from at before rows ≡ None → Each IsFileRow rows
-    → rises is_below (map (λ r. r.path) rows) ≡ true → Good rows
-good-from at before [] h f o = tt
-good-from at before (a ∷ rows) h f o =
-    let rest = clash-rest at before a rows h in (
-      fit-file a f.0.fit f.0.file,
-      each-from (Before a) rows (λ t i. record {
-        below = later a rows t o i;
-        apart = no-clash (at + 1) (before ++ a ∷ []) rows rest a t (in-right a before (a ∷ []) (inl refl)) i;
-      }),
-      good-from (at + 1) (before ++ a ∷ []) rows rest f.1 (rises-rest a rows o),
-    )
-
-pub shorts-none : (rows : List FileRow) → shorts 0 rows ≡ rows
-shorts-none [] = refl
-shorts-none (r ∷ rows) = (λ k. r ∷ shorts-none rows k)
-
-pub good-files : (rows : List FileRow) → IsFiles rows → first_clash rows ≡ None → Good (shorts 0 rows)
-good-files rows f h = subst Good (sym (shorts-none rows)) (good-from 0 [] rows h f.each f.in_order)
-
-pub root-is : (rows : List FileRow) → id_of_rows 257 (shorts 0 rows) ≡ root_of rows
-unfolding root_of
-root-is rows = ap (id_of_rows 257) (shorts-none rows)
-
-pub trees-is : (rows : List FileRow) → trees_of_rows 257 (shorts 0 rows) ≡ trees_of rows
-unfolding trees_of
-trees-is rows = ap (trees_of_rows 257) (shorts-none rows)

@@ -11,10 +11,10 @@ use Rattle.text_model.specs.Path.{components, is_fit_path, is_fit_name}
 use Rattle.text_model.proofs.ByteLemmas.{IsBytes-front, IsBytes-rest}
 use Rattle.text_model.proofs.EachLemmas.{Each-front, Each-rest}
 use Rattle.text_model.proofs.LackLemmas.{has_byte-lacks}
-use Rattle.git_model.specs.Tree.{Directory, TreeEntry, IsTree, tree_text, has_distinct}
+use Rattle.git_model.specs.Tree.{Directory, is_directory, TreeEntry, IsTree, tree_text, has_distinct}
 use Rattle.git_model.specs.Object.{Object, object_of, object_at, entries_of, tree_at}
-use Rattle.git_model.specs.Unfold.{FileRow}
-use Rattle.git_model.specs.Shape.{Leaf, leaf_of, first_names}
+use Rattle.git_model.specs.Unfold.{FileRow, has_no_entries}
+use Rattle.git_model.specs.Shape.{Leaf, leaf_of, first_names, shape_entries, shape_objects}
 use Rattle.git_model.proofs.TreeTextLemmas.{tree_entries-text}
 use Rattle.tree_shape.specs.Laws.{IsKnown, AreKnown}
 use Rattle.tree_shape.specs.Sets.{IsFileRow}
@@ -22,8 +22,11 @@ use Rattle.tree_shape.specs.Shapes.{entry_of, entries_in, trees_in, id_of_rows, 
 use Rattle.tree_shape.proofs.FitPieces.{fit-pieces, fit-name}
 use Rattle.tree_shape.proofs.IdLemmas.{IsId-object_id}
 use Rattle.tree_shape.proofs.Leaves.{NotFirst, entry_of-name, first_names-other, other}
-use Rattle.tree_shape.proofs.PutRows.{entries-dir, trees-dir, entries-file, trees-file}
-use Rattle.tree_shape.proofs.Rebuilding.{put_name, leaf_at, entry_leaves, leaves_in, leaves-some, Below, Sound}
+use Rattle.tree_shape.proofs.PutRows.{entries-dir, trees-dir, entries-file, trees-file, trees-empty}
+use Rattle.tree_shape.proofs.Unfolding.{text-none}
+use Rattle.tree_shape.proofs.Unfolding.{row-of-last}
+use Rattle.tree_shape.specs.Wholes.{put_name, leaf_at, is_leaf, entry_leaves, leaves_in, Below, Sound}
+use Rattle.tree_shape.proofs.Rebuilding.{file-leaf, leaves-some}
 use Rattle.tree_shape.proofs.Rows.{clash, deep, flat, is-in, in-is, Splits, file-one, dir-one, good-rest, good-front, shorter, shorter-path, shorter-good}
 use Rattle.tree_shape.proofs.Sorted.{entries-rise, id-is, trees-are}
 use Rattle.tree_shape.proofs.Turns.{prefix-all, prefix-stops}
@@ -67,7 +70,7 @@ shorter-row name row i f =
     record {
       fit = ap is_fit_path (shorter-path name row u) ∙ pieces.second;
       bytes = subst IsBytes (sym (shorter-path name row u)) (IsBytes-rest name (47 ∷ u.0) (subst IsBytes u.1.is f.bytes)).1;
-      file = f.file;
+      empty = f.empty;
       id = f.id;
     }
 
@@ -122,13 +125,13 @@ module _ (known : List Object) where
     each : Each IsEntry entries
     distinct : has_distinct (names entries) ≡ true
     below : Each (Below (Sound known depth)) entries
-    leaves_are : flat_map (entry_leaves (leaves_in known depth)) entries ≡ all
+    leaves_are : flat_map (entry_leaves known (leaves_in known depth)) entries ≡ all
 
   abbrev Lower : ℕ → Type 0
   Lower depth = (less : ℕ) → depth ≡ suc less → Level less
 
   -- an entry before others
-  part-more : (depth : ℕ) (e : TreeEntry) (rest : List FileRow) (front : List Leaf) → IsEntry e → Each (NotFirst e.name) (leaves rest) → Below (Sound known depth) e → entry_leaves (leaves_in known depth) e ≡ front
+  part-more : (depth : ℕ) (e : TreeEntry) (rest : List FileRow) (front : List Leaf) → IsEntry e → Each (NotFirst e.name) (leaves rest) → Below (Sound known depth) e → entry_leaves known (leaves_in known depth) e ≡ front
       → Part depth (entries_in depth (leaves rest)) (leaves rest) → Part depth (e ∷ entries_in depth (leaves rest)) (front ++ leaves rest)
   part-more depth e rest front is others b l p = record {
     each = (is, p.each);
@@ -137,13 +140,37 @@ module _ (known : List Object) where
     leaves_are = (λ k. l k ++ p.leaves_are k);
   }
 
-  file-part : (depth : ℕ) (a : FileRow) (rows : List FileRow) → Good (a ∷ rows) → IsFileRow a → cut_of 47 a.path ≡ None → Part depth (entries_in depth (leaves rows)) (leaves rows) → Part depth (entries_in depth (leaves (a ∷ rows))) (leaves (a ∷ rows))
-  file-part depth a rows g f e p =
+  -- a row of one name
+  one-part : (depth : ℕ) (a : FileRow) (rows : List FileRow) → Good (a ∷ rows) → IsFileRow a → cut_of 47 a.path ≡ None → is_leaf known (record { mode = a.mode; name = a.path; id = a.id }) ≡ true
+      → Below (Sound known depth) (record { mode = a.mode; name = a.path; id = a.id })
+      → Part depth (entries_in depth (leaves rows)) (leaves rows) → Part depth (entries_in depth (leaves (a ∷ rows))) (leaves (a ∷ rows))
+  one-part depth a rows g f e l b p =
       let fl = flat a.path e in
       let entry : TreeEntry = record { mode = a.mode; name = a.path; id = a.id } in
       subst (λ (es : List TreeEntry). Part depth es (leaves (a ∷ rows))) (sym (entries-file depth a rows g e))
-      (part-more depth entry rows (leaf_of a ∷ []) (fit-name a.path f.fit (has_byte-lacks 47 a.path fl.plain), f.bytes, f.id) (file-one a rows g e).others (λ d. absurd (clash (sym d ∙ f.file)))
-      (ap (λ (t : Bool). if t then map (put_name a.path) (leaves_in known depth a.id) else leaf_at entry ∷ []) f.file ∙ (λ k. record { names = sym fl.parts k; mode = a.mode; id = a.id; content = [] } ∷ [])) p)
+      (part-more depth entry rows (leaf_of a ∷ []) (fit-name a.path f.fit (has_byte-lacks 47 a.path fl.plain), f.bytes, f.id) (file-one a rows g e).others b
+      (ap (λ (t : Bool). if t then leaf_at entry ∷ [] else map (put_name a.path) (leaves_in known depth a.id)) l ∙ (λ k. record { names = sym fl.parts k; mode = a.mode; id = a.id; content = [] } ∷ [])) p)
+
+  file-part : (depth : ℕ) (a : FileRow) (rows : List FileRow) → Good (a ∷ rows) → IsFileRow a → cut_of 47 a.path ≡ None → is_directory a.mode ≡ false → Part depth (entries_in depth (leaves rows)) (leaves rows) → Part depth (entries_in depth (leaves (a ∷ rows))) (leaves (a ∷ rows))
+  file-part depth a rows g f e file p = one-part depth a rows g f e (file-leaf known (record { mode = a.mode; name = a.path; id = a.id }) file) (λ d. absurd (clash (sym d ∙ file))) p
+
+  -- an empty subtree is there
+  empty-tree : (less : ℕ) → AreKnown known (trees_of_rows (suc less) []) → tree_at known (object_id tree []) ≡ Some []
+  unfolding shape_objects shape_entries
+  empty-tree less k =
+      let own : object_at known (object_id tree (tree_text [])) ≡ Some (object_of tree (tree_text [])) = k.0 in
+      ap (λ (text : Bytes). tree_at known (object_id tree text)) (sym text-none) ∙ ap entries_of own ∙ ap (λ (es : List TreeEntry). Some es) (tree_entries-text (tree_text []) [] ((tt, refl, refl), refl))
+
+  empty-part : (depth : ℕ) (a : FileRow) (rows : List FileRow) → Good (a ∷ rows) → IsFileRow a → IsDeep depth a → cut_of 47 a.path ≡ None → is_directory a.mode ≡ true → AreKnown known (trees_of_rows depth [])
+      → Part depth (entries_in depth (leaves rows)) (leaves rows) → Part depth (entries_in depth (leaves (a ∷ rows))) (leaves (a ∷ rows))
+  empty-part zero a rows g f deep e d k p = absurd (omega (arith, deep, ap (λ (c : List Bytes). length c) (flat a.path e).parts))
+  empty-part (suc less) a rows g f deep e d k p =
+      let at : tree_at known a.id ≡ Some [] = ap (tree_at known) (f.empty d) ∙ empty-tree less k in
+      one-part (suc less) a rows g f e (row-of-last known a (inr at)) (λ _. ([], (at, tt))) p
+
+  some-entries : (entries : List TreeEntry) → entries ≢ [] → has_no_entries (Some entries) ≡ false
+  some-entries [] some = absurd (some refl)
+  some-entries (e ∷ entries) some = refl
 
   no-leaves : (depth : ℕ) (id : Id) (l : Leaf) (ls : List Leaf) → tree_at known id ≡ Some [] → leaves_in known (suc depth) id ≡ l ∷ ls → ⊥
   no-leaves depth id l ls at h = none (sym (leaves-some known depth id [] at) ∙ h)
@@ -168,8 +195,9 @@ module _ (known : List Object) where
       (part-more (suc depth) entry rest (leaves (a ∷ group))
       (fit-name name fit.first (has_byte-lacks 47 name w.plain), IsBytes-front name (47 ∷ after) (subst IsBytes w.is f.0.bytes), IsId-object_id tree _)
       (dir-one name a group rest g s).others
-      (λ _. (entries_in depth (leaves below), (λ q. no-leaves depth id (leaf_of (shorter name a)) (leaves (map (shorter name) group)) (sub.0 ∙ ap (λ (es : List TreeEntry). Some es) q) all), sub))
-      (ap (map (put_name name)) all ∙ put-all name (a ∷ group) s.all) p)
+      (λ _. (entries_in depth (leaves below), sub))
+      (ap (λ (t : Bool). if t then leaf_at entry ∷ [] else map (put_name name) (leaves_in known (suc depth) id)) (ap has_no_entries sub.0 ∙ some-entries (entries_in depth (leaves below)) (λ q. no-leaves depth id (leaf_of (shorter name a)) (leaves (map (shorter name) group)) (sub.0 ∙ ap (λ (es : List TreeEntry). Some es) q) all))
+      ∙ ap (map (put_name name)) all ∙ put-all name (a ∷ group) s.all) p)
 
   part : (depth : ℕ) → Lower depth → (fuel : ℕ) (rows : List FileRow) → length rows ≤ fuel → Good rows → Each IsFileRow rows → Each (IsDeep depth) rows → AreKnown known (trees_in depth (leaves rows)) → Part depth (entries_in depth (leaves rows)) (leaves rows)
   part depth lower fuel [] le g f d k = record { each = tt; distinct = refl; below = tt; leaves_are = refl }
@@ -199,7 +227,14 @@ module _ (known : List Object) where
 
       by : ((rest : List FileRow) → length rest ≤ fuel → Good rest → Each IsFileRow rest → Each (IsDeep depth) rest → AreKnown known (trees_in depth (leaves rest)) → Part depth (entries_in depth (leaves rest)) (leaves rest))
           → (o : Option (Bytes × Bytes)) → cut_of 47 a.path ≡ o → Part depth (entries_in depth (leaves (a ∷ rows))) (leaves (a ∷ rows))
-      by rec None e = file-part depth a rows g f.0 e (rec rows (omega (arith, le)) g.2 f.1 d.1 (subst (λ (os : List Object). AreKnown known os) (trees-file depth a rows g e) k))
+      by rec None e = one (is_directory a.mode) refl
+        where
+          one : (t : Bool) → is_directory a.mode ≡ t → Part depth (entries_in depth (leaves (a ∷ rows))) (leaves (a ∷ rows))
+          one false t = file-part depth a rows g f.0 e t (rec rows (omega (arith, le)) g.2 f.1 d.1 (subst (λ (os : List Object). AreKnown known os) (trees-file depth a rows g e t) k))
+          one true t =
+              let k2 : AreKnown known (trees_of_rows depth [] ++ trees_in depth (leaves rows)) = subst (λ (os : List Object). AreKnown known os) (trees-empty depth a rows g e t) k in
+              empty-part depth a rows g f.0 d.0 e t (Each-front (IsKnown known) (trees_of_rows depth []) (trees_in depth (leaves rows)) k2)
+              (rec rows (omega (arith, le)) g.2 f.1 d.1 (Each-rest (IsKnown known) (trees_of_rows depth []) (trees_in depth (leaves rows)) k2))
       by rec (Some q) e = dirs depth lower q.0 q.1 e g f d k (λ rest shorter g2 f2 d2 k2. rec rest (omega (arith, le, shorter)) g2 f2 d2 k2)
 
   -- the entries of rows are those of a tree, and the tree is there

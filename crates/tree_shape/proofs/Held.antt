@@ -7,7 +7,7 @@ use Rattle.text_model.specs.Id.{Id, ObjectKind, blob, tree, commit, tag, same_ki
 use Rattle.git_model.specs.Tree.{TreeEntry, IsTreeText, tree_text, tree_entries}
 use Rattle.git_model.specs.Object.{Object, object_of, object_at, entries_of, tree_at, AreObjects}
 use Rattle.tree_shape.specs.Laws.{IsKnown}
-use Rattle.git_model.proofs.OptionLemmas.{none_some, some_is}
+use Rattle.text_model.proofs.Options.{none_some, some_is}
 use Rattle.git_model.proofs.TreeTextLemmas.{tree_entries-text}
 
 pub record Held (known : List Object) (id : Id) (entries : List TreeEntry) : Type 0 where
@@ -31,17 +31,17 @@ one : (o : Object) (entries : List TreeEntry) → HasId o → HoldsTree o → en
 one o entries id holds h = by (same_kind o.kind tree) refl
   where
     by : (t : Bool) → same_kind o.kind tree ≡ t → o ≡ object_of tree (tree_text entries)
-    by false t = absurd (none_some entries (sym (rw t refl) ∙ h))
+    by false t = absurd (none_some {x = entries} (sym (rw t refl) ∙ h))
     by true t =
         let is = holds t in
-        let same : is.0 ≡ entries = sym (tree_entries-text o.content is.0 is.1) ∙ some_is (tree_entries o.content) entries (sym (rw t refl) ∙ h) in
+        let same : is.0 ≡ entries = sym (tree_entries-text o.content is.0 is.1) ∙ some_is {x = tree_entries o.content} {y = entries} (sym (rw t refl) ∙ h) in
         let kind : o.kind ≡ tree = kind-is o.kind t in
         let content : o.content ≡ tree_text entries = is.1.1 ∙ ap tree_text same in
         (λ k. record { id = (id ∙ (λ j. object_id (kind j) (content j))) k; kind = kind k; content = content k })
 
 find-one : (known : List Object) (id : Id) (entries : List TreeEntry) → Each HasId known → Each HoldsTree known → entries_of (object_at known id) ≡ Some entries
     → (o : Object) × (object_at known id ≡ Some o) × (id ≡ o.id) × (o ≡ object_of tree (tree_text entries))
-find-one [] id entries ids trees h = absurd (none_some entries h)
+find-one [] id entries ids trees h = absurd (none_some {x = entries} h)
 find-one (o ∷ known) id entries ids trees h = by (bytes_eq id o.id) refl (find-one known id entries ids.1 trees.1)
   where
     by : (t : Bool) → bytes_eq id o.id ≡ t → (entries_of (object_at known id) ≡ Some entries → (p : Object) × (object_at known id ≡ Some p) × (id ≡ p.id) × (p ≡ object_of tree (tree_text entries)))

@@ -157,7 +157,7 @@ map-other : (f g : Bytes → TreeEntry) (xs : List Bytes) → ((x : Bytes) → I
 map-other f g [] h = refl
 map-other f g (x ∷ xs) h = (λ k. h x (inl refl) k ∷ map-other f g xs (λ y i. h y (inr i)) k)
 
-flat-other : (f g : TreeEntry → List Object) (xs : List TreeEntry) → ((x : TreeEntry) → In x xs → f x ≡ g x) → flat_map f xs ≡ flat_map g xs
+pub flat-other : (f g : TreeEntry → List Object) (xs : List TreeEntry) → ((x : TreeEntry) → In x xs → f x ≡ g x) → flat_map f xs ≡ flat_map g xs
 flat-other f g [] h = refl
 flat-other f g (x ∷ xs) h = (λ k. h x (inl refl) k ++ flat-other f g xs (λ y i. h y (inr i)) k)
 

@@ -21,4 +21,7 @@ pub mod IdLemmas
 pub mod FitPieces
 pub mod Growing
 pub mod Walking
-pub mod ShelfLemmas
+pub mod AnyOrder
+pub mod WalkOrder
+pub mod RowOrders
+pub mod TreesWithin

@@ -1,7 +1,8 @@
 -- Rows in order, one first name after the other.
-use Rattle.std.proofs.Common.{◌≡◌, ◌≢◌, ◌+◌, ℕ, suc, Bool, true, false, ◌&&◌, List, [], ◌∷◌, ◌++◌, length, drop, map, Option, Some, None, refl, sym, ap, subst, ◌∙◌, append_assoc, inl, inr, arith}
+use Rattle.std.proofs.Common.{◌≡◌, ◌≢◌, ◌+◌, ℕ, suc, Bool, true, false, ◌&&◌, List, [], ◌∷◌, ◌++◌, length, drop, map, Option, Some, None, refl, sym, ap, subst, ◌∙◌, append_assoc, append-nil, inl, inr, ◌⊎◌, arith}
 use Rattle.std.specs.Prelude.{if◌then◌else◌, bytes_eq}
-use Rattle.std.specs.List.{cons_option}
+use Rattle.std.specs.List.{cons_option, join_with_byte}
+use Rattle.std.proofs.lemmas.List.Splits.{join_with_byte-slice_split}
 use Rattle.std.proofs.lemmas.Bool.{eq-eqb}
 use Rattle.std.proofs.lemmas.Slice.Eq.{bytes_eq-Decides}
 use Rattle.std.specs.Ordering.{nat_cmp, is_lt, ordering_then, ordering_reverse}
@@ -15,6 +16,7 @@ use Rattle.text_model.specs.Path.{components, lies_below}
 use Rattle.text_model.specs.Cuts.{cut_of, Lacks}
 use Rattle.text_model.proofs.CutLemmas.{cut_of-at, cut_of-takes, cut_of-none}
 use Rattle.tree_shape.proofs.Names.{components-cut, components-last}
+use Rattle.git_model.specs.Tree.{is_directory, sort_name}
 use Rattle.git_model.specs.Unfold.{FileRow}
 use Rattle.git_model.specs.Shape.{Leaf, leaf_of, leaf_named, is_named, leaves_below, cut_name}
 use Rattle.tree_shape.specs.Shapes.{short, Before, IsFile, Good, is_in}
@@ -22,6 +24,8 @@ use Rattle.tree_shape.proofs.Elements.{each-in, each-from, in-left, in-right}
 use Rattle.tree_shape.proofs.Below.{below-front}
 use Rattle.tree_shape.proofs.Leaves.{OneName, HasFirst, NotFirst, same}
 use Rattle.text_model.proofs.OrderLemmas.{is_below-irreflexive, is_below-one_way}
+use Rattle.tree_shape.specs.Orders.{met_path}
+use Rattle.tree_shape.proofs.Unfolding.{met-front}
 
 pub clash : true ≡ false → ⊥
 clash q = cc
@@ -104,12 +108,52 @@ between (x ∷ k) a (y ∷ q) b h i = by (λ u v. between k a q b u v) (nat_cmp 
         (r.0, (λ j. sym equal j ∷ r.1 j))
     by rec Greater e h i = absurd cc
 
+-- what goes on from another isn't below it
+pub goes-on : (xs more : Bytes) → is_below (xs ++ more) xs ≡ false
+goes-on xs [] = ap (λ (x : Bytes). is_below x xs) (append-nil xs) ∙ is_below-irreflexive xs
+goes-on xs (y ∷ more) = is_below-one_way xs (xs ++ y ∷ more) (above xs y more)
+
+-- a path that with a slash begins with a name and a slash is the name, or lies below it
+pub dir-end : (path name more : Bytes) → path ++ 47 ∷ [] ≡ name ++ 47 ∷ more → (path ≡ name) ⊎ ((rest : Bytes) × (path ≡ name ++ 47 ∷ rest))
+dir-end [] [] more h = inl refl
+dir-end [] (n ∷ name) more h = absurd (no-more name more cc)
+  where
+    no-more : (name more : Bytes) → [] ≡ name ++ 47 ∷ more → ⊥
+    no-more [] more q = cc
+    no-more (n ∷ name) more q = cc
+dir-end (p ∷ path) [] more h = let is : p ≡ 47 = cc in inr (path, (λ k. is k ∷ path))
+dir-end (p ∷ path) (n ∷ name) more h =
+    let head : p ≡ n = cc in
+    let tail : path ++ 47 ∷ [] ≡ name ++ 47 ∷ more = cc in
+    elim (dir-end path name more tail) [
+      | inl q ↦ inl (λ k. head k ∷ q k)
+      | inr r ↦ inr (r.0, (λ k. head k ∷ r.1 k))
+    ]
+
 -- ---- rows that stand before others
 
 -- what lies in the directory lies below its path
 pub in-lies : (name rest : Bytes) → lies_below (name ++ 47 ∷ rest) name ≡ true
 in-lies [] rest = refl
 in-lies (x ∷ name) rest = ap (λ (b : Bool). b && lies_below (name ++ 47 ∷ rest) name) (eq-eqb x x refl) ∙ in-lies name rest
+
+join-append : (xs : List Bytes) (y : Bytes) (ys : List Bytes) → xs ≢ [] → join_with_byte 47 (xs ++ y ∷ ys) ≡ join_with_byte 47 xs ++ 47 ∷ join_with_byte 47 (y ∷ ys)
+join-append [] y ys some = absurd (some refl)
+join-append (x ∷ []) y ys some = refl
+join-append (x ∷ z ∷ xs) y ys some =
+    ap (λ (t : Bytes). x ++ 47 ∷ t) (join-append (z ∷ xs) y ys (λ q. cc))
+    ∙ sym (append_assoc x (47 ∷ join_with_byte 47 (z ∷ xs)) (47 ∷ join_with_byte 47 (y ∷ ys)))
+
+-- a path with more components lies below
+pub longer-lies : (p q m : Bytes) (more : List Bytes) → components q ≡ components p ++ m ∷ more → lies_below q p ≡ true
+longer-lies p q m more e =
+    let some : components p ≢ [] = (let c = components-some p in λ h. no-list c.0 c.1 (sym c.2 ∙ h)) in
+    let whole : q ≡ p ++ 47 ∷ join_with_byte 47 (m ∷ more) =
+    sym (join_with_byte-slice_split 47 q) ∙ ap (join_with_byte 47) e ∙ join-append (components p) m more some ∙ ap (λ (t : Bytes). t ++ 47 ∷ join_with_byte 47 (m ∷ more)) (join_with_byte-slice_split 47 p) in
+    ap (λ (t : Bytes). lies_below t p) whole ∙ in-lies p (join_with_byte 47 (m ∷ more))
+  where
+    no-list : (x : Bytes) (xs : List Bytes) → x ∷ xs ≡ [] → ⊥
+    no-list x xs q = cc
 
 lies-front : (k xs ys : Bytes) → lies_below (k ++ xs) (k ++ ys) ≡ lies_below xs ys
 lies-front [] xs ys = refl
@@ -121,7 +165,13 @@ not-before name rest a b p q h = clash (sym (ap (λ (x : Bytes). lies_below x a.
 
 pub not-after : (name rest : Bytes) (a b : FileRow) → a.path ≡ name → b.path ≡ name ++ 47 ∷ rest → Before b a → ⊥
 not-after name rest a b p q h =
-    clash (sym h.below ∙ ap (λ (x : Bytes). is_below b.path x) p ∙ ap (λ (x : Bytes). is_below x name) q ∙ is_below-one_way name (name ++ 47 ∷ rest) (above name 47 rest))
+    let front : b.path ≡ (name ++ 47 ∷ []) ++ rest = q ∙ sym (append_assoc name (47 ∷ []) rest) in
+    let behind : met_path b ≡ (name ++ 47 ∷ []) ++ sort_name b.mode rest = ap (sort_name b.mode) front ∙ met-front (name ++ 47 ∷ []) b.mode rest in
+    clash (sym h.below ∙ (λ k. is_below (behind k) (sort_name a.mode (p k))) ∙ by (is_directory a.mode) (sort_name b.mode rest))
+  where
+    by : (t : Bool) (more : Bytes) → is_below ((name ++ 47 ∷ []) ++ more) (if t then name ++ 47 ∷ [] else name) ≡ false
+    by true more = goes-on (name ++ 47 ∷ []) more
+    by false more = ap (λ (x : Bytes). is_below x name) (append_assoc name (47 ∷ []) more) ∙ goes-on name (47 ∷ more)
 
 -- two rows are one, or one stands before the other
 pub data Either (a b : FileRow) : Type 0 where
@@ -170,10 +220,19 @@ under-first name row u = first-is row name (components u.0) u.1.parts
 beyond : (name : Bytes) (a q t : FileRow) → Under name a → Before a q → Before q t → is_in name q ≡ false → Under name t → ⊥
 beyond name a q t u h i out v =
     let front : (rest : Bytes) → name ++ 47 ∷ rest ≡ (name ++ 47 ∷ []) ++ rest = λ rest. sym (append_assoc name (47 ∷ []) rest) in
-    let mid = between (name ++ 47 ∷ []) u.0 q.path v.0
-    (sym (ap (λ (x : Bytes). is_below x q.path) (u.1.is ∙ front u.0)) ∙ h.below)
-    (sym (ap (λ (x : Bytes). is_below q.path x) (v.1.is ∙ front v.0)) ∙ i.below) in
-    clash (sym (in-is name mid.0 q u.1.plain (mid.1 ∙ sym (front mid.0))) ∙ out)
+    let first : met_path a ≡ (name ++ 47 ∷ []) ++ sort_name a.mode u.0 = ap (sort_name a.mode) (u.1.is ∙ front u.0) ∙ met-front (name ++ 47 ∷ []) a.mode u.0 in
+    let last : met_path t ≡ (name ++ 47 ∷ []) ++ sort_name t.mode v.0 = ap (sort_name t.mode) (v.1.is ∙ front v.0) ∙ met-front (name ++ 47 ∷ []) t.mode v.0 in
+    let mid = between (name ++ 47 ∷ []) (sort_name a.mode u.0) (met_path q) (sort_name t.mode v.0)
+    (sym (ap (λ (x : Bytes). is_below x (met_path q)) first) ∙ h.below)
+    (sym (ap (λ (x : Bytes). is_below (met_path q) x) last) ∙ i.below) in
+    by (is_directory q.mode) mid.0 (mid.1 ∙ append_assoc name (47 ∷ []) mid.0)
+  where
+    by : (d : Bool) (more : Bytes) → (if d then q.path ++ 47 ∷ [] else q.path) ≡ name ++ 47 ∷ more → ⊥
+    by true more e = elim (dir-end q.path name more e) [
+      | inl same ↦ clash (sym (ap (λ (x : Bytes). lies_below x q.path) v.1.is ∙ ap (λ (x : Bytes). lies_below (name ++ 47 ∷ v.0) x) same ∙ in-lies name v.0) ∙ i.apart)
+      | inr r ↦ clash (sym (in-is name r.0 q u.1.plain r.1) ∙ out)
+    ]
+    by false more e = clash (sym (in-is name more q u.1.plain e) ∙ out)
 
 -- a row behind one in the directory has another first name, unless it lies in it
 apart-from : (name : Bytes) (a t : FileRow) → Under name a → Before a t → (Under name t → ⊥) → NotFirst name (leaf_of t)
@@ -186,7 +245,7 @@ apart-from name a t u h out f = elim (shape t.path) [
       not-after name u.0 t a is u.1.is h
 ]
 
--- a row behind a file of the name has another first name
+-- a row behind one of the name has another first name
 apart-file : (a t : FileRow) → Flat a.path → Before a t → NotFirst a.path (leaf_of t)
 apart-file a t fl h f = elim (shape t.path) [
   | goes_on n rest d ↦
@@ -194,14 +253,14 @@ apart-file a t fl h f = elim (shape t.path) [
       not-before a.path rest a t refl (d.is ∙ ap (λ (m : Bytes). m ++ 47 ∷ rest) is) h
   | ends d ↦
       let is : t.path ≡ a.path = first-same t t.path a.path [] d.parts f in
-      clash (sym h.below ∙ ap (is_below a.path) is ∙ is_below-irreflexive a.path)
+      h.other (sym is)
 ]
 
 each-leaf : (P : Leaf → Type 0) (rows : List FileRow) → ((t : FileRow) → In t rows → P (leaf_of t)) → Each P (map leaf_of rows)
 each-leaf P [] h = tt
 each-leaf P (t ∷ rows) h = (h t (inl refl), each-leaf P rows (λ x i. h x (inr i)))
 
--- a file, and the rows behind it
+-- a row of one name, and the rows behind it
 pub file-one : (a : FileRow) (rows : List FileRow) → Good (a ∷ rows) → cut_of 47 a.path ≡ None → OneName a.path (leaf_of a) [] (map leaf_of rows)
 file-one a rows g e =
     let f = flat a.path e in
@@ -261,7 +320,7 @@ shorter-file : (name : Bytes) (row : FileRow) → Under name row → IsFile row 
 shorter-file name row u f = record {
   names = subst (λ (c : List Bytes). Each (λ n. (n ≢ []) × (has_byte 47 n ≡ false)) c) (sym (ap components (shorter-path name row u)))
       (subst (λ (c : List Bytes). Each (λ n. (n ≢ []) × (has_byte 47 n ≡ false)) c) u.1.parts f.names).1;
-  file = f.file;
+  empty = f.empty;
 }
 
 shorter-before : (name : Bytes) (a b : FileRow) → Under name a → Under name b → Before a b → Before (shorter name a) (shorter name b)
@@ -269,8 +328,11 @@ shorter-before name a b u v h =
     let front : (rest : Bytes) → name ++ 47 ∷ rest ≡ (name ++ 47 ∷ []) ++ rest = λ rest. sym (append_assoc name (47 ∷ []) rest) in
     let p : a.path ≡ (name ++ 47 ∷ []) ++ (shorter name a).path = u.1.is ∙ front u.0 ∙ ap (λ (x : Bytes). (name ++ 47 ∷ []) ++ x) (sym (shorter-path name a u)) in
     let q : b.path ≡ (name ++ 47 ∷ []) ++ (shorter name b).path = v.1.is ∙ front v.0 ∙ ap (λ (x : Bytes). (name ++ 47 ∷ []) ++ x) (sym (shorter-path name b v)) in
+    let p' : met_path a ≡ (name ++ 47 ∷ []) ++ met_path (shorter name a) = ap (sort_name a.mode) p ∙ met-front (name ++ 47 ∷ []) a.mode (shorter name a).path in
+    let q' : met_path b ≡ (name ++ 47 ∷ []) ++ met_path (shorter name b) = ap (sort_name b.mode) q ∙ met-front (name ++ 47 ∷ []) b.mode (shorter name b).path in
     record {
-      below = sym (below-front (name ++ 47 ∷ []) (shorter name a).path (shorter name b).path) ∙ sym ((λ k. is_below (p k) (q k))) ∙ h.below;
+      below = sym (below-front (name ++ 47 ∷ []) (met_path (shorter name a)) (met_path (shorter name b))) ∙ sym ((λ k. is_below (p' k) (q' k))) ∙ h.below;
+      other = λ same. h.other (p ∙ ap (λ (x : Bytes). (name ++ 47 ∷ []) ++ x) same ∙ sym q);
       apart = sym (lies-front (name ++ 47 ∷ []) (shorter name b).path (shorter name a).path) ∙ sym ((λ k. lies_below (q k) (p k))) ∙ h.apart;
     }
 

@@ -18,6 +18,8 @@ use Rattle.text_model.specs.Path.{components}
 use Rattle.git_model.specs.Tree.{is_directory, TreeEntry, tree_text, sort_name, is_entry_below}
 use Rattle.git_model.specs.Object.{object_of}
 use Rattle.git_model.specs.Unfold.{FileRow}
+use Rattle.tree_shape.specs.Orders.{met_path}
+use Rattle.tree_shape.proofs.Unfolding.{met-front}
 use Rattle.git_model.specs.Shape.{Leaf, leaf_of, first_name_of, first_names, leaf_named, is_named, leaves_below, shape_entries, shape_objects}
 use Rattle.tree_shape.specs.Shapes.{entry_of, entries_in, is_tree, trees_below, trees_in, id_of_rows, trees_of_rows, Before, IsFile, Good}
 use Rattle.tree_shape.proofs.Elements.{each-in, of-filter}
@@ -28,7 +30,7 @@ use Rattle.text_model.proofs.OrderLemmas.{is_below-irreflexive, is_below-one_way
 
 -- ---- the entry of a name, and the rows of that name
 
--- the path of a row is the sort name of the entry of its first name, with more behind that of a directory
+-- the path of a row, as it counts in the order of a walk, is the sort name of the entry of its first name, with more behind that of a directory
 record Stands (e : TreeEntry) (path : Bytes) : Type 0 where
   more : Bytes
   is : path ≡ sort_name e.mode e.name ++ more
@@ -66,26 +68,31 @@ named-path n a h = elim (shape a.path) [
   | ends f ↦ (bytes_eq-Decides a.path n).0 (sym (ap (is_named n) f.parts) ∙ h)
 ]
 
-stands : (depth : ℕ) (rows : List FileRow) → Good rows → (n : Bytes) (a : FileRow) → In a rows → HasFirst n (leaf_of a) → Stands (entry_of depth (map leaf_of rows) n) a.path
+stands : (depth : ℕ) (rows : List FileRow) → Good rows → (n : Bytes) (a : FileRow) → In a rows → HasFirst n (leaf_of a) → Stands (entry_of depth (map leaf_of rows) n) (met_path a)
 stands depth rows g n a i h = by (leaf_named n (map leaf_of rows)) refl
   where
-    file : (leaf : Leaf) → leaf_named n (map leaf_of rows) ≡ Some leaf → (is_directory leaf.mode ≡ false) × (a.path ≡ n)
+    file : (leaf : Leaf) → leaf_named n (map leaf_of rows) ≡ Some leaf → (leaf.mode ≡ a.mode) × (a.path ≡ n)
     file leaf e =
         let r = named-row n rows leaf e in
-        let path : r.0.path ≡ n = named-path n r.0 r.3 in (
-          ap (λ (l : Leaf). is_directory l.mode) r.2 ∙ (good-file rows g r.0 r.1).file,
-          elim (shape a.path) [
-            | goes_on m rest d ↦
-                let is : m ≡ n = first-same a m n (components rest) d.parts h in
-                let long : a.path ≡ n ++ 47 ∷ rest = d.is ∙ ap (λ (x : Bytes). x ++ 47 ∷ rest) is in
-                elim (either rows g r.0 a r.1 i) [
-                  | one q ↦ ap (λ (x : FileRow). x.path) (sym q) ∙ path
-                  | first b ↦ absurd (not-before n rest r.0 a path long b)
-                  | second b ↦ absurd (not-after n rest r.0 a path long b)
-                ]
-            | ends f ↦ first-same a a.path n [] f.parts h
-          ],
-        )
+        let path : r.0.path ≡ n = named-path n r.0 r.3 in
+        let same : r.0 ≡ a = elim (shape a.path) [
+          | goes_on m rest d ↦
+              let is : m ≡ n = first-same a m n (components rest) d.parts h in
+              let long : a.path ≡ n ++ 47 ∷ rest = d.is ∙ ap (λ (x : Bytes). x ++ 47 ∷ rest) is in
+              elim (either rows g r.0 a r.1 i) [
+                | one q ↦ q
+                | first b ↦ absurd (not-before n rest r.0 a path long b)
+                | second b ↦ absurd (not-after n rest r.0 a path long b)
+              ]
+          | ends f ↦
+              let here : a.path ≡ n = first-same a a.path n [] f.parts h in
+              elim (either rows g r.0 a r.1 i) [
+                | one q ↦ q
+                | first b ↦ absurd (b.other (path ∙ sym here))
+                | second b ↦ absurd (b.other (here ∙ sym path))
+              ]
+        ] in
+        (ap (λ (l : Leaf). l.mode) r.2 ∙ ap (λ (x : FileRow). x.mode) same, ap (λ (x : FileRow). x.path) (sym same) ∙ path)
 
     dir : leaf_named n (map leaf_of rows) ≡ None → (rest : Bytes) × (a.path ≡ (n ++ 47 ∷ []) ++ rest)
     dir e = elim (shape a.path) [
@@ -97,19 +104,19 @@ stands depth rows g n a i h = by (leaf_named n (map leaf_of rows)) refl
           absurd (clash (sym (ap (is_named n) f.parts ∙ (bytes_eq-Decides a.path n).1 is) ∙ not-named n rows e a i))
     ]
 
-    by : (o : Option Leaf) → leaf_named n (map leaf_of rows) ≡ o → Stands (entry_of depth (map leaf_of rows) n) a.path
+    by : (o : Option Leaf) → leaf_named n (map leaf_of rows) ≡ o → Stands (entry_of depth (map leaf_of rows) n) (met_path a)
     by (Some leaf) e =
         let f = file leaf e in
-        let P : Option Leaf → Type 0 = λ o. Stands (entry_by depth n o (leaves_below n (map leaf_of rows))) a.path in
+        let P : Option Leaf → Type 0 = λ o. Stands (entry_by depth n o (leaves_below n (map leaf_of rows))) (met_path a) in
         subst P (sym e) (record {
           more = [];
-          is = f.1 ∙ sym (append-nil n) ∙ ap (λ (b : Bool). (if b then n ++ 47 ∷ [] else n) ++ []) (sym f.0);
+          is = (λ k. sort_name (sym f.0 k) (f.1 k)) ∙ sym (append-nil (sort_name leaf.mode n));
           flat = λ _. refl;
         })
     by None e =
         let d = dir e in
-        let P : Option Leaf → Type 0 = λ o. Stands (entry_by depth n o (leaves_below n (map leaf_of rows))) a.path in
-        subst P (sym e) (record { more = d.0; is = d.1; flat = λ q. absurd (clash q) })
+        let P : Option Leaf → Type 0 = λ o. Stands (entry_by depth n o (leaves_below n (map leaf_of rows))) (met_path a) in
+        subst P (sym e) (record { more = sort_name a.mode d.0; is = ap (sort_name a.mode) d.1 ∙ met-front (n ++ 47 ∷ []) a.mode d.0; flat = λ q. absurd (clash q) })
 
 -- ---- the order of entries
 
@@ -143,7 +150,7 @@ keeps e f x y m n h u v = ap (λ (z : Bytes). is_below z y) u.is ∙ ap (λ (z :
         ∙ below-more (sort_name e.mode e.name) (sort_name f.mode f.name) v.more h
 
 -- names with one sort name are one
-same-sort : (e f : TreeEntry) → has_byte 47 e.name ≡ false → has_byte 47 f.name ≡ false → sort_name e.mode e.name ≡ sort_name f.mode f.name → e.name ≡ f.name
+pub same-sort : (e f : TreeEntry) → has_byte 47 e.name ≡ false → has_byte 47 f.name ≡ false → sort_name e.mode e.name ≡ sort_name f.mode f.name → e.name ≡ f.name
 same-sort e f m n h = by (is_directory e.mode) (is_directory f.mode) h
   where
     by : (s t : Bool) → (if s then e.name ++ 47 ∷ [] else e.name) ≡ (if t then f.name ++ 47 ∷ [] else f.name) → e.name ≡ f.name
@@ -225,7 +232,7 @@ module _ (depth : ℕ) (all : List FileRow) (good : Good all) where
             let f = of-filter (λ y. not (bytes_eq c.0 y)) m names i in
             let r = name-row rows m (of-first_of_each (filter_map first_name_of (map leaf_of rows)) m f.0) in
             let ne : c.0 ≢ m = λ q. clash (sym f.1 ∙ ap not ((bytes_eq-Decides c.0 m).1 q)) in
-            entry-below (the c.0) (the m) a.path r.0.path
+            entry-below (the c.0) (the m) (met_path a) (met_path r.0)
             (ap (has_byte 47) (entry_of-name depth (map leaf_of all) c.0) ∙ plain-first a c.0 g.0 has)
             (ap (has_byte 47) (entry_of-name depth (map leaf_of all) m) ∙ plain-first r.0 m (good-file rows g.2 r.0 r.1) r.2)
             (λ q. ne (sym (entry_of-name depth (map leaf_of all) c.0) ∙ q ∙ entry_of-name depth (map leaf_of all) m))

@@ -8,13 +8,13 @@ use Rattle.text_model.specs.Lists.{Each}
 use Rattle.text_model.specs.Text.{Bytes}
 use Rattle.text_model.specs.Id.{Id, tree, object_id}
 use Rattle.text_model.specs.Cuts.{cut_of}
-use Rattle.git_model.specs.Tree.{Directory, TreeEntry, tree_entry_text, tree_text}
+use Rattle.git_model.specs.Tree.{Directory, is_directory, TreeEntry, tree_entry_text, tree_text}
 use Rattle.git_model.specs.Object.{Object, object_of}
 use Rattle.git_model.specs.Unfold.{FileRow}
 use Rattle.git_model.specs.Shape.{leaf_of, shape_entries, shape_objects}
-use Rattle.tree_shape.specs.Shapes.{short, shorts, entries_in, trees_in, id_of_rows, trees_of_rows, Good, is_in}
+use Rattle.tree_shape.specs.Shapes.{short, shorts, entries_in, trees_in, id_of_rows, trees_of_rows, row_trees, Good, is_in}
 use Rattle.tree_shape.proofs.Rows.{Splits, deep, in-is, good-rest, good-front, shorter, shorter-good}
-use Rattle.tree_shape.proofs.PutRows.{entries-dir, trees-dir, entries-file, trees-file, text-step}
+use Rattle.tree_shape.proofs.PutRows.{entries-dir, trees-dir, entries-file, trees-file, trees-empty, text-step}
 use Rattle.tree_shape.proofs.Sorted.{id-is, trees-are}
 
 -- ---- counting
@@ -63,7 +63,7 @@ prefix-stops p (x ∷ xs) q more h = by (p x) refl h (prefix-stops p xs q more)
 
 -- ---- shorter rows
 
-shorts-more : (skip : ℕ) (name : Bytes) (rows : List FileRow) → shorts (skip + length name + 1) rows ≡ map (shorter name) (shorts skip rows)
+pub shorts-more : (skip : ℕ) (name : Bytes) (rows : List FileRow) → shorts (skip + length name + 1) rows ≡ map (shorter name) (shorts skip rows)
 shorts-more skip name [] = refl
 shorts-more skip name (r ∷ rows) =
     let same : skip + (length name + 1) ≡ skip + length name + 1 = omega arith in
@@ -79,7 +79,7 @@ pub record GroupTurn (depth skip : ℕ) (name : Bytes) (rows front back : List F
       ≡ record { mode = Directory; name = name; id = id_of_rows depth (shorts (skip + length name + 1) front) } ∷ entries_in depth (map leaf_of (shorts skip back))
   pub trees : trees_in depth (map leaf_of (shorts skip rows)) ≡ trees_of_rows depth (shorts (skip + length name + 1) front) ++ trees_in depth (map leaf_of (shorts skip back))
 
-some-first : (a b : FileRow) → Some a ≡ Some b → a ≡ b
+pub some-first : (a b : FileRow) → Some a ≡ Some b → a ≡ b
 some-first a b h = cc
 
 pub group-turn : (depth skip : ℕ) (name after : Bytes) (rows front back : List FileRow) (first : FileRow) (count : ℕ) → Some first ≡ slice_get rows 0
@@ -128,7 +128,8 @@ pub record FileTurn (depth skip : ℕ) (first : FileRow) (rows back : List FileR
   pub less : length back < length rows
   pub entries : entries_in depth (map leaf_of (shorts skip rows))
       ≡ record { mode = first.mode; name = drop skip first.path; id = first.id } ∷ entries_in depth (map leaf_of (shorts skip back))
-  pub trees : trees_in depth (map leaf_of (shorts skip rows)) ≡ trees_in depth (map leaf_of (shorts skip back))
+  pub trees : trees_in depth (map leaf_of (shorts skip rows)) ≡ row_trees depth first ++ trees_in depth (map leaf_of (shorts skip back))
+  pub empty : is_directory first.mode ≡ true → first.id ≡ object_id tree []
 
 pub file-turn : (depth skip : ℕ) (rows back : List FileRow) (first : FileRow) → Some first ≡ slice_get rows 0 → None ≡ cut_of 47 (drop skip first.path) → back ≡ drop 1 rows → Good (shorts skip rows)
     → FileTurn depth skip first rows back
@@ -145,8 +146,13 @@ file-turn depth skip (r ∷ rows) back first f c q g =
       entries =
           entries-file depth (short skip r) (shorts skip rows) g e
           ∙ (λ k. record { mode = (sym is k).mode; name = drop skip (sym is k).path; id = (sym is k).id } ∷ entries_in depth (map leaf_of (shorts skip (sym q k))));
-      trees = trees-file depth (short skip r) (shorts skip rows) g e ∙ ap (λ (s : List FileRow). trees_in depth (map leaf_of (shorts skip s))) (sym q);
+      trees = by (is_directory r.mode) refl ∙ (λ k. row_trees depth (sym is k) ++ trees_in depth (map leaf_of (shorts skip (sym q k))));
+      empty = λ d. ap (λ (x : FileRow). x.id) is ∙ g.0.empty (sym (ap (λ (x : FileRow). is_directory x.mode) is) ∙ d);
     }
+  where
+    by : (t : Bool) → is_directory r.mode ≡ t → trees_in depth (map leaf_of (short skip r ∷ shorts skip rows)) ≡ (if t then trees_of_rows depth [] else []) ++ trees_in depth (map leaf_of (shorts skip rows))
+    by true d = trees-empty depth (short skip r) (shorts skip rows) g (sym (c ∙ ap (λ (x : FileRow). cut_of 47 (drop skip x.path)) (some-first first r f))) d
+    by false d = trees-file depth (short skip r) (shorts skip rows) g (sym (c ∙ ap (λ (x : FileRow). cut_of 47 (drop skip x.path)) (some-first first r f))) d
 
 -- ---- what is there and what is left are the whole
 

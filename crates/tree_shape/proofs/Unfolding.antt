@@ -1,21 +1,28 @@
--- The rows of a walk that nothing ends are those that the root unfolds to, in order.
+-- The rows of a walk that nothing ends are those that the root unfolds to. They are met in the order of a walk.
+use Rattle.text_model.proofs.Options.{some_is}
 use Rattle.std.proofs.Common.{◌≡◌, ◌≢◌, ◌≤◌, ◌<◌, ℕ, zero, suc, Bool, true, false, not, List, [], ◌∷◌, ◌++◌, length, take, map, Option, Some, None, refl, sym, ap, subst, ◌∙◌, append_assoc, inl, inr, arith}
-use Rattle.std.specs.Prelude.{filter, if◌then◌else◌}
+use Rattle.std.specs.Prelude.{◌||◌, filter, if◌then◌else◌, bytes_eq}
+use Rattle.std.specs.List.{list_any}
+use Rattle.std.proofs.lemmas.Slice.Eq.{bytes_eq-Decides}
 use Rattle.std.proofs.lemmas.List.{append-nil, map-append, length-take}
 use Rattle.std.proofs.lemmas.List.Elements.{filter-append}
 use Rattle.std.proofs.lemmas.Bool.{leb-true, cases_lt}
 use Rattle.text_model.specs.Lists.{In, Each, rises}
 use Rattle.text_model.specs.Text.{Bytes, IsBytes, is_below, has_byte}
-use Rattle.text_model.specs.Id.{Id, IsId}
+use Rattle.text_model.specs.Id.{Id, IsId, tree, object_id}
 use Rattle.text_model.specs.Path.{components, is_fit_path}
 use Rattle.text_model.specs.Fault.{FaultName}
 use Rattle.text_model.specs.Fault as fault
-use Rattle.git_model.specs.Tree.{Mode, Directory, is_directory, TreeEntry, IsTree, sort_name, is_entry_below}
+use Rattle.git_model.specs.Tree.{Mode, Directory, is_directory, TreeEntry, IsTree, sort_name, is_entry_below, has_distinct, tree_text}
 use Rattle.git_model.specs.Object.{Object, tree_at, AreObjects}
-use Rattle.git_model.specs.Unfold.{FileRow, Reaches, Unfolds, IsUnfolding, joined_path, visits, is_row, visit_fault, first_visit_fault, walk}
+use Rattle.git_model.specs.Unfold.{FileRow, HasEntry, IsLast, Reaches, Unfolds, IsUnfolding, joined_path, visits, has_no_entries, is_row, visit_fault, first_visit_fault, walk, met_rows, tree_rows, is_path_below}
+use Rattle.text_model.proofs.Elements.{in_map as in-map}
+use Rattle.git_model.proofs.SortLemmas.{Distinct, in-order, of-order, order-rises, Ascends, rises-ascends}
+use Rattle.tree_shape.proofs.Held.{held}
 use Rattle.git_model.proofs.ObjectLemmas.{tree_at-tree}
 use Rattle.text_model.proofs.ByteLemmas.{IsBytes-append}
 use Rattle.tree_shape.proofs.VisitLemmas.{dir-mode}
+use Rattle.tree_shape.specs.Orders.{met_path}
 use Rattle.tree_shape.specs.Sets.{IsFileRow, IsFiles}
 use Rattle.tree_shape.specs.Walks.{row_at, entry_visits, entries_visits}
 use Rattle.tree_shape.proofs.Elements.{in-flat, of-flat, in-filter, of-filter, each-in, each-from}
@@ -24,7 +31,7 @@ use Rattle.tree_shape.proofs.FitLemmas.{fit-parts}
 use Rattle.tree_shape.proofs.Names.{IsName, way, fit-name, joined-some, components-whole, way-of-components, not-true}
 use Rattle.tree_shape.proofs.WalkLemmas.{visits-zero, visits-none, next, step-none, fault-cons}
 use Rattle.text_model.proofs.OrderLemmas.{is_below-chain, is_below-irreflexive}
-use Rattle.text_model.proofs.TestLemmas.{both}
+use Rattle.text_model.proofs.TestLemmas.{both, or_true}
 
 pub visits-suc : (known : List Object) (depth : ℕ) (path : Bytes) (root : Id) (entries : List TreeEntry) → tree_at known root ≡ Some entries
     → visits known (suc depth) path root ≡ entries_visits known depth path entries
@@ -44,6 +51,35 @@ joined-bytes : (path name : Bytes) → IsBytes path → IsBytes name → IsBytes
 joined-bytes [] name p n = n
 joined-bytes (b ∷ path) name p n = IsBytes-append (b ∷ path) (47 ∷ name) p (omega arith, n)
 
+pub text-none : tree_text [] ≡ []
+unfolding tree_text
+text-none = refl
+
+-- ---- the last step of a way
+
+abbrev row_by : Bool → Option (List TreeEntry) → Bool
+row_by directory o = not directory || has_no_entries o
+
+pub no-entries : (o : Option (List TreeEntry)) → has_no_entries o ≡ true → o ≡ Some []
+no-entries None h = absurd cc
+no-entries (Some []) h = refl
+no-entries (Some (e ∷ entries)) h = absurd cc
+
+pub last-of : (known : List Object) (v : FileRow) → is_row known v ≡ true → IsLast known v.mode v.id
+last-of known v h = by (is_directory v.mode) refl h
+  where
+    by : (t : Bool) → is_directory v.mode ≡ t → row_by t (tree_at known v.id) ≡ true → IsLast known v.mode v.id
+    by false d h = inl d
+    by true d h = inr (no-entries (tree_at known v.id) h)
+
+pub row-of-last : (known : List Object) (v : FileRow) → IsLast known v.mode v.id → is_row known v ≡ true
+row-of-last known v (inl file) = ap (λ (t : Bool). row_by t (tree_at known v.id)) file
+row-of-last known v (inr empty) = ap (row_by (is_directory v.mode)) empty ∙ by (is_directory v.mode)
+  where
+    by : (t : Bool) → row_by t (Some []) ≡ true
+    by true = refl
+    by false = refl
+
 -- ---- each row is reached
 
 record Way (known : List Object) (root : Id) (path : Bytes) (row : FileRow) : Type 0 where
@@ -55,7 +91,7 @@ record Way (known : List Object) (root : Id) (path : Bytes) (row : FileRow) : Ty
   bytes : IsBytes path → IsBytes row.path
   id : IsId row.id
 
-way-of : (known : List Object) → AreObjects known → (depth : ℕ) (path : Bytes) (root : Id) (row : FileRow) → In row (visits known depth path root) → is_row row ≡ true → Way known root path row
+way-of : (known : List Object) → AreObjects known → (depth : ℕ) (path : Bytes) (root : Id) (row : FileRow) → In row (visits known depth path root) → is_row known row ≡ true → Way known root path row
 way-of known trees zero path root row i r = absurd (subst (λ (vs : List FileRow). In row vs) (visits-zero known zero path root refl) i)
 way-of known trees (suc depth) path root row i r = by (λ p q j. way-of known trees depth p q row j r) (tree_at known root) refl
   where
@@ -74,11 +110,11 @@ way-of known trees (suc depth) path root row i r = by (λ p q j. way-of known tr
           id = w.id;
         }
 
-    leaf : (entries : List TreeEntry) (e : TreeEntry) → tree_at known root ≡ Some entries → In e entries → is_row (row_at (joined_path path e.name) e) ≡ true → Way known root path (row_at (joined_path path e.name) e)
+    leaf : (entries : List TreeEntry) (e : TreeEntry) → tree_at known root ≡ Some entries → In e entries → is_row known (row_at (joined_path path e.name) e) ≡ true → Way known root path (row_at (joined_path path e.name) e)
     leaf entries e at i file = record {
       name = e.name;
       names = [];
-      reaches = ((entries, at, i), not-true (is_directory e.mode) file);
+      reaches = ((entries, at, i), last-of known (row_at (joined_path path e.name) e) file);
       each = (name-of entries e (tree_at-tree known root entries trees at) i, tt);
       is = refl;
       bytes = λ p. joined-bytes path e.name p (bytes-of entries e (tree_at-tree known root entries trees at) i);
@@ -90,7 +126,7 @@ way-of known trees (suc depth) path root row i r = by (λ p q j. way-of known tr
     by rec (Some entries) at =
         let from = of-flat (entry_visits known depth path) entries row (subst (λ (vs : List FileRow). In row vs) (visits-suc known depth path root entries at) i) in
         elim from.2 [
-          | inl q ↦ subst (λ (v : FileRow). Way known root path v) (sym q) (leaf entries from.0 at from.1 (sym (ap is_row q) ∙ r))
+          | inl q ↦ subst (λ (v : FileRow). Way known root path v) (sym q) (leaf entries from.0 at from.1 (sym (ap (is_row known) q) ∙ r))
           | inr j ↦ deeper entries from.0 at from.1 rec (is_directory from.0.mode) refl j
         ]
 
@@ -131,7 +167,7 @@ beginning known (suc depth) path root name (next ∷ names) mode id h lt =
           (in-flat (entry_visits known (suc depth) path) h.1.0 (record { mode = Directory; name = name; id = h.0 }) _ h.1.2 (inr b.in_walk));
     }
 
-reach-names : (known : List Object) → AreObjects known → (root : Id) (names : List Bytes) (mode : Mode) (id : Id) → Reaches known root names mode id → Each IsName names × (is_directory mode ≡ false)
+reach-names : (known : List Object) → AreObjects known → (root : Id) (names : List Bytes) (mode : Mode) (id : Id) → Reaches known root names mode id → Each IsName names × IsLast known mode id
 reach-names known trees root [] mode id h = absurd h
 reach-names known trees root (name ∷ []) mode id h =
     ((name-of h.0.0 (record { mode = mode; name = name; id = id }) (tree_at-tree known root h.0.0 trees h.0.1) h.0.2, tt), h.1)
@@ -146,10 +182,10 @@ Each-take (suc n) (name ∷ names) h = (h.0, Each-take n names h.1)
 
 -- what is reached is visited, where no visited path has so many components
 reached : (known : List Object) → AreObjects known → (depth : ℕ) (root : Id) → ((v : FileRow) → In v (visits known (suc depth) [] root) → length (components v.path) ≤ depth)
-    → (row : FileRow) → Unfolds known root row → In row (visits known (suc depth) [] root) × (is_row row ≡ true)
+    → (row : FileRow) → Unfolds known root row → In row (visits known (suc depth) [] root) × (is_row known row ≡ true)
 reached known trees depth root short row h = by (components row.path) refl h
   where
-    by : (names : List Bytes) → components row.path ≡ names → Reaches known root names row.mode row.id → In row (visits known (suc depth) [] root) × (is_row row ≡ true)
+    by : (names : List Bytes) → components row.path ≡ names → Reaches known root names row.mode row.id → In row (visits known (suc depth) [] root) × (is_row known row ≡ true)
     by [] e h = absurd h
     by (name ∷ names) e h =
         let all = reach-names known trees root (name ∷ names) row.mode row.id h in
@@ -165,7 +201,7 @@ reached known trees depth root short row h = by (components row.path) refl h
                 subst (λ (p : Bytes). In (record { path = p; mode = row.mode; id = row.id }) (visits known (suc depth) [] root)) (sym is)
                 (visited known (suc depth) [] root name names row.mode row.id h (omega arith))
           ],
-          ap not all.1,
+          row-of-last known row all.1,
         )
 
 -- ---- nothing was refused, so paths are fit
@@ -177,10 +213,10 @@ fit-if false rest h = absurd cc
 pub fit-visits : (known : List Object) (size : ℕ) (vs : List FileRow) (v : FileRow) → first_visit_fault known size vs ≡ None → In v vs → is_fit_path v.path ≡ true
 fit-visits known size [] v h i = absurd i
 fit-visits known size (w ∷ vs) v h i =
-    let parts = step-none (visit_fault known size w) w.id (first_visit_fault known (next size w) vs) (sym (fault-cons known size w vs) ∙ h) in
+    let parts = step-none (visit_fault known size w) w.id (first_visit_fault known (next known size w) vs) (sym (fault-cons known size w vs) ∙ h) in
     elim i [
       | inl q ↦ ap (λ (x : FileRow). is_fit_path x.path) q ∙ fit-if (is_fit_path w.path) _ parts.0
-      | inr j ↦ fit-visits known (next size w) vs v parts.1 j
+      | inr j ↦ fit-visits known (next known size w) vs v parts.1 j
     ]
 
 pub fit-short : (path : Bytes) → is_fit_path path ≡ true → length (components path) ≤ 256
@@ -207,34 +243,45 @@ way-behind (b ∷ path) name (next ∷ names) some =
 clash : true ≡ false → ⊥
 clash q = cc
 
+-- what stands in front stays in front
+pub met-front : (front : Bytes) (mode : Mode) (path : Bytes) → sort_name mode (front ++ path) ≡ front ++ sort_name mode path
+met-front front mode path = by (is_directory mode)
+  where
+    by : (t : Bool) → (if t then (front ++ path) ++ 47 ∷ [] else front ++ path) ≡ front ++ (if t then path ++ 47 ∷ [] else path)
+    by true = append_assoc front path (47 ∷ [])
+    by false = refl
+
 -- the path of a row at or below an entry
 record Under (path : Bytes) (e : TreeEntry) (x : Bytes) : Type 0 where
   more : Bytes
   is : x ≡ base path ++ (sort_name e.mode e.name ++ more)
   flat : is_directory e.mode ≡ false → more ≡ []
 
-under : (known : List Object) → AreObjects known → (depth : ℕ) (path : Bytes) (e : TreeEntry) (v : FileRow) → IsName e.name → In v (entry_visits known depth path e) → is_row v ≡ true → Under path e v.path
+under : (known : List Object) → AreObjects known → (depth : ℕ) (path : Bytes) (e : TreeEntry) (v : FileRow) → IsName e.name → In v (entry_visits known depth path e) → is_row known v ≡ true → Under path e (met_path v)
 under known trees depth path e v n i r = elim i [
-  | inl q ↦ subst (λ (x : FileRow). Under path e x.path) (sym q) (here (is_directory e.mode) refl (sym (ap is_row q) ∙ r))
+  | inl q ↦ subst (λ (x : FileRow). Under path e (met_path x)) (sym q) here
   | inr j ↦ there (is_directory e.mode) refl j
 ]
   where
-    here : (t : Bool) → is_directory e.mode ≡ t → is_row (row_at (joined_path path e.name) e) ≡ true → Under path e (joined_path path e.name)
-    here t d r = record {
+    here : Under path e (met_path (row_at (joined_path path e.name) e))
+    here = record {
       more = [];
-      is = joined-base path e.name ∙ ap (λ (x : Bytes). base path ++ x) (rw (not-true (is_directory e.mode) r) (sym (append-nil e.name)));
+      is = ap (sort_name e.mode) (joined-base path e.name) ∙ met-front (base path) e.mode e.name ∙ ap (λ (x : Bytes). base path ++ x) (sym (append-nil (sort_name e.mode e.name)));
       flat = λ _. refl;
     }
 
-    there : (t : Bool) → is_directory e.mode ≡ t → In v (if t then visits known depth (joined_path path e.name) e.id else []) → Under path e v.path
+    there : (t : Bool) → is_directory e.mode ≡ t → In v (if t then visits known depth (joined_path path e.name) e.id else []) → Under path e (met_path v)
     there false d j = absurd j
     there true d j =
         let w = way-of known trees depth (joined_path path e.name) e.id v j r in
         let rest = way-behind (joined_path path e.name) w.name w.names (joined-some path e.name n.some) in
+        let whole : v.path ≡ (base path ++ (e.name ++ 47 ∷ [])) ++ rest.0 =
+        w.is ∙ rest.1 ∙ ap (λ (x : Bytes). x ++ 47 ∷ rest.0) (joined-base path e.name) ∙ append_assoc (base path) e.name (47 ∷ rest.0)
+        ∙ ap (λ (x : Bytes). base path ++ x) (sym (append_assoc e.name (47 ∷ []) rest.0)) ∙ sym (append_assoc (base path) (e.name ++ 47 ∷ []) rest.0) in
         record {
-          more = rest.0;
-          is = w.is ∙ rest.1 ∙ ap (λ (x : Bytes). x ++ 47 ∷ rest.0) (joined-base path e.name) ∙ append_assoc (base path) e.name (47 ∷ rest.0)
-              ∙ ap (λ (x : Bytes). base path ++ x) (sym (append_assoc e.name (47 ∷ []) rest.0) ∙ ap (λ (b : Bool). (if b then e.name ++ 47 ∷ [] else e.name) ++ rest.0) (sym d));
+          more = sort_name v.mode rest.0;
+          is = ap (sort_name v.mode) whole ∙ met-front (base path ++ (e.name ++ 47 ∷ [])) v.mode rest.0 ∙ append_assoc (base path) (e.name ++ 47 ∷ []) (sort_name v.mode rest.0)
+              ∙ ap (λ (b : Bool). base path ++ ((if b then e.name ++ 47 ∷ [] else e.name) ++ sort_name v.mode rest.0)) (sym d);
           flat = λ f. absurd (clash (sym d ∙ f));
         }
 
@@ -275,27 +322,41 @@ rises-tail : (e : TreeEntry) (es : List TreeEntry) → rises is_entry_below (e �
 rises-tail e [] h = refl
 rises-tail e (g ∷ es) h = (both (is_entry_below e g) (rises is_entry_below (g ∷ es)) h).1
 
-abbrev paths : List FileRow → List Bytes
-paths vs = map (λ r. r.path) (filter is_row vs)
-
-paths-append : (vs ws : List FileRow) → paths (vs ++ ws) ≡ paths vs ++ paths ws
-paths-append vs ws = ap (map (λ (r : FileRow). r.path)) (filter-append is_row vs ws) ∙ map-append (λ (r : FileRow). r.path) (filter is_row vs) (filter is_row ws)
-
-of-map : (vs : List FileRow) (x : Bytes) → In x (map (λ r. r.path) vs) → (v : FileRow) × In v vs × (x ≡ v.path)
-of-map [] x h = absurd h
-of-map (v ∷ vs) x h = elim h [ inl q ↦ (v, inl refl, q) | inr j ↦ let o = of-map vs x j in (o.0, inr o.1, o.2) ]
-
-of-paths : (vs : List FileRow) (x : Bytes) → In x (paths vs) → (v : FileRow) × In v vs × (x ≡ v.path) × (is_row v ≡ true)
-of-paths vs x h = let o = of-map (filter is_row vs) x h in let f = of-filter is_row o.0 vs o.1 in (o.0, f.0, o.2, f.1)
-
 module _ (known : List Object) (trees : AreObjects known) where
+  abbrev pub paths : List FileRow → List Bytes
+  paths vs = map met_path (filter (is_row known) vs)
+
+  paths-append : (vs ws : List FileRow) → paths (vs ++ ws) ≡ paths vs ++ paths ws
+  paths-append vs ws = ap (map met_path) (filter-append (is_row known) vs ws) ∙ map-append met_path (filter (is_row known) vs) (filter (is_row known) ws)
+
+  of-map : (vs : List FileRow) (x : Bytes) → In x (map met_path vs) → (v : FileRow) × In v vs × (x ≡ met_path v)
+  of-map [] x h = absurd h
+  of-map (v ∷ vs) x h = elim h [ inl q ↦ (v, inl refl, q) | inr j ↦ let o = of-map vs x j in (o.0, inr o.1, o.2) ]
+
+  of-paths : (vs : List FileRow) (x : Bytes) → In x (paths vs) → (v : FileRow) × In v vs × (x ≡ met_path v) × (is_row known v ≡ true)
+  of-paths vs x h = let o = of-map (filter (is_row known) vs) x h in let f = of-filter (is_row known) o.0 vs o.1 in (o.0, f.0, o.2, f.1)
+
+  visits-empty : (depth : ℕ) (path : Bytes) (id : Id) → tree_at known id ≡ Some [] → visits known depth path id ≡ []
+  visits-empty zero path id h = visits-zero known zero path id refl
+  visits-empty (suc depth) path id h = visits-suc known depth path id [] h
+
   rising-entry : (depth : ℕ) (path : Bytes) (e : TreeEntry) → Rising (paths (visits known depth (joined_path path e.name) e.id)) → Rising (paths (entry_visits known depth path e))
-  rising-entry depth path e h = by (is_directory e.mode)
+  rising-entry depth path e h = by (is_directory e.mode) (is_row known (row_at (joined_path path e.name) e)) refl refl
     where
-      by : (t : Bool) → Rising (map (λ r. r.path) (if not t then row_at (joined_path path e.name) e ∷ filter is_row (if t then visits known depth (joined_path path e.name) e.id else [])
-          else filter is_row (if t then visits known depth (joined_path path e.name) e.id else [])))
-      by true = h
-      by false = (tt, tt)
+      row : FileRow
+      row = row_at (joined_path path e.name) e
+
+      met : (t r : Bool) → Type 0
+      met t r = Rising (map met_path (if r then row ∷ filter (is_row known) (if t then visits known depth (joined_path path e.name) e.id else []) else filter (is_row known) (if t then visits known depth (joined_path path e.name) e.id else [])))
+
+      none_is : is_directory e.mode ≡ true → row_by true (tree_at known e.id) ≡ true → visits known depth (joined_path path e.name) e.id ≡ []
+      none_is d r = visits-empty depth (joined_path path e.name) e.id (no-entries (tree_at known e.id) r)
+
+      by : (t r : Bool) → is_directory e.mode ≡ t → is_row known row ≡ r → met t r
+      by true false d r = h
+      by true true d r = subst (λ (vs : List FileRow). Rising (map met_path (row ∷ filter (is_row known) vs))) (sym (none_is d (sym (ap (λ (t : Bool). row_by t (tree_at known e.id)) d) ∙ r))) (tt, tt)
+      by false true d r = (tt, tt)
+      by false false d r = tt
 
   rising-entries : (depth : ℕ) (path : Bytes) (es : List TreeEntry) → ((e : TreeEntry) → In e es → IsName e.name) → rises is_entry_below es ≡ true
       → ((p : Bytes) (id : Id) → Rising (paths (visits known depth p id))) → Rising (paths (entries_visits known depth path es))
@@ -309,11 +370,11 @@ module _ (known : List Object) (trees : AreObjects known) where
       let a = of-paths (entry_visits known depth path e) x i in
       let b = of-paths (entries_visits known depth path es) y j in
       let f = of-flat (entry_visits known depth path) es b.0 b.1 in
-      ap (λ (z : Bytes). is_below z y) a.2 ∙ ap (λ (z : Bytes). is_below a.0.path z) b.2
-      ∙ cross path e f.0 a.0.path b.0.path (names e (inl refl)) (names f.0 (inr f.1)) (rises-later e es f.0 order f.1)
+      ap (λ (z : Bytes). is_below z y) a.2 ∙ ap (λ (z : Bytes). is_below (met_path a.0) z) b.2
+      ∙ cross path e f.0 (met_path a.0) (met_path b.0) (names e (inl refl)) (names f.0 (inr f.1)) (rises-later e es f.0 order f.1)
       (under known trees depth path e a.0 (names e (inl refl)) a.1 a.3) (under known trees depth path f.0 b.0 (names f.0 (inr f.1)) f.2 b.3)))
 
-  rising : (depth : ℕ) (path : Bytes) (root : Id) → Rising (paths (visits known depth path root))
+  pub rising : (depth : ℕ) (path : Bytes) (root : Id) → Rising (paths (visits known depth path root))
   rising zero path root = subst (λ (vs : List FileRow). Rising (paths vs)) (sym (visits-zero known zero path root refl)) tt
   rising (suc depth) path root = by (rising depth) (tree_at known root) refl
     where
@@ -322,31 +383,107 @@ module _ (known : List Object) (trees : AreObjects known) where
       by rec (Some entries) at = subst (λ (vs : List FileRow). Rising (paths vs)) (sym (visits-suc known depth path root entries at))
           (rising-entries depth path entries (λ e i. name-of entries e (tree_at-tree known root entries trees at) i) (tree_at-tree known root entries trees at).1 rec)
 
+-- ---- one list of names reaches one row
+
+one-entry : (entries : List TreeEntry) (a b : TreeEntry) → has_distinct (map (λ e. e.name) entries) ≡ true → In a entries → In b entries → a.name ≡ b.name → a ≡ b
+one-entry [] a b d i j q = absurd i
+one-entry (e ∷ entries) a b d i j q =
+    let parts = both (not (list_any (bytes_eq e.name) (map (λ e. e.name) entries))) (has_distinct (map (λ e. e.name) entries)) d in
+    let out : (x : TreeEntry) → In x entries → e.name ≡ x.name → ⊥ = λ x k s. clash (sym (stands entries x k s) ∙ not-true (list_any (bytes_eq e.name) (map (λ e. e.name) entries)) parts.0) in
+    elim i [
+      | inl p ↦ elim j [
+        | inl r ↦ p ∙ sym r
+        | inr k ↦ absurd (out b k (ap (λ (x : TreeEntry). x.name) (sym p) ∙ q))
+      ]
+      | inr h ↦ elim j [
+        | inl r ↦ absurd (out a h (ap (λ (x : TreeEntry). x.name) (sym r) ∙ sym q))
+        | inr k ↦ one-entry entries a b parts.1 h k q
+      ]
+    ]
+  where
+    stands : (es : List TreeEntry) (x : TreeEntry) → In x es → e.name ≡ x.name → list_any (bytes_eq e.name) (map (λ e. e.name) es) ≡ true
+    stands [] x k s = absurd k
+    stands (f ∷ es) x k s = elim k [
+      | inl p ↦ ap (λ (t : Bool). t || list_any (bytes_eq e.name) (map (λ e. e.name) es)) ((bytes_eq-Decides e.name f.name).1 (s ∙ ap (λ (x : TreeEntry). x.name) p))
+      | inr l ↦ ap (λ (t : Bool). bytes_eq e.name f.name || t) (stands es x l s) ∙ or_true (bytes_eq e.name f.name)
+    ]
+
+-- the entries that one tree has of one name
+same-entry : (known : List Object) → AreObjects known → (root : Id) (name : Bytes) (m n : Mode) (a b : Id) → HasEntry known root m name a → HasEntry known root n name b → (m ≡ n) × (a ≡ b)
+same-entry known trees root name m n a b x y =
+    let same : y.0 ≡ x.0 = some_is {x = y.0} {y = x.0} (sym y.1 ∙ x.1) in
+    let is = one-entry x.0 (record { mode = m; name = name; id = a }) (record { mode = n; name = name; id = b }) (tree_at-tree known root x.0 trees x.1).2 x.2 (subst (λ (es : List TreeEntry). In (record { mode = n; name = name; id = b }) es) same y.2) refl in
+    ((λ i. (is i).mode), (λ i. (is i).id))
+
+reaches-one : (known : List Object) → AreObjects known → (root : Id) (names : List Bytes) (m n : Mode) (a b : Id) → Reaches known root names m a → Reaches known root names n b → (m ≡ n) × (a ≡ b)
+reaches-one known trees root [] m n a b x y = absurd x
+reaches-one known trees root (name ∷ []) m n a b x y = same-entry known trees root name m n a b x.0 y.0
+reaches-one known trees root (name ∷ next ∷ names) m n a b x y =
+    let below : x.0 ≡ y.0 = (same-entry known trees root name Directory Directory x.0 y.0 x.1 y.1).1 in
+    reaches-one known trees y.0 (next ∷ names) m n a b (subst (λ (r : Id). Reaches known r (next ∷ names) m a) below x.2) y.2
+
 -- ---- the whole
 
-pub unfolds : (known : List Object) (root : Id) → AreObjects known → first_visit_fault known 0 (walk known root) ≡ None → IsUnfolding known root (filter is_row (walk known root))
+pub reached-by : (known : List Object) (root : Id) → AreObjects known → (row : FileRow) → In row (met_rows known root) → Unfolds known root row
+reached-by known root trees row i =
+    let f = of-filter (is_row known) row (walk known root) i in
+    let w = way-of known trees 257 [] root row f.0 f.1 in
+    subst (λ (c : List Bytes). Reaches known root c row.mode row.id) (sym (ap components w.is ∙ components-whole (w.name ∷ w.names) (λ e. cc) w.each)) w.reaches
+
+-- rows of one path are one
+pub one-path : (known : List Object) (root : Id) → AreObjects known → (a b : FileRow) → In a (met_rows known root) → In b (met_rows known root) → a.path ≡ b.path → a ≡ b
+one-path known root trees a b i j q =
+    let one = reaches-one known trees root (components a.path) a.mode b.mode a.id b.id (reached-by known root trees a i)
+    (subst (λ (p : Bytes). Reaches known root (components p) b.mode b.id) (sym q) (reached-by known root trees b j)) in
+    (λ k. record { path = q k; mode = one.0 k; id = one.1 k })
+
+-- the rows of a walk stand one before the other
+pub met-rises : (known : List Object) (root : Id) → AreObjects known → Rising (map met_path (met_rows known root))
+met-rises known root trees = rising known trees 257 [] root
+
+pub met-ascends : (known : List Object) (root : Id) → AreObjects known → Ascends met_path (met_rows known root)
+met-ascends known root trees = rises-ascends met_path (met_rows known root) (rises-Rising (map met_path (met_rows known root)) (met-rises known root trees))
+
+pub met-distinct : (known : List Object) (root : Id) → AreObjects known → Distinct (λ (r : FileRow). r.path) (met_rows known root)
+met-distinct known root trees = by (met_rows known root) (λ r i. i) (met-rises known root trees)
+  where
+    by : (rows : List FileRow) → ((r : FileRow) → In r rows → In r (met_rows known root)) → Rising (map met_path rows) → Distinct (λ (r : FileRow). r.path) rows
+    by [] among up = tt
+    by (r ∷ rows) among up = (
+      each-from (λ x. r.path ≢ x.path) rows (λ x i q.
+          let one = one-path known root trees r x (among r (inl refl)) (among x (inr i)) q in
+          clash (sym (each-in (λ y. is_below (met_path r) y ≡ true) (map met_path rows) (met_path x) up.0 (in-map met_path x rows i)) ∙ ap (λ (z : FileRow). is_below (met_path z) (met_path x)) one ∙ is_below-irreflexive (met_path x))),
+      by rows (λ x i. among x (inr i)) up.1,
+    )
+
+pub unfolds : (known : List Object) (root : Id) → AreObjects known → first_visit_fault known 0 (walk known root) ≡ None → IsUnfolding known root (tree_rows known root)
 unfolds known root trees none = record {
-  each = λ row i.
-      let f = of-filter is_row row (walk known root) i in
-      let w = way-of known trees 257 [] root row f.0 f.1 in
-      subst (λ (c : List Bytes). Reaches known root c row.mode row.id) (sym (ap components w.is ∙ components-whole (w.name ∷ w.names) (λ e. cc) w.each)) w.reaches;
+  each = λ row i. reached-by known root trees row (of-order is_path_below row (met_rows known root) i);
   all = λ row h.
       let r = reached known trees 256 root (λ v i. fit-short v.path (fit-visits known 0 (walk known root) v none i)) row h in
-      in-filter is_row row (walk known root) r.0 r.1;
-  in_order = rises-Rising (paths (walk known root)) (rising known trees 257 [] root);
+      in-order is_path_below row (met_rows known root) (in-filter (is_row known) row (walk known root) r.0 r.1);
+  in_order = order-rises (λ (r : FileRow). r.path) (met_rows known root) (met-distinct known root trees);
 }
 
--- the rows of a walk are files
-pub walk-files : (known : List Object) (root : Id) → AreObjects known → first_visit_fault known 0 (walk known root) ≡ None → IsFiles (filter is_row (walk known root))
+-- each row that a walk meets is one of a set of rows
+pub row-of : (known : List Object) (root : Id) (row : FileRow) → AreObjects known → first_visit_fault known 0 (walk known root) ≡ None → In row (met_rows known root) → IsFileRow row
+row-of known root row trees none i =
+    let f = of-filter (is_row known) row (walk known root) i in
+    let w = way-of known trees 257 [] root row f.0 f.1 in
+    record {
+      fit = fit-visits known 0 (walk known root) row none f.0;
+      bytes = w.bytes tt;
+      empty = λ d. empty-id d (last-of known row f.1);
+      id = w.id;
+    }
+  where
+    empty-id : is_directory row.mode ≡ true → IsLast known row.mode row.id → row.id ≡ object_id tree []
+    empty-id d (inl file) = absurd (clash (sym d ∙ file))
+    empty-id d (inr at) = (held known row.id [] trees at).is_id ∙ ap (object_id tree) text-none
+
+-- the rows of a tree are a set of rows
+pub walk-files : (known : List Object) (root : Id) → AreObjects known → first_visit_fault known 0 (walk known root) ≡ None → IsFiles (tree_rows known root)
 walk-files known root trees none = record {
-  each = each-from IsFileRow (filter is_row (walk known root)) (λ r i.
-      let f = of-filter is_row r (walk known root) i in
-      let w = way-of known trees 257 [] root r f.0 f.1 in
-      record {
-        fit = fit-visits known 0 (walk known root) r none f.0;
-        bytes = w.bytes tt;
-        file = not-true (is_directory r.mode) f.1;
-        id = w.id;
-      });
+  each = each-from IsFileRow (tree_rows known root) (λ r i. row-of known root r trees none (of-order is_path_below r (met_rows known root) i));
   in_order = (unfolds known root trees none).in_order;
 }

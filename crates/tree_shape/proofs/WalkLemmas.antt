@@ -22,10 +22,10 @@ use Rattle.tree_shape.specs.Walks.{row_at, entry_visits, entries_visits, size_af
 abbrev pub step : Option FaultName → Id → Option WalkFault → Option WalkFault
 step o id rest = elim o as (λ _. Option WalkFault) [ Some name ↦ Some (record { name = name; id = id }) | None ↦ rest ]
 
-abbrev pub next : ℕ → FileRow → ℕ
-next size v = if is_row v then size + row_size v else size
+abbrev pub next : List Object → ℕ → FileRow → ℕ
+next known size v = if is_row known v then size + row_size v else size
 
-pub fault-cons : (known : List Object) (size : ℕ) (v : FileRow) (vs : List FileRow) → first_visit_fault known size (v ∷ vs) ≡ step (visit_fault known size v) v.id (first_visit_fault known (next size v) vs)
+pub fault-cons : (known : List Object) (size : ℕ) (v : FileRow) (vs : List FileRow) → first_visit_fault known size (v ∷ vs) ≡ step (visit_fault known size v) v.id (first_visit_fault known (next known size v) vs)
 unfolding first_visit_fault
 fault-cons known size v vs = refl
 
@@ -51,17 +51,17 @@ step-some (Some n) id rest more w h f = h
 
 -- ---- the fault of visits in a row
 
-size-append : (size : ℕ) (vs ws : List FileRow) → size_after size (vs ++ ws) ≡ size_after (size_after size vs) ws
-size-append size [] ws = refl
-size-append size (v ∷ vs) ws = size-append (next size v) vs ws
+size-append : (known : List Object) (size : ℕ) (vs ws : List FileRow) → size_after known size (vs ++ ws) ≡ size_after known (size_after known size vs) ws
+size-append known size [] ws = refl
+size-append known size (v ∷ vs) ws = size-append known (next known size v) vs ws
 
 fault-behind : (known : List Object) (size : ℕ) (vs ws : List FileRow) → first_visit_fault known size vs ≡ None
-    → first_visit_fault known size (vs ++ ws) ≡ first_visit_fault known (size_after size vs) ws
+    → first_visit_fault known size (vs ++ ws) ≡ first_visit_fault known (size_after known size vs) ws
 fault-behind known size [] ws h = refl
 fault-behind known size (v ∷ vs) ws h =
-    let parts = step-none (visit_fault known size v) v.id (first_visit_fault known (next size v) vs) (sym (fault-cons known size v vs) ∙ h) in
-    fault-cons known size v (vs ++ ws) ∙ step-pass (visit_fault known size v) v.id (first_visit_fault known (next size v) (vs ++ ws)) parts.0
-    ∙ fault-behind known (next size v) vs ws parts.1
+    let parts = step-none (visit_fault known size v) v.id (first_visit_fault known (next known size v) vs) (sym (fault-cons known size v vs) ∙ h) in
+    fault-cons known size v (vs ++ ws) ∙ step-pass (visit_fault known size v) v.id (first_visit_fault known (next known size v) (vs ++ ws)) parts.0
+    ∙ fault-behind known (next known size v) vs ws parts.1
 
 fault-front : (known : List Object) (size : ℕ) (vs ws : List FileRow) (w : WalkFault) → first_visit_fault known size vs ≡ Some w → first_visit_fault known size (vs ++ ws) ≡ Some w
 fault-front known size [] ws w h = absurd (clash (sym (fault-nil known size) ∙ h))
@@ -70,17 +70,16 @@ fault-front known size [] ws w h = absurd (clash (sym (fault-nil known size) ∙
     clash e = cc
 fault-front known size (v ∷ vs) ws w h =
     fault-cons known size v (vs ++ ws)
-    ∙ step-some (visit_fault known size v) v.id (first_visit_fault known (next size v) vs) (first_visit_fault known (next size v) (vs ++ ws)) w (sym (fault-cons known size v vs) ∙ h) (fault-front known (next size v) vs ws w)
+    ∙ step-some (visit_fault known size v) v.id (first_visit_fault known (next known size v) vs) (first_visit_fault known (next known size v) (vs ++ ws)) w (sym (fault-cons known size v vs) ∙ h) (fault-front known (next known size v) vs ws w)
 
 pub fault-one : (known : List Object) (size : ℕ) (v : FileRow) → refused known size v ≡ first_visit_fault known size (v ∷ [])
 fault-one known size v =
-    sym (fault-cons known size v [] ∙ ap (step (visit_fault known size v) v.id) (fault-nil known (next size v)) ∙ step-one (visit_fault known size v) v.id)
+    sym (fault-cons known size v [] ∙ ap (step (visit_fault known size v) v.id) (fault-nil known (next known size v)) ∙ step-one (visit_fault known size v) v.id)
 
 -- ---- what a fault of the program says of them
 
 carry : (f g : Option WalkFault) → ((w : WalkFault) → f ≡ Some w → g ≡ Some w) → (e : TreeFault) → IsTreeFault f e → IsTreeFault g e
 carry f g h (faults.ObjectUnknown id) i = h _ i
-carry f g h (faults.EmptySubtree id) i = h _ i
 carry f g h faults.PathUnfit i = named f g _ h i
   where
     named : (f g : Option WalkFault) (n : FaultName) → ((w : WalkFault) → f ≡ Some w → g ≡ Some w) → option_map (λ w. w.name) f ≡ Some n → option_map (λ w. w.name) g ≡ Some n
@@ -109,22 +108,32 @@ pub Walked-append : (known : List Object) (a b c : ℕ) (first second third vs w
     → Walked known a c first third (vs ++ ws)
 Walked-append known a b c first second third vs ws v w = record {
   none = fault-behind known a vs ws v.none ∙ ap (λ (n : ℕ). first_visit_fault known n ws) (sym v.size) ∙ w.none;
-  rows = w.rows ∙ ap (λ (r : List FileRow). r ++ filter is_row ws) v.rows ∙ append_assoc first (filter is_row vs) (filter is_row ws) ∙ ap (λ (r : List FileRow). first ++ r) (sym (filter-append is_row vs ws));
-  size = w.size ∙ ap (λ (n : ℕ). size_after n ws) v.size ∙ sym (size-append a vs ws);
+  rows = w.rows ∙ ap (λ (r : List FileRow). r ++ filter (is_row known) ws) v.rows ∙ append_assoc first (filter (is_row known) vs) (filter (is_row known) ws) ∙ ap (λ (r : List FileRow). first ++ r) (sym (filter-append (is_row known) vs ws));
+  size = w.size ∙ ap (λ (n : ℕ). size_after known n ws) v.size ∙ sym (size-append known a vs ws);
   within = w.within;
 }
 
 none-one : (known : List Object) (size : ℕ) (v : FileRow) → visit_fault known size v ≡ None → first_visit_fault known size (v ∷ []) ≡ None
-none-one known size v h = fault-cons known size v [] ∙ step-pass (visit_fault known size v) v.id (first_visit_fault known (next size v) []) h ∙ fault-nil known (next size v)
+none-one known size v h = fault-cons known size v [] ∙ step-pass (visit_fault known size v) v.id (first_visit_fault known (next known size v) []) h ∙ fault-nil known (next known size v)
 
--- a visit of a directory appends no row
-pub Walked-dir : (known : List Object) (size to : ℕ) (rows : List FileRow) (v : FileRow) → is_directory v.mode ≡ true
-    → visit_fault known size v ≡ None → to ≡ size_after size (v ∷ []) → to ≤ rows_limit → Walked known size to rows rows (v ∷ [])
-Walked-dir known size to rows v dir h s within = record { none = none-one known size v h; rows = rw dir (sym (append-nil rows)); size = s; within = within }
+-- a visit of a directory with entries appends no row
+pub Walked-dir : (known : List Object) (size to : ℕ) (rows : List FileRow) (v : FileRow) → is_row known v ≡ false
+    → visit_fault known size v ≡ None → to ≡ size_after known size (v ∷ []) → to ≤ rows_limit → Walked known size to rows rows (v ∷ [])
+Walked-dir known size to rows v dir h s within = record {
+  none = none-one known size v h;
+  rows = sym (append-nil rows) ∙ ap (λ (b : Bool). rows ++ (if b then v ∷ [] else [])) (sym dir);
+  size = s;
+  within = within;
+}
 
-pub Walked-row : (known : List Object) (size to : ℕ) (rows new : List FileRow) (v : FileRow) → is_directory v.mode ≡ false
-    → visit_fault known size v ≡ None → to ≡ size_after size (v ∷ []) → to ≤ rows_limit → new ≡ rows ++ v ∷ [] → Walked known size to rows new (v ∷ [])
-Walked-row known size to rows new v file h s within n = record { none = none-one known size v h; rows = rw file n; size = s; within = within }
+pub Walked-row : (known : List Object) (size to : ℕ) (rows new : List FileRow) (v : FileRow) → is_row known v ≡ true
+    → visit_fault known size v ≡ None → to ≡ size_after known size (v ∷ []) → to ≤ rows_limit → new ≡ rows ++ v ∷ [] → Walked known size to rows new (v ∷ [])
+Walked-row known size to rows new v row h s within n = record {
+  none = none-one known size v h;
+  rows = n ∙ ap (λ (b : Bool). rows ++ (if b then v ∷ [] else [])) (sym row);
+  size = s;
+  within = within;
+}
 
 -- ---- the visits of entries
 
@@ -197,24 +206,24 @@ module _ (known : List Object) (from size : ℕ) (old rows : List FileRow) (dept
       (subst (λ (o : Option WalkFault). IsTreeFault o err) (fault-one known size (row_at whole e)) f))
 
   -- what lies below the entry is refused
-  pub deeper-in : (err : TreeFault) → is_directory e.mode ≡ true → Walked known size size rows rows (row_at whole e ∷ [])
-      → IsTreeFault (first_visit_fault known size (visits known depth whole e.id)) err → IsTreeFault (first_visit_fault known from (entries_visits known depth path entries)) err
-  deeper-in err dir one f =
+  pub deeper-in : (err : TreeFault) (mid : ℕ) (more : List FileRow) → is_directory e.mode ≡ true → Walked known size mid rows more (row_at whole e ∷ [])
+      → IsTreeFault (first_visit_fault known mid (visits known depth whole e.id)) err → IsTreeFault (first_visit_fault known from (entries_visits known depth path entries)) err
+  deeper-in err mid more dir one f =
       let all : entries_visits known depth path entries ≡ (front ++ row_at whole e ∷ []) ++ (visits known depth whole e.id ++ rest) =
       turn-all ∙ ap (λ (b : Bool). front ++ ((row_at whole e ∷ (if b then visits known depth whole e.id else [])) ++ rest)) dir
       ∙ sym (append_assoc front (row_at whole e ∷ []) (visits known depth whole e.id ++ rest)) in
       subst (λ (vs : List FileRow). IsTreeFault (first_visit_fault known from vs) err) (sym all)
-      (fault_on known from size old rows (front ++ row_at whole e ∷ []) (visits known depth whole e.id) rest err
-      (Walked-append known from size size old rows rows front (row_at whole e ∷ []) w one) f)
+      (fault_on known from mid old more (front ++ row_at whole e ∷ []) (visits known depth whole e.id) rest err
+      (Walked-append known from size mid old rows more front (row_at whole e ∷ []) w one) f)
 
   -- the entry and what lies below it were walked through
-  pub turn-dir : (last : ℕ) (new : List FileRow) → is_directory e.mode ≡ true → Walked known size size rows rows (row_at whole e ∷ []) → Walked known size last rows new (visits known depth whole e.id)
+  pub turn-dir : (mid last : ℕ) (met new : List FileRow) → is_directory e.mode ≡ true → Walked known size mid rows met (row_at whole e ∷ []) → Walked known mid last met new (visits known depth whole e.id)
       → Walked known from last old new (entries_visits known depth path (take (i + 1) entries))
-  turn-dir last new dir one more =
+  turn-dir mid last met new dir one more =
       let deep : List FileRow = visits known depth whole e.id in
       let all : entries_visits known depth path (take (i + 1) entries) ≡ front ++ (row_at whole e ∷ deep) = turn-more ∙ ap (λ (b : Bool). front ++ (row_at whole e ∷ (if b then deep else []))) dir in
       subst (λ (vs : List FileRow). Walked known from last old new vs) (sym all)
-      (Walked-append known from size last old rows new front (row_at whole e ∷ deep) w (Walked-append known size size last rows rows new (row_at whole e ∷ []) deep one more))
+      (Walked-append known from size last old rows new front (row_at whole e ∷ deep) w (Walked-append known size mid last rows met new (row_at whole e ∷ []) deep one more))
 
   -- the row of the entry was appended
   pub turn-row : (to : ℕ) (new : List FileRow) → is_directory e.mode ≡ false → Walked known size to rows new (row_at whole e ∷ []) → Walked known from to old new (entries_visits known depth path (take (i + 1) entries))
@@ -248,11 +257,11 @@ root-fault known root entries size path h s p =
 
 pub record WholeWalk (known : List Object) (root : Id) (rows : List FileRow) : Type 0 where
   pub none : walk_fault known root ≡ None
-  pub are : rows ≡ filter is_row (walk known root)
+  pub are : rows ≡ filter (is_row known) (walk known root)
 
 pub whole-walk : (known : List Object) (root : Id) (entries : List TreeEntry) (size to : ℕ) (path : Bytes) (old new : List FileRow) → tree_at known root ≡ Some entries → size ≡ 0 → path ≡ [] → old ≡ []
     → Walked known size to old new (entries_visits known 256 path entries) → WholeWalk known root new
 whole-walk known root entries size to path old new h s p o w = record {
   none = sym (root-fault known root entries size path h s p) ∙ w.none;
-  are = w.rows ∙ (λ k. o k ++ filter is_row (entries_visits known 256 (p k) entries)) ∙ ap (filter is_row) (sym (walk-of known root entries h));
+  are = w.rows ∙ (λ k. o k ++ filter (is_row known) (entries_visits known 256 (p k) entries)) ∙ ap (filter (is_row known)) (sym (walk-of known root entries h));
 }

@@ -1,5 +1,5 @@
 -- The turns of the loop over the entries of a tree.
-use Rattle.std.proofs.Common.{◌≡◌, ◌≤◌, ◌<◌, ◌+◌, ◌-◌, ◌&&◌, ℕ, Bool, true, false, List, [], ◌∷◌, length, take, refl, sym, subst, ◌∙◌}
+use Rattle.std.proofs.Common.{◌≡◌, ◌≤◌, ◌<◌, ◌+◌, ◌-◌, ◌&&◌, ℕ, Bool, true, false, List, [], ◌∷◌, length, take, Some, refl, sym, subst, ◌∙◌}
 use Rattle.std.specs.Prelude.{nat_le, nat_lt}
 use Rattle.text_model.specs.Text.{Bytes}
 use Rattle.text_model.specs.Path.{is_fit_path}
@@ -8,11 +8,11 @@ use Rattle.git_model.specs.Object.{Object, tree_at}
 use Rattle.git_model.specs.Unfold.{FileRow, first_visit_fault, visits}
 use Rattle.tree_shape.specs.declared.fault.TreeFault.{TreeFault}
 use Rattle.tree_shape.specs.declared.fault.TreeFault.TheVariants as faults
-use Rattle.tree_shape.specs.Faults.{IsTreeFault, IsSubtree, IsSubtreeFault}
+use Rattle.tree_shape.specs.Faults.{IsTreeFault, IsSubtreeFault}
 use Rattle.tree_shape.specs.Walks.{Walked, IsFront, row_at, refused, entries_visits}
 use Rattle.tree_shape.proofs.WalkLemmas.{Turn, visits-some, refused-in, deeper-in, turn-dir, turn-row, turn-last}
 use Rattle.tree_shape.proofs.FitLemmas.{fit-turn, levels-left, front-turn}
-use Rattle.tree_shape.proofs.VisitLemmas.{unfit-fault, dir-refused, dir-fine}
+use Rattle.tree_shape.proofs.VisitLemmas.{unfit-fault, dir-refused}
 
 -- what a turn knows at its beginning
 pub record Start (known : List Object) (levels : ℕ) (path : Bytes) (tree entries : List TreeEntry) (from size : ℕ) (old rows : List FileRow) (i : ℕ) (e : TreeEntry) (whole : Bytes) (short : Bool) : Type 0 where
@@ -50,23 +50,20 @@ module _ (known : List Object) (levels : ℕ) (path : Bytes) (tree entries : Lis
   too-long h = entry-refused faults.PathUnfit (unfit-fault known size (row_at whole e) (fits ∙ h))
 
   pub subtree-refused : (err : TreeFault) → short ≡ true → is_directory e.mode ≡ true → IsSubtreeFault (tree_at known e.id) e.id err → fault err
-  subtree-refused err h dir f = entry-refused err (dir-refused known size whole e.mode e.id err (fits ∙ h) dir f)
+  subtree-refused err h dir f = entry-refused err (dir-refused known size (row_at whole e) err (fits ∙ h) dir f)
 
-  into : (subtree : List TreeEntry) → short ≡ true → is_directory e.mode ≡ true → IsSubtree (tree_at known e.id) subtree → Walked known size size rows rows (row_at whole e ∷ [])
-  into subtree h dir is = dir-fine known size rows whole e.mode e.id subtree s.walked.within (fits ∙ h) dir is
+  below-is : (subtree : List TreeEntry) → short ≡ true → tree_at known e.id ≡ Some subtree → visits known levels whole e.id ≡ entries_visits known (levels - 1) whole subtree
+  below-is subtree h is = visits-some known levels whole e.id subtree (left h) is
 
-  below-is : (subtree : List TreeEntry) → short ≡ true → IsSubtree (tree_at known e.id) subtree → visits known levels whole e.id ≡ entries_visits known (levels - 1) whole subtree
-  below-is subtree h is = visits-some known levels whole e.id subtree (left h) is.0
+  pub below-refused : (err : TreeFault) (subtree : List TreeEntry) (mid : ℕ) (met : List FileRow) → short ≡ true → is_directory e.mode ≡ true → tree_at known e.id ≡ Some subtree → Walked known size mid rows met (row_at whole e ∷ [])
+      → IsTreeFault (first_visit_fault known mid (entries_visits known (levels - 1) whole subtree)) err → fault err
+  below-refused err subtree mid met h dir is one f = back err (deeper-in known from size old rows levels path entries i e whole s.turn s.walked err mid met dir one
+      (subst (λ (vs : List FileRow). IsTreeFault (first_visit_fault known mid vs) err) (sym (below-is subtree h is)) f))
 
-  pub below-refused : (err : TreeFault) (subtree : List TreeEntry) → short ≡ true → is_directory e.mode ≡ true → IsSubtree (tree_at known e.id) subtree
-      → IsTreeFault (first_visit_fault known size (entries_visits known (levels - 1) whole subtree)) err → fault err
-  below-refused err subtree h dir is f = back err (deeper-in known from size old rows levels path entries i e whole s.turn s.walked err dir (into subtree h dir is)
-      (subst (λ (vs : List FileRow). IsTreeFault (first_visit_fault known size vs) err) (sym (below-is subtree h is)) f))
-
-  pub went-through : (last : ℕ) (new : List FileRow) (subtree : List TreeEntry) → short ≡ true → is_directory e.mode ≡ true → IsSubtree (tree_at known e.id) subtree
-      → Walked known size last rows new (entries_visits known (levels - 1) whole subtree) → Walked known from last old new (entries_visits known levels path (take (i + 1) entries))
-  went-through last new subtree h dir is more = turn-dir known from size old rows levels path entries i e whole s.turn s.walked last new dir (into subtree h dir is)
-      (subst (λ (vs : List FileRow). Walked known size last rows new vs) (sym (below-is subtree h is)) more)
+  pub went-through : (mid last : ℕ) (met new : List FileRow) (subtree : List TreeEntry) → short ≡ true → is_directory e.mode ≡ true → tree_at known e.id ≡ Some subtree → Walked known size mid rows met (row_at whole e ∷ [])
+      → Walked known mid last met new (entries_visits known (levels - 1) whole subtree) → Walked known from last old new (entries_visits known levels path (take (i + 1) entries))
+  went-through mid last met new subtree h dir is one more = turn-dir known from size old rows levels path entries i e whole s.turn s.walked mid last met new dir one
+      (subst (λ (vs : List FileRow). Walked known mid last met new vs) (sym (below-is subtree h is)) more)
 
   pub went-past : (to : ℕ) (new : List FileRow) → is_directory e.mode ≡ false → Walked known size to rows new (row_at whole e ∷ []) → Walked known from to old new (entries_visits known levels path (take (i + 1) entries))
   went-past to new file one = turn-row known from size old rows levels path entries i e whole s.turn s.walked to new file one

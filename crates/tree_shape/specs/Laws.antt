@@ -2,9 +2,8 @@
 use Rattle.std.specs.Prelude.{◌≡◌, ◌≤◌, true, List, Some, None}
 use Rattle.std.specs.List.{sum_by}
 use Rattle.text_model.specs.Lists.{Each}
-use Rattle.text_model.specs.Id.{blob}
 use Rattle.git_model.specs.Object.{Object, object_at, AreObjects}
-use Rattle.git_model.specs.Unfold.{FileRow, is_kind_there, row_size, rows_limit}
+use Rattle.git_model.specs.Unfold.{FileRow, is_object_there, row_size, rows_limit}
 use Rattle.git_model.specs.Shape.{trees_of, first_clash}
 use Rattle.tree_shape.specs.Sets.{IsFiles}
 
@@ -15,11 +14,11 @@ IsKnown known o = object_at known o.id ≡ Some o
 abbrev pub AreKnown : List Object → List Object → Type 0
 AreKnown known objects = Each (IsKnown known) objects
 
--- The rows are files of which none lies below another, their trees and blobs are there, and the rows are within the limit.
+-- None of the rows lies below another, their trees and blobs are there, and the rows are within the limit.
 pub record AreWalkable (known : List Object) (rows : List FileRow) : Type 0 where
   pub objects : AreObjects known
   pub files : IsFiles rows
   pub apart : first_clash rows ≡ None
   pub trees : AreKnown known (trees_of rows)
-  pub blobs : Each (λ row. is_kind_there blob (object_at known row.id) ≡ true) rows
+  pub objects_there : Each (λ row. is_object_there known row ≡ true) rows
   pub within : sum_by row_size rows ≤ rows_limit

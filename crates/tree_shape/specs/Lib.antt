@@ -4,3 +4,5 @@ pub mod Walks
 pub mod Shapes
 pub mod Sets
 pub mod Laws
+pub mod Orders
+pub mod Wholes

@@ -2,13 +2,13 @@
 use Rattle.std.specs.Prelude.{◌≡◌, ◌≢◌, ℕ, Bool, true, false, if◌then◌else◌, List, [], ◌∷◌, drop, map, filter, Some, None, bytes_eq}
 use Rattle.std.specs.List.{flat_map}
 use Rattle.text_model.specs.Lists.{Each}
-use Rattle.text_model.specs.Text.{Bytes, is_below, has_byte}
+use Rattle.text_model.specs.Text.{Bytes, has_byte}
 use Rattle.text_model.specs.Id.{Id, tree, same_kind, object_id}
 use Rattle.text_model.specs.Path.{components, lies_below}
 use Rattle.text_model.specs.Cuts.{cut_of}
 use Rattle.git_model.specs.Tree.{Directory, is_directory, TreeEntry, tree_text}
 use Rattle.git_model.specs.Object.{Object}
-use Rattle.git_model.specs.Unfold.{FileRow}
+use Rattle.git_model.specs.Unfold.{FileRow, is_met_before}
 use Rattle.git_model.specs.Shape.{Leaf, leaf_of, first_names, leaf_named, leaves_below, leaf_object, shape_entries, shape_objects}
 
 -- a row without the front of its path
@@ -46,17 +46,22 @@ id_of_rows depth rows = object_id tree (tree_text (shape_entries depth (map leaf
 abbrev pub trees_of_rows : ℕ → List FileRow → List Object
 trees_of_rows depth rows = filter is_tree (shape_objects depth (map leaf_of rows))
 
--- a row stands before another: its path is below, and the other lies not below it
+-- the trees of a row of one name: an empty subtree has one
+abbrev pub row_trees : ℕ → FileRow → List Object
+row_trees depth row = if is_directory row.mode then trees_of_rows depth [] else []
+
+-- a row stands before another in the order of a walk: they have two paths, and the other lies not below it
 pub record Before (a b : FileRow) : Type 0 where
-  pub below : is_below a.path b.path ≡ true
+  pub below : is_met_before a b ≡ true
+  pub other : a.path ≢ b.path
   pub apart : lies_below b.path a.path ≡ false
 
--- a row of a file whose path has whole names
+-- a row whose path has whole names; a directory is one without entries
 pub record IsFile (row : FileRow) : Type 0 where
   pub names : Each (λ name. (name ≢ []) × (has_byte 47 name ≡ false)) (components row.path)
-  pub file : is_directory row.mode ≡ false
+  pub empty : is_directory row.mode ≡ true → row.id ≡ object_id tree []
 
--- each row is that of a file, and stands before all that follow
+-- each row stands before all that follow
 abbrev pub Good : List FileRow → Type 0
 Good [] = Unit {0}
 Good (row ∷ rows) = IsFile row × Each (Before row) rows × Good rows

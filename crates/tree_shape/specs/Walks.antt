@@ -1,5 +1,5 @@
 -- The walk as far as it has come.
-use Rattle.std.specs.Prelude.{◌≡◌, ℕ, ◌+◌, ◌≤◌, if◌then◌else◌, true, List, [], ◌∷◌, ◌++◌, length, filter, Option, None, option_map}
+use Rattle.std.specs.Prelude.{◌≡◌, ℕ, ◌+◌, ◌≤◌, if◌then◌else◌, true, false, nat_lt, List, [], ◌∷◌, ◌++◌, length, filter, Option, None, option_map}
 use Rattle.std.specs.List.{flat_map}
 use Rattle.text_model.specs.Text.{Bytes}
 use Rattle.text_model.specs.Path.{components, is_fit_path}
@@ -20,16 +20,22 @@ abbrev pub entries_visits : List Object → ℕ → Bytes → List TreeEntry →
 entries_visits known depth path entries = flat_map (entry_visits known depth path) entries
 
 -- the size of the rows behind these visits
-abbrev pub size_after : ℕ → List FileRow → ℕ
-size_after size [] = size
-size_after size (v ∷ vs) = size_after (if is_row v then size + row_size v else size) vs
+abbrev pub size_after : List Object → ℕ → List FileRow → ℕ
+size_after known size [] = size
+size_after known size (v ∷ vs) = size_after known (if is_row known v then size + row_size v else size) vs
 
 -- these visits were made, and nothing was refused
 pub record Walked (known : List Object) (from to : ℕ) (old new visited : List FileRow) : Type 0 where
   pub none : first_visit_fault known from visited ≡ None
-  pub rows : new ≡ old ++ filter is_row visited
-  pub size : to ≡ size_after from visited
+  pub rows : new ≡ old ++ filter (is_row known) visited
+  pub size : to ≡ size_after known from visited
   pub within : to ≤ rows_limit
+
+-- a row came behind the others, within the limit
+pub record HasRow (from to : ℕ) (old new : List FileRow) (row : FileRow) : Type 0 where
+  pub room : nat_lt rows_limit (from + row_size row) ≡ false
+  pub rows : new ≡ old ++ row ∷ []
+  pub size : to ≡ from + row_size row
 
 -- what is refused at one entry, behind rows of a size
 abbrev pub refused : List Object → ℕ → FileRow → Option WalkFault

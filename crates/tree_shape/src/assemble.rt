@@ -6,22 +6,24 @@ ghost use Rattle.git_model.specs.Object.{object_of};
 ghost use Rattle.git_model.specs.Shape.{root_of, trees_of, first_clash};
 ghost use Rattle.git_object.specs.Values.{mode_value};
 ghost use Rattle.tree_shape.specs.Faults.{IsBuildFault};
-ghost use Rattle.tree_shape.specs.Shapes.{short, shorts, Good, is_in, id_of_rows, trees_of_rows};
+ghost use Rattle.tree_shape.specs.Sets.{IsFiles};
+ghost use Rattle.tree_shape.specs.Shapes.{short, shorts, Good, is_in, id_of_rows, trees_of_rows, row_trees};
 
 use crate::clash::find_clash;
 use crate::fault::BuildFault;
 use crate::file_row::FileRow;
 use crate::files::Files;
+use crate::sorting::{by_walk, has_directory};
 use crate::tree_item::{TreeItem, TreeList, Trees};
 use bridge_text::{Bytes, Id, Kind, NoMemory, cut_at, object_id};
 use git_object::Mode;
 use std::alloc::Global;
 
 /// The levels of directories in which a file of a fit path can lie, the root among them, and one more.
-const LEVELS: usize = 257;
+pub const LEVELS: usize = 257;
 
 /// The path of a row without its first `skip` bytes.
-fn rest_of(row: &FileRow, skip: usize) -> &[u8]
+pub fn rest_of(row: &FileRow, skip: usize) -> &[u8]
     ensures rest { result.now ≡ drop skip row.now.path }
     ensures fits { 0 < length result.now → skip + length result.now < 2 ^ 63 }
 {
@@ -34,7 +36,7 @@ fn rest_of(row: &FileRow, skip: usize) -> &[u8]
 }
 
 /// Appends an entry of a tree: the text of its mode, a space, its name, a NUL and the 20 bytes of its id.
-fn put_entry(out: &mut Vec<u8>, mode: Mode, name: &[u8], id: &Id) -> Result<(), NoMemory>
+pub fn put_entry(out: &mut Vec<u8>, mode: Mode, name: &[u8], id: &Id) -> Result<(), NoMemory>
     ensures { OnOk result (out.new.items ≡ out.old.items ++ tree_entry_text (record { mode = mode_value mode; name = name.now; id = id.now })) }
 {
     out.extend_from_slice(mode.text())?;
@@ -56,7 +58,7 @@ fn lies_in(row: &FileRow, skip: usize, name: &[u8]) -> bool
 }
 
 /// How many of the first rows lie in the directory of this name.
-fn count_in(rows: &[FileRow], skip: usize, name: &[u8]) -> usize
+pub fn count_in(rows: &[FileRow], skip: usize, name: &[u8]) -> usize
     ensures { result ≡ prefix_len (is_in name.now) (shorts skip rows.now) }
 {
     let mut count = 0;
@@ -70,7 +72,7 @@ fn count_in(rows: &[FileRow], skip: usize, name: &[u8]) -> usize
 }
 
 /// Keeps a tree, and gives its id.
-fn put_tree(made: &mut TreeList, text: Vec<u8>) -> Result<Id, NoMemory>
+pub fn put_tree(made: &mut TreeList, text: Vec<u8>) -> Result<Id, NoMemory>
     ensures { IfOk result (λ id. (id ≡ object_id tree text.items) × (made.new ≡ made.old ++ object_of tree text.items ∷ [])) }
 {
     let id = object_id(Kind::Tree, text.as_slice());
@@ -79,6 +81,21 @@ fn put_tree(made: &mut TreeList, text: Vec<u8>) -> Result<Id, NoMemory>
         content: Bytes::keep(text),
     })?;
     Ok(id)
+}
+
+/// Makes the tree of an empty subtree, below which so many levels may stand.
+pub fn put_below(
+    alloc: Global,
+    row: &FileRow,
+    levels: usize,
+    made: &mut TreeList,
+) -> Result<(), NoMemory>
+    ensures { OnOk result (made.new ≡ made.old ++ row_trees levels row.now) }
+{
+    if row.mode().is_directory() && levels > 0 {
+        put_tree(made, Vec::new(alloc))?;
+    }
+    Ok(())
 }
 
 /// Makes the trees of rows that lie in one directory. The first `skip` bytes of each path are the directory's path with
@@ -108,6 +125,7 @@ fn put_rows(
                 rest = others;
             }
             None => {
+                put_below(alloc, first, levels - 1, made)?;
                 put_entry(&mut text, first.mode(), rest_of(first, skip), first.blob())?;
                 rest = rest.split_at(1).1;
             }
@@ -127,6 +145,30 @@ pub fn build(alloc: Global, files: &Files) -> Result<Trees, BuildFault>
     if let Some(place) = find_clash(rows) {
         return Err(BuildFault::PathClash(place));
     }
+    Ok(build_apart(alloc, rows)?)
+}
+
+/// The trees of rows of which none lies below another. Where a directory is among them, they are put in the order of a walk.
+pub fn build_apart(alloc: Global, rows: &[FileRow]) -> Result<Trees, NoMemory>
+    requires files { IsFiles rows.now }
+    requires apart { first_clash rows.now ≡ None }
+    ensures root { IfOk result (λ trees. trees.root ≡ root_of rows.now) }
+    ensures made { IfOk result (λ trees. trees.made ≡ trees_of rows.now) }
+{
+    if has_directory(rows) {
+        let sorted = by_walk(alloc, rows)?;
+        build_walk(alloc, &sorted)
+    } else {
+        build_walk(alloc, rows)
+    }
+}
+
+/// The trees of rows in the order of a walk.
+fn build_walk(alloc: Global, rows: &[FileRow]) -> Result<Trees, NoMemory>
+    requires good { Good rows.now }
+    ensures root { IfOk result (λ trees. trees.root ≡ id_of_rows 257 rows.now) }
+    ensures made { IfOk result (λ trees. trees.made ≡ trees_of_rows 257 rows.now) }
+{
     let mut made = TreeList::new(alloc);
     let root = put_rows(alloc, rows, 0, LEVELS, &mut made)?;
     Ok(Trees { root, made })

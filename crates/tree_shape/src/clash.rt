@@ -21,7 +21,8 @@ fn shared_len(path: &[u8], other: &[u8]) -> usize
     count
 }
 
-fn begins_with_slash(text: &[u8]) -> bool
+/// Whether a slash comes first.
+pub fn begins_with_slash(text: &[u8]) -> bool
     ensures { result ≡ begins_with_slash text.now }
 {
     match text {

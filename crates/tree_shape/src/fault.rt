@@ -13,9 +13,6 @@ pub enum TreeFault {
     /// The root, or the object of an entry, is unknown or isn't of the kind that is due.
     #[error("an object of a tree is unknown")]
     ObjectUnknown(Id),
-    /// This subtree has no entries.
-    #[error("a tree has a subtree without entries")]
-    EmptySubtree(Id),
     /// The whole path of an entry isn't fit.
     #[error("a path isn't fit")]
     PathUnfit,

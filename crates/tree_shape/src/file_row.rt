@@ -5,14 +5,15 @@ use bridge_text::{Bytes, Id};
 use git_object::Mode;
 use std::marker::Model;
 
-/// A file of a tree.
+/// A row of a tree, as `git ls-tree -r` lists it: a file, a gitlink, or an empty subtree.
 #[derive(Debug, Drop)]
 pub struct FileRow {
     /// Its path from the root, with slashes between the names.
     pub path: Bytes,
     /// What it is.
     pub mode: Mode,
-    /// The id of its blob.
+    /// The id of its blob; of a gitlink that of the commit of the other repository, of an empty subtree that of the tree
+    /// without entries.
     pub blob: Id,
 }
 
@@ -40,7 +41,7 @@ impl FileRow {
         self.mode
     }
 
-    /// The id of its blob.
+    /// The id of its blob, of the commit of a gitlink, or of the tree without entries.
     pub fn blob(&self) -> &Id
         ensures { result.now ≡ self.now.id }
     {

@@ -1,14 +1,16 @@
-ghost use Rattle.std.specs.Prelude.{◌≡◌, ◌==◌, ◌<◌, ◌++◌, [], ◌∷◌, length, slice_get, Some, OnOk, OnErr, IfSome, IsTrue, ◌↔◌};
+ghost use Rattle.std.specs.Prelude.{◌≡◌, ◌==◌, true, ◌<◌, ◌++◌, [], ◌∷◌, length, slice_get, Some, OnOk, OnErr, IfSome, IsTrue, ◌↔◌};
 ghost use Rattle.std.specs.Option.{IsSome};
+ghost use Rattle.text_model.specs.Id.{tree, object_id};
+ghost use Rattle.git_model.specs.Tree.{is_directory};
 ghost use Rattle.tree_shape.specs.Sets.{IsFileRow, IsFiles, stands_above};
 
 use crate::file_row::FileRow;
-use bridge_text::{NoMemory, each_is_byte, fit_path};
+use bridge_text::{Kind, NoMemory, each_is_byte, fit_path, object_id};
 use std::alloc::Global;
 use std::cmp::Ordering;
 use std::marker::Model;
 
-/// The files of a tree: their fit paths rise strictly in the order of bytes, and none has the mode of a directory.
+/// The rows of a tree: their fit paths rise strictly in the order of bytes, and a directory is one without entries.
 #[derive(Debug, Drop)]
 pub struct Files {
     rows: Vec<FileRow>,
@@ -17,6 +19,8 @@ pub struct Files {
 impl Model for Files {
     ghost use Rattle.std.specs.Prelude.{List};
     ghost use Rattle.git_model.specs.Unfold as model;
+    ghost use Rattle.text_model.specs.Id.{tree, object_id};
+    ghost use Rattle.git_model.specs.Tree.{is_directory};
     ghost use Rattle.tree_shape.specs.Sets.{IsFiles};
 
     ghost Value = { List model.FileRow };
@@ -49,7 +53,7 @@ impl Files {
     }
 
     /// These very rows, not copied, which are those of files.
-    pub(crate) fn keep(rows: Vec<FileRow>) -> Files
+    pub fn keep(rows: Vec<FileRow>) -> Files
         requires { IsFiles rows.items }
         ensures { result ≡ rows.items }
     {
@@ -95,6 +99,13 @@ impl Files {
         &self.rows[i]
     }
 
+    /// The rows, not copied.
+    pub fn into_rows(self) -> Vec<FileRow>
+        ensures { result.items ≡ self }
+    {
+        self.rows
+    }
+
     /// The rows.
     pub fn as_slice(&self) -> &[FileRow]
         ensures rows { result.now ≡ self.now }
@@ -129,7 +140,14 @@ fn is_file_row(row: &FileRow) -> bool
 {
     each_is_byte(row.path());
     let _id = row.blob().bytes();
-    fit_path(row.path()) && !row.mode().is_directory()
+    fit_path(row.path()) && is_no_directory_or_empty(row)
+}
+
+/// Whether a row that is a directory has the id of the tree without entries.
+fn is_no_directory_or_empty(row: &FileRow) -> bool
+    ensures { IsTrue result ↔ (is_directory row.now.mode ≡ true → row.now.id ≡ object_id tree []) }
+{
+    !row.mode().is_directory() || *row.blob() == object_id(Kind::Tree, b"")
 }
 
 /// Whether the path of a row stands above that of the last row, where there is one.

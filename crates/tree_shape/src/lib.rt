@@ -1,5 +1,5 @@
-//! Trees and the files that they stand for, both ways: Git's tree objects as sorted lists of files, and the tree objects
-//! of such a list.
+//! Trees and the rows that they stand for, both ways: Git's tree objects as sorted lists of files, gitlinks and empty
+//! subtrees, and the tree objects of such a list.
 #![tactic(auto)]
 
 mod assemble;
@@ -8,18 +8,20 @@ mod fault;
 mod file_row;
 mod files;
 mod laws;
-#[cfg(test)]
-mod shelf;
-#[cfg(test)]
-mod tests;
+mod leaf;
+mod sorting;
 mod tree_item;
 mod unfold;
 mod walk;
 
-pub use assemble::build;
+pub use assemble::{LEVELS, build, build_apart, count_in, put_below, put_entry, put_tree, rest_of};
+pub use clash::{begins_with_slash, find_clash};
 pub use fault::{BuildFault, TreeFault};
 pub use file_row::FileRow;
 pub use files::Files;
 pub use laws::{shape_laws, unfold_laws};
+pub use leaf::{is_empty_tree, is_leaf};
+pub use sorting::{by_paths, by_walk, has_directory};
 pub use tree_item::{TreeItem, TreeList, Trees};
 pub use unfold::flatten;
+pub use walk::{MOST_NAMES, push_name};

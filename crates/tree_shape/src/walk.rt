@@ -1,12 +1,12 @@
 // The walk through a tree, depth first, an entry before what lies below it.
-ghost use Rattle.std.specs.Prelude.{◌≡◌, ◌≤◌, ◌+◌, ◌&&◌, [], ◌∷◌, true, false, nat_lt, nat_le, length, OnOk, IfOk, IfErr, MatchOption};
+ghost use Rattle.std.specs.Prelude.{◌≡◌, ◌≤◌, ◌+◌, ◌&&◌, ◌||◌, not, [], ◌∷◌, Some, true, false, nat_lt, nat_le, length, OnOk, IfOk, IfErr, MatchOption};
 ghost use Rattle.text_model.specs.Id.{blob};
 ghost use Rattle.text_model.specs.Path.{is_fit_path};
-ghost use Rattle.git_model.specs.Tree.{is_directory};
-ghost use Rattle.git_model.specs.Unfold.{is_kind_there, joined_path, rows_limit, first_visit_fault};
+ghost use Rattle.git_model.specs.Tree.{is_directory, is_blob_mode};
+ghost use Rattle.git_model.specs.Unfold.{is_kind_there, joined_path, row_size, rows_limit, first_visit_fault};
 ghost use Rattle.git_model.specs.Object.{object_at, tree_at};
-ghost use Rattle.tree_shape.specs.Faults.{IsTreeFault, IsSubtree, IsSubtreeFault};
-ghost use Rattle.tree_shape.specs.Walks.{row_at, refused, entries_visits, IsFront, Walked};
+ghost use Rattle.tree_shape.specs.Faults.{IsTreeFault, IsRowFault, IsSubtreeFault};
+ghost use Rattle.tree_shape.specs.Walks.{row_at, refused, entries_visits, IsFront, HasRow, Walked};
 
 use crate::fault::TreeFault;
 use crate::file_row::FileRow;
@@ -55,7 +55,50 @@ impl Walk {
         self.rows
     }
 
-    /// Appends the row of a file, at whose path the walk stands.
+    /// Appends the row of an entry, at whose path the walk stands.
+    fn put_row(&mut self, alloc: Global, entry: &TreeEntry) -> Result<(), TreeFault>
+        requires within { self.old.size ≤ rows_limit }
+        ensures ok { OnOk result (HasRow self.old.size self.new.size self.old.rows.items self.new.rows.items (row_at self.old.path.items entry.now)) }
+        ensures path { OnOk result (self.new.path.items ≡ self.old.path.items) }
+        ensures fault { IfErr result (IsRowFault (nat_lt rows_limit (self.old.size + row_size (row_at self.old.path.items entry.now)))) }
+    {
+        let Some(size) = grown(self.size, self.path.len()) else {
+            return Err(TreeFault::Limit);
+        };
+        let path = Bytes::of(alloc, self.path.as_slice())?;
+        self.rows.push(FileRow {
+            path,
+            mode: entry.mode(),
+            blob: *entry.id(),
+        })?;
+        self.size = size;
+        Ok(())
+    }
+
+    /// Meets a directory, at whose path the walk stands: where it has no entries, it is a row.
+    fn enter<G: Objects>(
+        &mut self,
+        alloc: Global,
+        _store: &G,
+        entry: &TreeEntry,
+        subtree: &Tree,
+    ) -> Result<(), TreeFault>
+        requires within { self.old.size ≤ rows_limit }
+        requires fit { is_fit_path self.old.path.items ≡ true }
+        requires directory { is_directory entry.now.mode ≡ true }
+        requires subtree { tree_at (G.objects _store.now) entry.now.id ≡ Some subtree.now }
+        ensures ok { OnOk result (Walked (G.objects _store.now) self.old.size self.new.size self.old.rows.items self.new.rows.items (row_at self.old.path.items entry.now ∷ [])) }
+        ensures path { OnOk result (self.new.path.items ≡ self.old.path.items) }
+        ensures fault { IfErr result (IsTreeFault (refused (G.objects _store.now) self.old.size (row_at self.old.path.items entry.now))) }
+    {
+        if subtree.is_empty() {
+            self.put_row(alloc, entry)
+        } else {
+            Ok(())
+        }
+    }
+
+    /// Appends the row of an entry that is no directory, at whose path the walk stands.
     fn put_file<G: Objects>(
         &mut self,
         alloc: Global,
@@ -69,25 +112,15 @@ impl Walk {
         ensures path { OnOk result (self.new.path.items ≡ self.old.path.items) }
         ensures fault { IfErr result (IsTreeFault (refused (G.objects store.now) self.old.size (row_at self.old.path.items entry.now))) }
     {
-        if !has_blob(store, entry.id()) {
+        if !has_object(store, entry) {
             return Err(TreeFault::ObjectUnknown(*entry.id()));
         }
-        let Some(size) = grown(self.size, self.path.len()) else {
-            return Err(TreeFault::Limit);
-        };
-        let path = Bytes::of(alloc, self.path.as_slice())?;
-        self.rows.push(FileRow {
-            path,
-            mode: entry.mode(),
-            blob: *entry.id(),
-        })?;
-        self.size = size;
-        Ok(())
+        self.put_row(alloc, entry)
     }
 }
 
-/// Turns the path of a directory into that of an entry.
-fn push_name(path: &mut Vec<u8>, name: &[u8]) -> Result<(), NoMemory>
+/// Turns the path of a directory, empty for the root, into that of an entry of this name.
+pub fn push_name(path: &mut Vec<u8>, name: &[u8]) -> Result<(), NoMemory>
     ensures { OnOk result (path.new.items ≡ joined_path path.old.items name.now) }
 {
     if path.is_empty() {
@@ -96,6 +129,13 @@ fn push_name(path: &mut Vec<u8>, name: &[u8]) -> Result<(), NoMemory>
         path.push(b'/')?;
         Ok(path.extend_from_slice(name)?)
     }
+}
+
+/// Whether the object of an entry that is no directory is there; none is asked for the commit of another repository.
+fn has_object<G: Objects>(store: &G, entry: &TreeEntry) -> bool
+    ensures { result ≡ (not (is_blob_mode entry.now.mode) || is_kind_there blob (object_at (G.objects store.now) entry.now.id)) }
+{
+    !entry.mode().is_blob() || has_blob(store, entry.id())
 }
 
 /// Whether a blob is there.
@@ -109,20 +149,14 @@ fn has_blob<G: Objects>(store: &G, id: &Id) -> bool
     }
 }
 
-/// The subtree, which has entries.
+/// The subtree.
 fn subtree_at<'a, G: Objects>(store: &'a G, id: &Id) -> Result<&'a Tree, TreeFault>
-    ensures ok { IfOk result (λ subtree. IsSubtree (tree_at (G.objects store.entry.now) id.now) subtree.now) }
+    ensures ok { IfOk result (λ subtree. tree_at (G.objects store.entry.now) id.now ≡ Some subtree.now) }
     ensures fault { IfErr result (IsSubtreeFault (tree_at (G.objects store.entry.now) id.now) id.now) }
 {
     match store.tree(id) {
         None => Err(TreeFault::ObjectUnknown(*id)),
-        Some(subtree) => {
-            if subtree.is_empty() {
-                Err(TreeFault::EmptySubtree(*id))
-            } else {
-                Ok(subtree)
-            }
-        }
+        Some(subtree) => Ok(subtree),
     }
 }
 
@@ -170,6 +204,7 @@ pub fn visit_tree<G: Objects>(
         }
         if entry.mode().is_directory() {
             let subtree = subtree_at(store, entry.id())?;
+            walk.enter(alloc, store, entry, subtree)?;
             visit_tree(alloc, store, subtree, levels - 1, walk)?;
         } else {
             walk.put_file(alloc, store, entry)?;

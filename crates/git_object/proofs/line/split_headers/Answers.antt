@@ -1,6 +1,13 @@
 use Rattle.std.proofs.Common.{arith}
-use Rattle.git_object.proofs.HeaderLemmas.{Headed-more, Headed-split, Headed-cut, Headed-shorter}
+use Rattle.text_model.proofs.ByteLemmas.{IsBytes-by_index}
+use Rattle.git_object.proofs.HeaderLemmas.{Headed-none, Headed-more, Headed-split, Headed-cut, Headed-shorter}
 use Rattle.git_object.proofs.line.split_headers.Goals as goal
+
+pub lines-init : goal.lines-init
+lines-init c = record {
+  headed = Headed-none c.args.text.now (IsBytes-by_index c.args.text.now (λ i. omega (arith, c.type_inv.text i)));
+  within = omega arith;
+}
 
 pub returns-then-is_empty : goal.returns-then-is_empty
 returns-then-is_empty c =

@@ -1,9 +1,9 @@
-use Rattle.std.proofs.Common.{◌≡◌, ℕ, ◌<◌, ◌+◌, Bool, true, false, true≢false, not, ◌&&◌, List, [], ◌∷◌, ◌++◌, length, take, drop, get_or, refl, sym, ap, ◌∙◌, arith}
+use Rattle.std.proofs.Common.{◌≡◌, ℕ, ◌<◌, ◌+◌, Bool, true, false, not, ◌&&◌, List, [], ◌∷◌, ◌++◌, length, take, drop, get_or, refl, sym, ap, ◌∙◌, arith}
 use Rattle.std.specs.Prelude.{if◌then◌else◌}
 use Rattle.std.proofs.lemmas.List.{take_more, take-append-drop}
 use Rattle.text_model.specs.Id.{Id, has_id}
 use Rattle.git_model.specs.Tree.{has_distinct}
-use Rattle.git_store.proofs.DistinctLemmas.{has_distinct-push, has_distinct-front}
+use Rattle.git_store.proofs.DistinctLemmas.{fresh, again, has_distinct-push, has_distinct-front}
 use Rattle.git_store.proofs.parents.are_distinct.Goals as goal
 
 module _ (ids seen : List Id) (i : ℕ) (x : Id) (below : i < length ids) (is : x ≡ get_or ids i x) (so_far : seen ≡ take i ids) where
@@ -20,18 +20,10 @@ module _ (ids seen : List Id) (i : ℕ) (x : Id) (below : i < length ids) (is : 
       and_false true = refl
       and_false false = refl
 
-negated : (new there : Bool) → new ≡ not there → new ≡ false → there ≡ true
-negated new true is h = refl
-negated new false is h = absurd (true≢false (sym is ∙ h))
-
-fresh : (new there : Bool) → new ≡ not there → new ≡ true → there ≡ false
-fresh new true is h = absurd (true≢false (sym h ∙ is))
-fresh new false is h = refl
-
 pub returns-then-not-new : goal.returns-then-not-new
 returns-then-not-new c =
     twice c.args.ids.now c.loop-id.seen c.loop-id.id-index c.id-item.result (omega arith) c.id-item.is c.loop-id.invariant.seen
-    (negated c.in_ok-new.new (has_id c.loop-id.seen c.id-item.result) c.in_ok-new.ensures.new c.if-not-new.true)
+    (again c.in_ok-new.new (has_id c.loop-id.seen c.id-item.result) c.in_ok-new.ensures.new c.if-not-new.true)
 
 pub loop-id-preserved : goal.loop-id-preserved
 loop-id-preserved c =

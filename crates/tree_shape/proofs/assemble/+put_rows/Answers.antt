@@ -10,7 +10,7 @@ use Rattle.git_model.specs.Shape.{leaf_of}
 use Rattle.tree_shape.specs.Shapes.{shorts, entries_in, trees_in, id_of_rows, trees_of_rows}
 use Rattle.text_model.specs.Cuts.{cut_of}
 use Rattle.tree_shape.proofs.Turns.{count-within, group-turn, file-turn, text-turn, trees-turn, none-depth, empty-id, none-left, finish}
-use Rattle.tree_shape.proofs.PutRows.{text-none}
+use Rattle.tree_shape.proofs.Unfolding.{text-none}
 use Rattle.tree_shape.proofs.assemble.+put_rows.Goals as goal
 
 pub returns-then-levels-eq0 : goal.returns-then-levels-eq0
@@ -56,7 +56,7 @@ names-preserved t c =
       good = turn.good_back;
       text = text-turn c.names.text.items c.put_entry-in-None.new.out.items _ _ _ _ c.names.invariant.text turn.entries
           (c.in_ok-put_entry-in-None.ensures ∙ (λ k. c.names.text.items ++ tree_entry_text (record { mode = c.mode.ensures k; name = c.rest_of-in-None.ensures.rest k; id = c.blob.ensures k })));
-      made = ap (λ (o : List Object). c.names.made ++ o) (sym turn.trees) ∙ c.names.invariant.made;
+      made = trees-turn c.names.made c.put_below.new.made c.args.made.now _ _ _ _ c.names.invariant.made turn.trees c.in_ok-put_below-in-None.ensures;
     }
 
 pub returns : goal.returns

@@ -10,7 +10,7 @@ use Rattle.git_dump.proofs.CommitLemmas.{objects-of, tree-is, is-there, own-clos
 use Rattle.git_dump.proofs.walk.Walk.visit_commit.Goals as goal
 
 pub returns-in_default-clause-visited : goal.returns-in_default-clause-visited
-returns-in_default-clause-visited c = absurd (is-there c.args.store.now c.check.ensures c.args.id.now c.requires.commit.0 c.requires.commit.1 c.in_default.ensures)
+returns-in_default-clause-visited c = absurd (is-there c.args.store.now c.in_default.ensures.known c.args.id.now c.requires.commit.0 c.requires.commit.1 c.in_default.ensures.commit)
 
 pub visit_tree-requires-clause-walkable : goal.visit_tree-requires-clause-walkable
 visit_tree-requires-clause-walkable c =
@@ -18,8 +18,8 @@ visit_tree-requires-clause-walkable c =
     let id = c.args.id.now in
     let view = c.requires.commit.0 in
     let is = c.requires.commit.1 in
-    let tree : c.commit-2.inside.tree ≡ (view.value).tree_id = ap (λ (v : Commit). v.tree_id) c.commit-2.view_is ∙ tree-is known c.check.ensures id view is c.in-Some.commit.now c.in-Some.ensures in
-    subst (λ (t : Id). IsWalkable known 257 t) (sym tree) (tree-walkable known c.check.ensures id view is)
+    let tree : c.commit-2.inside.tree ≡ (view.value).tree_id = ap (λ (v : Commit). v.tree_id) c.commit-2.view_is ∙ tree-is known c.in-Some.ensures.known id view is c.in-Some.commit.now c.in-Some.ensures.commit in
+    subst (λ (t : Id). IsWalkable known 257 t) (sym tree) (tree-walkable known c.in-Some.ensures.known id view is)
 
 pub visit_object-requires : goal.visit_object-requires
 visit_object-requires c = let is = c.requires.commit.1 in (is.0.object, is.0.is_held)
@@ -33,8 +33,8 @@ returns-clause-visited c =
     let d = c.visit_object.new.self in
     on_ok_weaker c.visit_object.result
     (λ v view is.
-    let tree : c.commit-2.inside.tree ≡ (view.value).tree_id = ap (λ (v : Commit). v.tree_id) c.commit-2.view_is ∙ tree-is known c.check.ensures id view is c.in-Some.commit.now c.in-Some.ensures in
-    subst (λ (os : List Object). Visited os a d) (sym (objects-of known c.check.ensures id view is))
+    let tree : c.commit-2.inside.tree ≡ (view.value).tree_id = ap (λ (v : Commit). v.tree_id) c.commit-2.view_is ∙ tree-is known c.in-Some.ensures.known id view is c.in-Some.commit.now c.in-Some.ensures.commit in
+    subst (λ (os : List Object). Visited os a d) (sym (objects-of known c.in-Some.ensures.known id view is))
     (visited-append (walk_objects known 257 (view.value).tree_id) (objects_at known id) a b d (subst (λ (t : Id). Visited (walk_objects known 257 t) a b) tree c.in_ok-visit_tree.ensures.visited) v))
     c.visit_object.ensures
 
@@ -42,5 +42,5 @@ pub returns-clause-closed : goal.returns-clause-closed
 returns-clause-closed c =
     let known = c.args.store.now in
     on_ok_weaker c.visit_object.result
-    (λ v. own-closed known c.check.ensures c.args.id.now c.requires.commit.0 c.requires.commit.1 c.visit_tree.new.self c.visit_object.new.self c.in_ok-visit_tree.ensures.closed v)
+    (λ v. own-closed known c.in-Some.ensures.known c.args.id.now c.requires.commit.0 c.requires.commit.1 c.visit_tree.new.self c.visit_object.new.self c.in_ok-visit_tree.ensures.closed v)
     c.visit_object.ensures

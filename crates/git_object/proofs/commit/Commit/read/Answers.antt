@@ -1,4 +1,5 @@
-use Rattle.std.proofs.Common.{sym}
+use Rattle.std.proofs.Common.{arith, sym}
+use Rattle.text_model.proofs.ByteLemmas.{IsBytes-by_index}
 use Rattle.git_model.specs.Commit.{Commit, IsCommitText}
 use Rattle.git_model.proofs.CommitLemmas.{commit_fault-text, parent_ids-text}
 use Rattle.git_object.proofs.CommitSteps.{no_tree, fathered, no_author, authored, no_committer, committed, no_blank, is_commit}
@@ -11,21 +12,21 @@ pub overflow_sub-result : goal.overflow_sub-result
 overflow_sub-result c =
     let content = c.args.content.now in
     let rest = c.in_ok-rest.rest.now in
-    let f = fathered content c.in-Some.tree.0 c.in-Some.tree.1.now c.new-parents.result c.read_parents.new.parents rest c.each_is_byte.ensures c.in-Some.ensures c.new-parents.ensures c.in_ok-rest.ensures in
+    let f = fathered content c.in-Some.tree.0 c.in-Some.tree.1.now c.new-parents.result c.read_parents.new.parents rest (IsBytes-by_index content (λ i. omega (arith, c.type_inv.content i))) c.in-Some.ensures c.new-parents.ensures c.in_ok-rest.ensures in
     f.within
 
 pub returns-in_default-worded_line-clause-fault : goal.returns-in_default-worded_line-clause-fault
 returns-in_default-worded_line-clause-fault c =
     let content = c.args.content.now in
     let rest = c.in_ok-rest.rest.now in
-    let f = fathered content c.in-Some.tree.0 c.in-Some.tree.1.now c.new-parents.result c.read_parents.new.parents rest c.each_is_byte.ensures c.in-Some.ensures c.new-parents.ensures c.in_ok-rest.ensures in
+    let f = fathered content c.in-Some.tree.0 c.in-Some.tree.1.now c.new-parents.result c.read_parents.new.parents rest (IsBytes-by_index content (λ i. omega (arith, c.type_inv.content i))) c.in-Some.ensures c.new-parents.ensures c.in_ok-rest.ensures in
     no_author content c.in-Some.tree.0 c.read_parents.new.parents rest f c.in_default-worded_line.ensures
 
 pub overflow_sub-result-in_default-worded_line-2 : goal.overflow_sub-result-in_default-worded_line-2
 overflow_sub-result-in_default-worded_line-2 c =
     let content = c.args.content.now in
     let rest = c.in_ok-rest.rest.now in
-    let f = fathered content c.in-Some.tree.0 c.in-Some.tree.1.now c.new-parents.result c.read_parents.new.parents rest c.each_is_byte.ensures c.in-Some.ensures c.new-parents.ensures c.in_ok-rest.ensures in
+    let f = fathered content c.in-Some.tree.0 c.in-Some.tree.1.now c.new-parents.result c.read_parents.new.parents rest (IsBytes-by_index content (λ i. omega (arith, c.type_inv.content i))) c.in-Some.ensures c.new-parents.ensures c.in_ok-rest.ensures in
     let a = authored content c.in-Some.tree.0 c.read_parents.new.parents rest c.in-Some-worded_line.author.now c.in-Some-worded_line.behind_author.now f c.in-Some-worded_line.ensures in
     a.within
 
@@ -33,7 +34,7 @@ pub returns-in_default-worded_line-2-clause-fault : goal.returns-in_default-word
 returns-in_default-worded_line-2-clause-fault c =
     let content = c.args.content.now in
     let rest = c.in_ok-rest.rest.now in
-    let f = fathered content c.in-Some.tree.0 c.in-Some.tree.1.now c.new-parents.result c.read_parents.new.parents rest c.each_is_byte.ensures c.in-Some.ensures c.new-parents.ensures c.in_ok-rest.ensures in
+    let f = fathered content c.in-Some.tree.0 c.in-Some.tree.1.now c.new-parents.result c.read_parents.new.parents rest (IsBytes-by_index content (λ i. omega (arith, c.type_inv.content i))) c.in-Some.ensures c.new-parents.ensures c.in_ok-rest.ensures in
     let a = authored content c.in-Some.tree.0 c.read_parents.new.parents rest c.in-Some-worded_line.author.now c.in-Some-worded_line.behind_author.now f c.in-Some-worded_line.ensures in
     no_committer content rest c.in-Some-worded_line.author.now c.in-Some-worded_line.behind_author.now a c.in_default-worded_line-2.ensures
 
@@ -41,7 +42,7 @@ pub overflow_sub-result-in-Err : goal.overflow_sub-result-in-Err
 overflow_sub-result-in-Err c =
     let content = c.args.content.now in
     let rest = c.in_ok-rest.rest.now in
-    let f = fathered content c.in-Some.tree.0 c.in-Some.tree.1.now c.new-parents.result c.read_parents.new.parents rest c.each_is_byte.ensures c.in-Some.ensures c.new-parents.ensures c.in_ok-rest.ensures in
+    let f = fathered content c.in-Some.tree.0 c.in-Some.tree.1.now c.new-parents.result c.read_parents.new.parents rest (IsBytes-by_index content (λ i. omega (arith, c.type_inv.content i))) c.in-Some.ensures c.new-parents.ensures c.in_ok-rest.ensures in
     let a = authored content c.in-Some.tree.0 c.read_parents.new.parents rest c.in-Some-worded_line.author.now c.in-Some-worded_line.behind_author.now f c.in-Some-worded_line.ensures in
     let k = committed content rest c.in-Some-worded_line.author.now c.in-Some-worded_line.behind_author.now c.in-Some-worded_line-2.committer.now c.in-Some-worded_line-2.rest.now a c.in-Some-worded_line-2.ensures in
     k.within
@@ -50,7 +51,7 @@ pub returns-in-Err-clause-fault : goal.returns-in-Err-clause-fault
 returns-in-Err-clause-fault c =
     let content = c.args.content.now in
     let rest = c.in_ok-rest.rest.now in
-    let f = fathered content c.in-Some.tree.0 c.in-Some.tree.1.now c.new-parents.result c.read_parents.new.parents rest c.each_is_byte.ensures c.in-Some.ensures c.new-parents.ensures c.in_ok-rest.ensures in
+    let f = fathered content c.in-Some.tree.0 c.in-Some.tree.1.now c.new-parents.result c.read_parents.new.parents rest (IsBytes-by_index content (λ i. omega (arith, c.type_inv.content i))) c.in-Some.ensures c.new-parents.ensures c.in_ok-rest.ensures in
     let a = authored content c.in-Some.tree.0 c.read_parents.new.parents rest c.in-Some-worded_line.author.now c.in-Some-worded_line.behind_author.now f c.in-Some-worded_line.ensures in
     let k = committed content rest c.in-Some-worded_line.author.now c.in-Some-worded_line.behind_author.now c.in-Some-worded_line-2.committer.now c.in-Some-worded_line-2.rest.now a c.in-Some-worded_line-2.ensures in
     no_blank content c.in-Some-worded_line.behind_author.now c.in-Some-worded_line-2.committer.now c.in-Some-worded_line-2.rest.now c.in-Err.at k c.in-Err.ensures
@@ -59,7 +60,7 @@ pub returns : goal.returns
 returns c =
     let content = c.args.content.now in
     let rest = c.in_ok-rest.rest.now in
-    let f = fathered content c.in-Some.tree.0 c.in-Some.tree.1.now c.new-parents.result c.read_parents.new.parents rest c.each_is_byte.ensures c.in-Some.ensures c.new-parents.ensures c.in_ok-rest.ensures in
+    let f = fathered content c.in-Some.tree.0 c.in-Some.tree.1.now c.new-parents.result c.read_parents.new.parents rest (IsBytes-by_index content (λ i. omega (arith, c.type_inv.content i))) c.in-Some.ensures c.new-parents.ensures c.in_ok-rest.ensures in
     let a = authored content c.in-Some.tree.0 c.read_parents.new.parents rest c.in-Some-worded_line.author.now c.in-Some-worded_line.behind_author.now f c.in-Some-worded_line.ensures in
     let k = committed content rest c.in-Some-worded_line.author.now c.in-Some-worded_line.behind_author.now c.in-Some-worded_line-2.committer.now c.in-Some-worded_line-2.rest.now a c.in-Some-worded_line-2.ensures in
     let read : Commit = record {

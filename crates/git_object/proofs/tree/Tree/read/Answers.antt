@@ -1,4 +1,5 @@
 use Rattle.std.proofs.Common.{List, sym, subst, arith}
+use Rattle.text_model.proofs.ByteLemmas.{IsBytes-by_index}
 use Rattle.git_model.specs.Tree.{TreeEntry, tree_fault}
 use Rattle.git_model.proofs.TreeLemmas.{first_entry-takes}
 use Rattle.git_model.proofs.TreeReadLemmas.{TreeTo, tree_none, tree_more, tree_may_follow, tree_all, read_cut, read_all_fits, read_all_entries, nothing_left}
@@ -9,7 +10,7 @@ use Rattle.git_object.proofs.tree.Tree.read.Goals as goal
 pub entries-init : goal.entries-init
 entries-init c =
     let content = c.args.content.now in
-    record { to = subst (λ (t : List TreeEntry). TreeTo content t content) (sym c.new-tree.ensures) (tree_none content c.each_is_byte.ensures); within = omega arith }
+    record { to = subst (λ (t : List TreeEntry). TreeTo content t content) (sym c.new-tree.ensures) (tree_none content (IsBytes-by_index content (λ i. omega (arith, c.type_inv.content i)))); within = omega arith }
 
 pub returns-in_default-clause-fault : goal.returns-in_default-clause-fault
 returns-in_default-clause-fault c = read_cut c.args.content.now c.entries.tree c.entries.rest.now c.entries.invariant.to.to (sym c.in_default.ensures) (sym c.entries-test.ensures)

@@ -8,5 +8,5 @@ pub returns-then-knows_same-clause-faultless : goal.returns-then-knows_same-clau
 returns-then-knows_same-clause-faultless c =
     let known = c.args.self.now in
     let same : knows_same known (object_with c.args.id c.args.kind c.args.content.items) ≡ true =
-    sym (c.knows_same.ensures ∙ ap (λ (t : Bytes). knows_same known (object_with c.args.id c.args.kind t)) c.deref.ensures.value) ∙ c.if-knows_same.true in
-    same-has_no_fault known c.check.ensures (object_with c.args.id c.args.kind c.args.content.items) same
+    sym (c.knows_same.ensures.same ∙ ap (λ (t : Bytes). knows_same known (object_with c.args.id c.args.kind t)) c.deref.ensures.value) ∙ c.if-knows_same.true in
+    same-has_no_fault known c.knows_same.ensures.known (object_with c.args.id c.args.kind c.args.content.items) same

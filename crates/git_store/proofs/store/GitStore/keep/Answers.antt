@@ -1,6 +1,7 @@
 use Rattle.std.proofs.Common.{◌≡◌, ◌++◌, [], ◌∷◌, false, List, sym, ap, subst, ◌∙◌}
 use Rattle.text_model.specs.Text.{Bytes, IsBytes}
-use Rattle.text_model.specs.Id.{object_id}
+use Rattle.text_model.specs.Id.{IsId, object_id}
+use Rattle.text_model.proofs.Digests.{IsId-object_id}
 use Rattle.indexmap.proofs.CallerLemmas.{insert_entry-new}
 use Rattle.bridge_text.specs.contracts.id.IdPartialEq.TheImpl as id_eq
 use Rattle.git_model.specs.Object.{Object, knows_object, content_fault}
@@ -19,8 +20,8 @@ after_insert c =
     let entries : c.insert.new.self.entries ≡ es ++ (c.args.id, held) ∷ [] =
     c.in_ok-insert.ensures.entries ∙ insert_entry-new id_eq.eq-value.it c.self.inside.objects c.args.id held (none-held c.args.id es unknown) in
     let sound : IsSound (object_in (c.args.id, held)) = record {
-      id = c.bytes-bytes.ensures.id;
-      bytes = subst IsBytes (c.deref.ensures.value ∙ sym c.keep.ensures) c.each_is_byte.ensures;
+      id = subst IsId c.requires.its_id (IsId-object_id k c.args.content.items);
+      bytes = subst IsBytes (sym c.keep.ensures) c.requires.bytes;
       fits = ap (λ (t : Bytes). content_fault k t) c.keep.ensures ∙ c.requires.fits;
     } in
     kept c.args.self.now es c.insert.new.self.entries (c.args.id, held) c.self.invariant c.self.view_is entries c.requires.fresh
@@ -34,3 +35,6 @@ pub returns-clause-ok : goal.returns-clause-ok
 returns-clause-ok c =
     (after_insert c).view
     ∙ ap (λ (t : Bytes). c.args.self.now ++ record { id = c.args.id; kind = parsed_kind c.args.parsed; content = t } ∷ []) c.keep.ensures
+
+pub returns-clause-known : goal.returns-clause-known
+returns-clause-known c = (after_insert c).store.known

@@ -11,8 +11,8 @@ returns-in_err-parsed-clause-fault c =
 
 pub returns-then-knows-clause-fault : goal.returns-then-knows-clause-fault
 returns-then-knows-clause-fault c =
-    other-fault c.args.self.now c.check.ensures (object_with c.args.id.now c.args.kind c.args.content.now) c.in_ok-parsed.ensures.fits c.requires.other (sym c.knows.ensures ∙ c.if-knows.true)
+    other-fault c.args.self.now c.knows.ensures.known (object_with c.args.id.now c.args.kind c.args.content.now) c.in_ok-parsed.ensures.fits c.requires.other (sym c.knows.ensures.there ∙ c.if-knows.true)
 
 pub returns-clause-faultless : goal.returns-clause-faultless
 returns-clause-faultless c =
-    fresh-fault c.args.self.now c.check.ensures (object_with c.args.id.now c.args.kind c.args.content.now) c.in_ok-parsed.ensures.fits (sym c.knows.ensures ∙ c.if-knows.false)
+    fresh-fault c.args.self.now c.knows.ensures.known (object_with c.args.id.now c.args.kind c.args.content.now) c.in_ok-parsed.ensures.fits (sym c.knows.ensures.there ∙ c.if-knows.false)

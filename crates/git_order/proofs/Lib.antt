@@ -1,4 +1,0 @@
-pub mod FindLemmas
-pub mod OnceLemmas
-pub mod PlacingLemmas
-pub mod SeatLemmas

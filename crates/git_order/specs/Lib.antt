@@ -1,4 +1,0 @@
-pub mod Ancestry
-pub mod Faults
-pub mod Waiting
-pub mod Stage

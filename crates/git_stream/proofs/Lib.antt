@@ -1,3 +1,0 @@
-pub mod AddLemmas
-pub mod Reading
-pub mod StreamLaws

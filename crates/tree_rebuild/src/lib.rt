@@ -1,0 +1,6 @@
+//! The tree objects of files over a tree that is there already: a directory that has the same rows in both keeps its tree.
+#![tactic(auto)]
+
+mod over;
+
+pub use over::{rebuild, rebuild_over};

@@ -1,0 +1,5 @@
+pub mod PathTests
+pub mod Takes
+pub mod RowsOf
+pub mod Visits
+pub mod PlainFiles

@@ -1,0 +1,34 @@
+use Rattle.std.proofs.Common.{◌≡◌, ◌∙◌, ◌++◌, map, sym, ap, subst, List}
+use Rattle.std.specs.List.{filter_map}
+use Rattle.git_model.specs.Unfold.{FileRow, by_paths}
+use Rattle.git_model.specs.Residue.{ResidueItem, file_with, row_of_item}
+use Rattle.tree_shape.specs.Sets.{IsFiles}
+use Rattle.tree_residue.proofs.RowsOf.{rows-are, rows-distinct}
+use Rattle.tree_residue.proofs.rows.with_residue.Goals as goal
+
+pub by_paths-requires : goal.by_paths-requires
+by_paths-requires c =
+    let items = c.args.items.now in
+    let all : c.put_items.new.rows.items ≡ map (file_with items) c.args.files ++ filter_map row_of_item items =
+    c.in_ok-put_items.ensures
+    ∙ ap (λ (r : List FileRow). r ++ filter_map row_of_item c.as_slice-items.result.now) (c.in_ok-put_files.ensures ∙ (λ k. c.new-rows.ensures.items k ++ map (file_with c.as_slice-items.result.now) (c.into_rows.ensures k)))
+    ∙ ap (λ (i : List ResidueItem). map (file_with i) c.args.files ++ filter_map row_of_item i) c.as_slice-items.ensures.items in
+    record { paths = rows-distinct items c.args.files c.put_items.new.rows.items all c.requires }
+
+pub keep-requires : goal.keep-requires
+keep-requires c =
+    let items = c.args.items.now in
+    let all : c.put_items.new.rows.items ≡ map (file_with items) c.args.files ++ filter_map row_of_item items =
+    c.in_ok-put_items.ensures
+    ∙ ap (λ (r : List FileRow). r ++ filter_map row_of_item c.as_slice-items.result.now) (c.in_ok-put_files.ensures ∙ (λ k. c.new-rows.ensures.items k ++ map (file_with c.as_slice-items.result.now) (c.into_rows.ensures k)))
+    ∙ ap (λ (i : List ResidueItem). map (file_with i) c.args.files ++ filter_map row_of_item i) c.as_slice-items.ensures.items in
+    subst IsFiles (rows-are items c.args.files ∙ ap by_paths (sym all) ∙ sym c.in_ok-sorted.ensures) c.requires
+
+pub returns : goal.returns
+returns c =
+    let items = c.args.items.now in
+    let all : c.put_items.new.rows.items ≡ map (file_with items) c.args.files ++ filter_map row_of_item items =
+    c.in_ok-put_items.ensures
+    ∙ ap (λ (r : List FileRow). r ++ filter_map row_of_item c.as_slice-items.result.now) (c.in_ok-put_files.ensures ∙ (λ k. c.new-rows.ensures.items k ++ map (file_with c.as_slice-items.result.now) (c.into_rows.ensures k)))
+    ∙ ap (λ (i : List ResidueItem). map (file_with i) c.args.files ++ filter_map row_of_item i) c.as_slice-items.ensures.items in
+    c.keep.ensures ∙ c.in_ok-sorted.ensures ∙ ap by_paths all ∙ sym (rows-are items c.args.files)
