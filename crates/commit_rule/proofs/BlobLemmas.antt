@@ -1,5 +1,5 @@
 -- The text of a row's revision, and the blobs that are brought.
-use Rattle.std.proofs.Common.{◌≡◌, ◌≤◌, ℕ, Result, Err, true, false, true≢false, List, [], ◌∷◌, ◌++◌, length, Option, Some, None, refl, sym, ap, subst, ◌∙◌, arith}
+use Rattle.std.proofs.Common.{◌≡◌, ◌≤◌, ℕ, true, false, true≢false, List, [], ◌∷◌, ◌++◌, length, Option, Some, None, refl, sym, ap, subst, ◌∙◌, arith}
 use Rattle.std.specs.Prelude.{IsTrue, is_some, option_map, slice_get}
 use Rattle.view_model.specs.Held.{IsFileHeld}
 use Rattle.std.specs.Option.{option_or}
@@ -92,14 +92,13 @@ knows-more xs ms ys id h = by (object_at xs id) refl
 knows-itself : (o : Object) → knows_object (o ∷ []) o.id ≡ true
 knows-itself o = rw ((bytes_eq-Decides o.id o.id).1 refl) refl
 
-module _ (known fresh : List Object) (ts : List TreeRow) (t : TreeRow) (was : AreBrought known fresh ts) (short : length t.content ≤ text_limit) where
+module _ (known fresh : List Object) (ts : List TreeRow) (t : TreeRow) (was : AreBrought known fresh ts) where
   -- a row whose blob is there
   pub brought-none : knows_object (fresh ++ known) t.id ≡ true → AreBrought known fresh (ts ++ t ∷ [])
   brought-none knows = record {
     blobs = Each-weaker (λ o. SomeOf ts (λ row. o ≡ blob_of_row row)) (λ o. SomeOf (ts ++ t ∷ []) (λ row. o ≡ blob_of_row row)) (λ o h. some-left (λ row. o ≡ blob_of_row row) ts (t ∷ []) h) fresh was.blobs;
     are_new = was.are_new;
     all = Each-append (λ row. IsTrue (knows_object (fresh ++ known) row.id)) ts (t ∷ []) was.all (knows, tt);
-    short = Each-append (λ row. length row.content ≤ text_limit) ts (t ∷ []) was.short (short, tt);
   }
 
   -- a row whose blob is brought
@@ -112,7 +111,6 @@ module _ (known fresh : List Object) (ts : List TreeRow) (t : TreeRow) (was : Ar
     all = Each-append (λ row. IsTrue (knows_object ((fresh ++ blob_of_row t ∷ []) ++ known) row.id)) ts (t ∷ [])
         (Each-weaker (λ row. IsTrue (knows_object (fresh ++ known) row.id)) (λ row. IsTrue (knows_object ((fresh ++ blob_of_row t ∷ []) ++ known) row.id)) (λ row h. knows-more fresh (blob_of_row t ∷ []) known row.id h) ts was.all)
         (knows-front (fresh ++ blob_of_row t ∷ []) known t.id (knows-back fresh (blob_of_row t ∷ []) t.id (knows-itself (blob_of_row t))), tt);
-    short = Each-append (λ row. length row.content ≤ text_limit) ts (t ∷ []) was.short (short, tt);
   }
 
 pub both-some : {X Y Z : Type 0} (f : X → Z) (g : Y → Z) (a : Option X) (b : Option Y) → option_map f a ≡ option_map g b → is_some a ≡ is_some b
@@ -136,12 +134,3 @@ pub row-there : (known : List Revision) (values : List RowValue) (rows : List Ro
 row-there known values rows i value are at =
     let r = get-unmap row_value rows i value (ap (λ (l : List RowValue). slice_get l i) (sym are.0) ∙ at) in
     (r.0, r.1, (r.2, each-at (IsFileHeld known) rows i r.0 r.1 are.1))
-
-pub errs : {A B E : Type 0} (x y : E) → ◌≡◌ {A = Result A E} (Err x) (Err y) → ◌≡◌ {A = Result B E} (Err x) (Err y)
-errs {A} {B} {E} x y e = ap (λ (z : E). errs_to z) (inside x y e)
-  where
-    errs_to : E → Result B E
-    errs_to z = Err z
-
-    inside : (x y : E) → ◌≡◌ {A = Result A E} (Err x) (Err y) → x ≡ y
-    inside x y e = cc

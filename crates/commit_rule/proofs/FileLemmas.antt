@@ -14,21 +14,20 @@ use Rattle.git_model.specs.Tree.{is_blob_mode, is_directory}
 use Rattle.git_model.specs.Unfold.{FileRow}
 use Rattle.git_model.specs.Object.{Object}
 use Rattle.git_model.specs.Shape.{Leaf, first_clash, clash_from, shape_objects, shape_depth}
-use Rattle.git_view.proofs.Right.{blob-mode}
 use Rattle.hg_model.specs.Manifest.{Flag, Regular, Executable, Symlink}
 use Rattle.tree_shape.specs.Sets.{IsFileRow, IsFiles}
-use Rattle.tree_shape.specs.Shapes.{Good, IsFile}
-use Rattle.tree_shape.proofs.Elements.{in-left, each-in, each-from}
+use Rattle.tree_shape.specs.Shapes.{IsFile}
+use Rattle.tree_shape.proofs.Elements.{in-left, each-in}
 use Rattle.tree_shape.proofs.ClashLemmas.{none-below}
-use Rattle.tree_shape.proofs.FileSets.{good-files, shorts-none}
+use Rattle.tree_shape.proofs.FileSets.{fit-file}
 use Rattle.tree_shape.proofs.IdLemmas.{IsId-object_id}
 use Rattle.tree_shape.proofs.Names.{IsName, way, components-some, components-whole, components-append, same-components}
-use Rattle.tree_shape.proofs.Rows.{good-file, in-lies}
+use Rattle.tree_shape.proofs.Rows.{in-lies}
 use Rattle.view_model.specs.View.{TreeRow, leaf_of_row, tree_paths, has_clash, text_limit, Row, paths_of, ChangesetView, IsChangesetView, IsRevision}
 use Rattle.view_model.specs.Held.{file_row_of}
 use Rattle.pair_model.specs.Rule.{mode_of_flag, tree_row_of}
 use Rattle.pair_known.specs.Rows.{row_value}
-use Rattle.pair_known.proofs.SearchLemmas.{IsRising, rising}
+use Rattle.text_model.proofs.Search.{IsRising, rising}
 use Rattle.commit_rule.specs.Parts.{file_of_row, AreShort}
 use Rattle.commit_rule.proofs.LeafObjects.{Begins, AreApart, blob_of_leaf, blob-there}
 
@@ -38,7 +37,7 @@ no-any : {X : Type 0} (test : X → Bool) (xs : List X) → ((x : X) → In x xs
 no-any test [] h = refl
 no-any test (x ∷ xs) h = rw (h x (inl refl)) (no-any test xs (λ y i. h y (inr i)))
 
-none-any : {X : Type 0} (test : X → Bool) (xs : List X) → list_any test xs ≡ false → (x : X) → In x xs → test x ≡ false
+pub none-any : {X : Type 0} (test : X → Bool) (xs : List X) → list_any test xs ≡ false → (x : X) → In x xs → test x ≡ false
 none-any test [] h x i = absurd i
 none-any {X} test (y ∷ xs) h x i = by (test y) refl h (λ k j. none-any test xs k x j)
   where
@@ -46,32 +45,27 @@ none-any {X} test (y ∷ xs) h x i = by (test y) refl h (λ k j. none-any test x
     by true e k rec = absurd (true≢false k)
     by false e k rec = elim i [ inl q ↦ ap test q ∙ e | inr j ↦ rec k j ]
 
-in-mapped : {X Y : Type 0} (f : X → Y) (x : X) (xs : List X) → In x xs → In (f x) (map f xs)
+pub in-mapped : {X Y : Type 0} (f : X → Y) (x : X) (xs : List X) → In x xs → In (f x) (map f xs)
 in-mapped f x [] i = i
 in-mapped f x (y ∷ xs) i = elim i [ inl q ↦ inl (ap f q) | inr j ↦ inr (in-mapped f x xs j) ]
 
-of-mapped : {X Y : Type 0} (f : X → Y) (xs : List X) (y : Y) → In y (map f xs) → (x : X) × In x xs × (y ≡ f x)
+pub of-mapped : {X Y : Type 0} (f : X → Y) (xs : List X) (y : Y) → In y (map f xs) → (x : X) × In x xs × (y ≡ f x)
 of-mapped f [] y i = absurd i
 of-mapped f (x ∷ xs) y i = elim i [ inl q ↦ (x, inl refl, q) | inr j ↦ let r = of-mapped f xs y j in (r.0, inr r.1, r.2) ]
 
-unclashed : (at : ℕ) (before rows : List FileRow) → ((t b : FileRow) → In t rows → In b (before ++ rows) → lies_below t.path b.path ≡ false) → clash_from at before rows ≡ None
+pub unclashed : (at : ℕ) (before rows : List FileRow) → ((t b : FileRow) → In t rows → In b (before ++ rows) → lies_below t.path b.path ≡ false) → clash_from at before rows ≡ None
 unfolding clash_from
 unclashed at before [] h = refl
 unclashed at before (row ∷ rows) h =
     rw (no-any (λ (b : FileRow). lies_below row.path b.path) before (λ b i. h row b (inl refl) (in-left b before (row ∷ rows) i)))
     (unclashed (at + 1) (before ++ row ∷ []) rows (λ t b i j. h t b (inr i) (subst (In b) (append_assoc before (row ∷ []) rows) j)))
 
-path-in : (rows : List TreeRow) (x : FileRow) → In x (map file_row_of rows) → In x.path (tree_paths rows)
+pub path-in : (rows : List TreeRow) (x : FileRow) → In x (map file_row_of rows) → In x.path (tree_paths rows)
 path-in rows x i =
     let r = of-mapped file_row_of rows x i in
     subst (λ (p : Bytes). In p (tree_paths rows)) (sym (ap (λ (f : FileRow). f.path) r.2)) (in-mapped (λ (row : TreeRow). row.path) r.0 rows r.1)
 
--- rows of which no path lies below another have no first clash
-pub no-first_clash : (rows : List TreeRow) → has_clash (tree_paths rows) ≡ false → first_clash (map file_row_of rows) ≡ None
-no-first_clash rows h = unclashed 0 [] (map file_row_of rows) (λ t b i j.
-    none-any (lies_below t.path) (tree_paths rows) (none-any (λ path. list_any (lies_below path) (tree_paths rows)) (tree_paths rows) h t.path (path-in rows t i)) b.path (path-in rows b j))
-
-paths-same : (rows : List TreeRow) → map (λ r. r.path) (map file_row_of rows) ≡ tree_paths rows
+pub paths-same : (rows : List TreeRow) → map (λ r. r.path) (map file_row_of rows) ≡ tree_paths rows
 paths-same [] = refl
 paths-same (row ∷ rows) = ap (λ (l : List Bytes). row.path ∷ l) (paths-same rows)
 
@@ -120,6 +114,10 @@ few-names path h =
     let le : length (components path) ≤ 256 = grind (arith, e.1, nat_tests) in
     omega (arith, le)
 
+-- the row is a file
+abbrev pub IsBlobRow : TreeRow → Type 0
+IsBlobRow row = is_blob_mode row.mode ≡ true
+
 module _ (rows : List TreeRow) (files : IsFiles (map file_row_of rows)) (none : first_clash (map file_row_of rows) ≡ None) where
   apart-paths : (a b : Bytes) → In a (tree_paths rows) → In b (tree_paths rows) → lies_below a b ≡ false
   apart-paths a b i j =
@@ -131,9 +129,6 @@ module _ (rows : List TreeRow) (files : IsFiles (map file_row_of rows)) (none : 
   pub no-has_clash : has_clash (tree_paths rows) ≡ false
   no-has_clash = no-any (λ path. list_any (lies_below path) (tree_paths rows)) (tree_paths rows) (λ a i. no-any (lies_below a) (tree_paths rows) (λ b j. apart-paths a b i j))
 
-  good : Good (map file_row_of rows)
-  good = subst Good (shorts-none (map file_row_of rows)) (good-files (map file_row_of rows) files none)
-
   up : IsRising (λ (r : TreeRow). r.path) rows
   up = rising (λ (r : TreeRow). r.path) rows (subst (λ (paths : List Bytes). IsTrue (rises is_below paths)) (paths-same rows) files.in_order)
 
@@ -141,7 +136,8 @@ module _ (rows : List TreeRow) (files : IsFiles (map file_row_of rows)) (none : 
   one-way a b i j h = elim (begins-cases (components a.path) (components b.path) h) [
     | inl e ↦ one-row rows up a b i j (same-components a.path b.path e)
     | inr c ↦
-        let is : IsFile (file_row_of b) = good-file (map file_row_of rows) good (file_row_of b) (in-mapped file_row_of b rows j) in
+        let f : IsFileRow (file_row_of b) = each-in IsFileRow (map file_row_of rows) (file_row_of b) files.each (in-mapped file_row_of b rows j) in
+        let is : IsFile (file_row_of b) = fit-file (file_row_of b) f.fit f.empty in
         let names : Each IsName (c.0 ∷ c.1) = Each-weaker (λ name. (name ≢ []) × (has_byte 47 name ≡ false)) IsName (λ n k. record { some = k.0; plain = k.1 }) (c.0 ∷ c.1)
         (Each-rest (λ name. (name ≢ []) × (has_byte 47 name ≡ false)) (components a.path) (c.0 ∷ c.1) (subst (Each (λ name. (name ≢ []) × (has_byte 47 name ≡ false))) c.2 is.names)) in
         let rest : Bytes = way [] (c.0 ∷ c.1) in
@@ -152,26 +148,20 @@ module _ (rows : List TreeRow) (files : IsFiles (map file_row_of rows)) (none : 
         ∙ apart-paths b.path a.path (in-mapped (λ (row : TreeRow). row.path) b rows j) (in-mapped (λ (row : TreeRow). row.path) a rows i)))
   ]
 
-  blob-row : (a : TreeRow) → In a rows → is_blob_mode a.mode ≡ true
-  blob-row a i = blob-mode a.mode (each-in IsFileRow (map file_row_of rows) (file_row_of a) files.each (in-mapped file_row_of a rows i)).file
-
   leaves-apart : AreApart (map leaf_of_row rows)
   leaves-apart = record {
     apart = λ a b i j h.
         let x = of-mapped leaf_of_row rows a i in
         let y = of-mapped leaf_of_row rows b j in
         x.2 ∙ ap leaf_of_row (one-way x.0 y.0 x.1 y.1 (subst (Begins (components (x.0).path)) (ap (λ (l : Leaf). l.names) y.2) (subst (λ (ns : List Bytes). Begins ns b.names) (ap (λ (l : Leaf). l.names) x.2) h))) ∙ sym y.2;
-    files = λ a i.
-        let x = of-mapped leaf_of_row rows a i in
-        ap (λ (l : Leaf). is_blob_mode l.mode) x.2 ∙ blob-row x.0 x.1;
   }
 
-  -- where all objects of the rows are within their limit, the contents are
-  pub contents-short : AreShort (shape_objects shape_depth (map leaf_of_row rows)) → Each (λ row. length row.content ≤ text_limit) rows
-  contents-short all = each-from (λ (row : TreeRow). length row.content ≤ text_limit) rows (λ row i.
+  -- where all objects of the rows are within their limit, the content of each file is
+  pub content-short : AreShort (shape_objects shape_depth (map leaf_of_row rows)) → (row : TreeRow) → In row rows → IsBlobRow row → length row.content ≤ text_limit
+  content-short all row i file =
       each-in (λ (o : Object). length o.content ≤ text_limit) (shape_objects shape_depth (map leaf_of_row rows)) (blob_of_leaf (leaf_of_row row)) all
-      (blob-there shape_depth (map leaf_of_row rows) leaves-apart (leaf_of_row row) (in-mapped leaf_of_row row rows i) (components row.path) refl (components-some row.path)
-      (few-names row.path (each-in IsFileRow (map file_row_of rows) (file_row_of row) files.each (in-mapped file_row_of row rows i)).fit)))
+      (blob-there shape_depth (map leaf_of_row rows) leaves-apart (leaf_of_row row) file (in-mapped leaf_of_row row rows i) (components row.path) refl (components-some row.path)
+      (few-names row.path (each-in IsFileRow (map file_row_of rows) (file_row_of row) files.each (in-mapped file_row_of row rows i)).fit))
 
 -- ---- the files of a changeset
 
@@ -179,6 +169,16 @@ pub file-mode : (flag : Flag) → is_directory (mode_of_flag flag) ≡ false
 file-mode Regular = refl
 file-mode Executable = refl
 file-mode Symlink = refl
+
+blob-flag : (flag : Flag) → is_blob_mode (mode_of_flag flag) ≡ true
+blob-flag Regular = refl
+blob-flag Executable = refl
+blob-flag Symlink = refl
+
+-- each row of a changeset's commit is a file
+pub all-blobs : (rows : List Row) → Each IsBlobRow (map tree_row_of rows)
+all-blobs [] = tt
+all-blobs (row ∷ rows) = (blob-flag row.flag, all-blobs rows)
 
 pub same-files : (rows : List Row) → map file_of_row (map row_value rows) ≡ map file_row_of (map tree_row_of rows)
 same-files [] = refl
@@ -196,4 +196,4 @@ view-files v is = record {
   where
     each : (rows : List Row) → Each (λ row. IsTrue (is_fit_path row.path) × IsBytes row.path × IsRevision row.revision) rows → Each IsFileRow (map file_row_of (map tree_row_of rows))
     each [] h = tt
-    each (row ∷ rows) h = (record { fit = h.0.0; bytes = h.0.1; file = file-mode row.flag; id = IsId-object_id blob (row.revision).body }, each rows h.1)
+    each (row ∷ rows) h = (record { fit = h.0.0; bytes = h.0.1; empty = λ d. absurd (true≢false (sym d ∙ file-mode row.flag)); id = IsId-object_id blob (row.revision).body }, each rows h.1)

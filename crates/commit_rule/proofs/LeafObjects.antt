@@ -1,4 +1,4 @@
--- The blob of each file is one of the objects of the files.
+-- The blob of each file is one of the objects of the rows.
 use Rattle.std.proofs.Common.{◌≡◌, ◌≢◌, ◌≤◌, ℕ, zero, suc, Bool, true, false, true≢false, List, [], ◌∷◌, map, length, drop, Option, Some, None, refl, sym, ap, subst, ◌∙◌, inl, inr, arith}
 use Rattle.std.specs.Prelude.{filter, not, if◌then◌else◌, bytes_eq}
 use Rattle.std.specs.List.{flat_map, filter_map, cons_option}
@@ -6,7 +6,7 @@ use Rattle.std.proofs.lemmas.Slice.Eq.{bytes_eq-Decides}
 use Rattle.text_model.specs.Lists.{In, first_of_each, in_order, with_inserted}
 use Rattle.text_model.specs.Text.{Bytes}
 use Rattle.text_model.specs.Id.{blob, tree}
-use Rattle.git_model.specs.Tree.{Mode, File, Exec, Link, Directory, is_directory, is_blob_mode, TreeEntry, tree_text, is_entry_below}
+use Rattle.git_model.specs.Tree.{Mode, File, GroupFile, Exec, Link, Directory, Gitlink, is_directory, is_blob_mode, TreeEntry, tree_text, is_entry_below}
 use Rattle.git_model.specs.Object.{Object, object_of}
 use Rattle.git_model.specs.Shape.{Leaf, first_name_of, first_names, cut_name, leaves_below, is_named, leaf_named, leaf_object, shape_entries, shape_objects}
 use Rattle.tree_shape.specs.Shapes.{entry_of, trees_below}
@@ -58,10 +58,9 @@ Begins [] ys = Unit {0}
 Begins (x ∷ xs) [] = ⊥
 Begins (x ∷ xs) (y ∷ ys) = (x ≡ y) × Begins xs ys
 
--- files of which none begins with another's names
+-- leaves of which none begins with another's names
 pub record AreApart (leaves : List Leaf) : Type 0 where
   pub apart : (a b : Leaf) → In a leaves → In b leaves → Begins a.names b.names → a ≡ b
-  pub files : (a : Leaf) → In a leaves → is_blob_mode a.mode ≡ true
 
 named-one : (n : Bytes) (names : List Bytes) → is_named n names ≡ true → names ≡ n ∷ []
 named-one n [] h = absurd (true≢false (sym h))
@@ -144,9 +143,6 @@ apart-below n leaves h = record {
       let x = of-below n leaves a i in
       let y = of-below n leaves b j in
       x.is ∙ ap behind (h.apart x.whole y.whole x.there y.there (begins-more n a.names b.names (x.whole).names (y.whole).names x.names y.names begins)) ∙ sym y.is;
-  files = λ a i.
-      let x = of-below n leaves a i in
-      ap (λ (l : Leaf). is_blob_mode l.mode) x.is ∙ h.files x.whole x.there;
 }
 
 -- ---- the blobs
@@ -156,9 +152,11 @@ blob_of_leaf leaf = record { id = leaf.id; kind = blob; content = leaf.content }
 
 no-directory : (m : Mode) → is_blob_mode m ≡ true → is_directory m ≡ false
 no-directory File h = refl
+no-directory GroupFile h = refl
 no-directory Exec h = refl
 no-directory Link h = refl
 no-directory Directory h = absurd (true≢false (sym h))
+no-directory Gitlink h = refl
 
 in-entries : (depth : ℕ) (leaves : List Leaf) (a : Leaf) (n : Bytes) → In a leaves → first_name_of a ≡ Some n → In (entry_of depth leaves n) (shape_entries (suc depth) leaves)
 unfolding shape_entries
@@ -170,15 +168,15 @@ unfolding shape_objects
 in-objects depth leaves e o i j =
     in-left o (flat_map (trees_below depth leaves) (shape_entries (suc depth) leaves)) (object_of tree (tree_text (shape_entries (suc depth) leaves)) ∷ []) (in-flat (trees_below depth leaves) (shape_entries (suc depth) leaves) e o i j)
 
-pub blob-there : (depth : ℕ) (leaves : List Leaf) → AreApart leaves → (a : Leaf) → In a leaves → (names : List Bytes) → a.names ≡ names → names ≢ [] → length names ≤ depth → In (blob_of_leaf a) (shape_objects depth leaves)
-blob-there depth leaves h a i [] e some short = absurd (some refl)
-blob-there zero leaves h a i (n ∷ names) e some short = absurd (omega (arith, short))
-blob-there (suc depth) leaves h a i (n ∷ []) e some short =
+pub blob-there : (depth : ℕ) (leaves : List Leaf) → AreApart leaves → (a : Leaf) → is_blob_mode a.mode ≡ true → In a leaves → (names : List Bytes) → a.names ≡ names → names ≢ [] → length names ≤ depth → In (blob_of_leaf a) (shape_objects depth leaves)
+blob-there depth leaves h a file i [] e some short = absurd (some refl)
+blob-there zero leaves h a file i (n ∷ names) e some short = absurd (omega (arith, short))
+blob-there (suc depth) leaves h a file i (n ∷ []) e some short =
     in-objects depth leaves (entry_of depth leaves n) (blob_of_leaf a) (in-entries depth leaves a n i (ap first_of e)) (
     subst (λ (o : Option Leaf). In (blob_of_leaf a) (trees_below depth leaves (entry_by depth n o (leaves_below n leaves)))) (sym found)
-    (subst (λ (t : Bool). In (blob_of_leaf a) (if t then shape_objects depth (leaves_below n leaves) else leaf_object (leaf_named n leaves))) (sym (no-directory a.mode (h.files a i)))
+    (subst (λ (t : Bool). In (blob_of_leaf a) (if t then shape_objects depth (leaves_below n leaves) else leaf_object (leaf_named n leaves))) (sym (no-directory a.mode file))
     (subst (λ (o : Option Leaf). In (blob_of_leaf a) (leaf_object o)) (sym found)
-    (subst (λ (t : Bool). In (blob_of_leaf a) (if t then blob_of_leaf a ∷ [] else [])) (sym (h.files a i)) (inl refl)))))
+    (subst (λ (t : Bool). In (blob_of_leaf a) (if t then blob_of_leaf a ∷ [] else [])) (sym file) (inl refl)))))
   where
     first_of : List Bytes → Option Bytes
     first_of [] = None
@@ -189,10 +187,10 @@ blob-there (suc depth) leaves h a i (n ∷ []) e some short =
 
     found : leaf_named n leaves ≡ Some a
     found = find-one n a leaves (λ b j is. h.apart b a j i (subst (Begins b.names) (sym e) (subst (λ (l : List Bytes). Begins l (n ∷ [])) (sym (named-one n b.names is)) (refl, tt)))) named i
-blob-there (suc depth) leaves h a i (n ∷ m ∷ r) e some short =
+blob-there (suc depth) leaves h a file i (n ∷ m ∷ r) e some short =
     in-objects depth leaves (entry_of depth leaves n) (blob_of_leaf a) (in-entries depth leaves a n i (ap first_of e)) (
     subst (λ (o : Option Leaf). In (blob_of_leaf a) (trees_below depth leaves (entry_by depth n o (leaves_below n leaves)))) (sym none)
-    (blob-there depth (leaves_below n leaves) (apart-below n leaves h) (record { names = m ∷ r; mode = a.mode; id = a.id; content = a.content }) (in-below n m r a leaves i e) (m ∷ r) refl more (omega (arith, short))))
+    (blob-there depth (leaves_below n leaves) (apart-below n leaves h) (record { names = m ∷ r; mode = a.mode; id = a.id; content = a.content }) file (in-below n m r a leaves i e) (m ∷ r) refl more (omega (arith, short))))
   where
     first_of : List Bytes → Option Bytes
     first_of [] = None

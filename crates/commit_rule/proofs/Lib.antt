@@ -3,5 +3,5 @@ pub mod BlobLemmas
 pub mod TreeObjects
 pub mod LeafObjects
 pub mod FileLemmas
-pub mod PartnerLemmas
+pub mod Handed
 pub mod RuledLemmas

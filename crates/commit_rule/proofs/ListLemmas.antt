@@ -22,9 +22,13 @@ each-at P [] i x at h = absurd (none_some at)
 each-at P (y ∷ xs) zero x at h = subst P (some_is at) h.0
 each-at P (y ∷ xs) (suc i) x at h = each-at P xs i x at h.1
 
-pub each-unmap : {X Y : Type 0} (f : X → Y) (P : Y → Type 0) (xs : List X) → Each P (map f xs) → Each (λ x. P (f x)) xs
-each-unmap f P [] h = tt
-each-unmap f P (x ∷ xs) h = (h.0, each-unmap f P xs h.1)
+-- one element more
+pub each-more : {X : Type 0} (P : X → Type 0) (xs : List X) (i : ℕ) (x : X) → slice_get xs i ≡ Some x → Each P (take i xs) → P x → Each P (take (i + 1) xs)
+each-more P [] i x at h p = absurd (none_some at)
+each-more P (y ∷ xs) zero x at h p = (subst P (sym (some_is at)) p, tt)
+each-more {X} P (y ∷ xs) (suc i) x at h p =
+    let plus : suc (i + 1) ≡ suc i + 1 = omega arith in
+    subst (λ (n : ℕ). Each P (take n (y ∷ xs))) plus (h.0, each-more P xs i x at h.1 p)
 
 pub some-left : {X : Type 0} (P : X → Type 0) (xs ys : List X) → SomeOf xs P → SomeOf (xs ++ ys) P
 some-left P [] ys h = absurd h

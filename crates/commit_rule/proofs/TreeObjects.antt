@@ -6,11 +6,11 @@ use Rattle.std.proofs.lemmas.List.Elements.{filter-append}
 use Rattle.text_model.specs.Lists.{In, Each}
 use Rattle.text_model.specs.Text.{Bytes}
 use Rattle.text_model.specs.Id.{Id, tree, blob}
-use Rattle.git_model.specs.Tree.{is_directory, is_blob_mode, TreeEntry, tree_text}
+use Rattle.git_model.specs.Tree.{Mode, is_directory, is_blob_mode, TreeEntry, tree_text}
 use Rattle.git_model.specs.Object.{Object, object_of}
 use Rattle.git_model.specs.Shape.{Leaf, leaf_of, cut_name, leaves_below, is_named, leaf_named, leaf_object, shape_entries, shape_objects, shape_depth, trees_of}
 use Rattle.tree_shape.specs.Shapes.{is_tree, trees_below}
-use Rattle.tree_shape.proofs.Elements.{in-append, of-flat, in-filter, of-filter, each-in, each-from}
+use Rattle.tree_shape.proofs.Elements.{in-append, of-flat, in-filter, each-in, each-from}
 use Rattle.tree_shape.proofs.PutRows.{no-tree}
 use Rattle.git_view.proofs.Shapes.{filled, below-filled, entries-filled}
 use Rattle.view_model.specs.View.{TreeRow, leaf_of_row, text_limit}
@@ -25,7 +25,7 @@ filter-flat p f g [] h = refl
 filter-flat p f g (x ∷ xs) h =
     filter-append p (f x) (flat_map f xs) ∙ (λ i. h x i ++ filter-flat p f g xs h i) ∙ sym (filter-append p (g x) (flat_map g xs))
 
-module _ (content : Id → Bytes) where
+module _ (content : Mode → Id → Bytes) where
   trees-filled : (depth : ℕ) (leaves : List Leaf) → filter is_tree (shape_objects depth (map (filled content) leaves)) ≡ filter is_tree (shape_objects depth leaves)
   unfolding shape_objects
   trees-filled zero leaves = refl
@@ -47,14 +47,14 @@ module _ (content : Id → Bytes) where
       one e rec true = ap (λ (ls : List Leaf). filter is_tree (shape_objects depth ls)) (below-filled content e.name leaves) ∙ rec (leaves_below e.name leaves)
       one e rec false = no-tree (leaf_named e.name (map (filled content) leaves)) ∙ sym (no-tree (leaf_named e.name leaves))
 
-same-leaves : (rows : List TreeRow) → map (filled (λ _. [])) (map leaf_of_row rows) ≡ map leaf_of (map file_row_of rows)
+same-leaves : (rows : List TreeRow) → map (filled (λ _ _. [])) (map leaf_of_row rows) ≡ map leaf_of (map file_row_of rows)
 same-leaves [] = refl
 same-leaves (row ∷ rows) = ap (λ (l : List Leaf). leaf_of (file_row_of row) ∷ l) (same-leaves rows)
 
 -- the trees of rows are those of their files
 pub same-trees : (rows : List TreeRow) → filter is_tree (shape_objects shape_depth (map leaf_of_row rows)) ≡ trees_of (map file_row_of rows)
 unfolding trees_of
-same-trees rows = sym (trees-filled (λ _. []) shape_depth (map leaf_of_row rows)) ∙ ap (λ (ls : List Leaf). filter is_tree (shape_objects shape_depth ls)) (same-leaves rows)
+same-trees rows = sym (trees-filled (λ _ _. []) shape_depth (map leaf_of_row rows)) ∙ ap (λ (ls : List Leaf). filter is_tree (shape_objects shape_depth ls)) (same-leaves rows)
 
 -- ---- what isn't a tree
 
@@ -117,9 +117,3 @@ objects-short rows trees short = each-from (λ (o : Object). length o.content �
       | inl t ↦ each-in (λ (x : Object). length x.content ≤ text_limit) (trees_of (map file_row_of rows)) o trees (subst (In o) (same-trees rows) (in-filter is_tree o (shape_objects shape_depth (map leaf_of_row rows)) i t))
       | inr s ↦ s
     ])
-
--- and the trees are, where all objects are
-pub trees-short : (rows : List TreeRow) → AreShort (shape_objects shape_depth (map leaf_of_row rows)) → AreShort (trees_of (map file_row_of rows))
-trees-short rows all = each-from (λ (o : Object). length o.content ≤ text_limit) (trees_of (map file_row_of rows)) (λ o i.
-    each-in (λ (x : Object). length x.content ≤ text_limit) (shape_objects shape_depth (map leaf_of_row rows)) o all
-    (of-filter is_tree o (shape_objects shape_depth (map leaf_of_row rows)) (subst (In o) (sym (same-trees rows)) i)).0)

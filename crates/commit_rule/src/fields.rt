@@ -1,9 +1,7 @@
-ghost use Rattle.std.specs.Prelude.{◌≡◌, ◌≤◌, ◌↔◌, ◌++◌, ◌∷◌, [], length, is_some, IfOk, OnOk, IsTrue, false};
+ghost use Rattle.std.specs.Prelude.{◌≡◌, ◌++◌, ◌∷◌, [], is_some, IfOk, OnOk, IsTrue, false};
 ghost use Rattle.text_model.specs.Text.{IsBytes};
 ghost use Rattle.text_model.specs.Id as id;
-ghost use Rattle.git_model.specs.Commit.{commit_text};
 ghost use Rattle.hg_changeset.specs.Values.{changeset_value};
-ghost use Rattle.view_model.specs.View.{commit_limit};
 ghost use Rattle.pair_model.specs.Rule.{author_by};
 ghost use Rattle.pair_model.specs.User.{message_of};
 ghost use Rattle.pair_known.specs.Partners.{git_at};
@@ -15,9 +13,6 @@ use hg_changeset::{Changeset, DateLine};
 use name_rule::{line_of_user, message_of_desc};
 use pair_known::Partners;
 use std::alloc::Global;
-
-/// The most bytes of a commit's text.
-const MOST_TEXT: usize = 1 << 24;
 
 // Appends the partner of a parent that is there.
 fn push_partner(parents: &mut IdList, partners: &Partners, node: &Id) -> Result<(), NoMemory>
@@ -89,13 +84,4 @@ pub fn fields_of(
         headers: Bytes::new(alloc),
         message: message_of_desc(alloc, changeset.desc.as_slice())?,
     })
-}
-
-/// Whether the text of a commit is within its limit.
-pub fn text_fits(alloc: Global, commit: &Commit) -> Result<bool, NoMemory>
-    ensures { IfOk result (λ fits. IsTrue fits ↔ length (commit_text commit.now) ≤ commit_limit) }
-{
-    let mut text = Vec::new(alloc);
-    commit.write_into(&mut text)?;
-    Ok(text.len() <= MOST_TEXT)
 }

@@ -1,16 +1,13 @@
-ghost use Rattle.std.specs.Prelude.{◌≡◌, ◌++◌, ◌∷◌, [], ◌≤◌, List, map, length, Err, IfOk, IsTrue, OnOk};
-ghost use Rattle.text_model.specs.Lists.{Each};
+ghost use Rattle.std.specs.Prelude.{◌≡◌, ◌++◌, ◌∷◌, [], ◌≤◌, List, map, length, IfOk, IsTrue, OnOk};
 ghost use Rattle.hg_model.specs.FileText.{IsFileText};
 ghost use Rattle.view_model.specs.View.{Row, text_limit};
 ghost use Rattle.pair_model.specs.Rule.{tree_row_of};
-ghost use Rattle.pair_known.specs.declared.fault.PairFault.TheVariants.{PairLimit};
 ghost use Rattle.commit_rule.specs.Parts.{IsRowOf, AreRowsOf, AreBrought};
 
-use crate::rows::MOST_BYTES;
-use bridge_text::Bytes;
+use bridge_text::{Bytes, NoMemory};
 use git_object::Objects;
 use hg_filelog::split;
-use pair_known::{FreshBlob, FreshBlobs, HgDraft, HgRow, Known, PairFault};
+use pair_known::{FreshBlob, FreshBlobs, HgDraft, HgRow, Known};
 use std::alloc::Global;
 
 // The text of a row's revision, which the draft brings or the store holds.
@@ -28,8 +25,8 @@ fn text_of<'a>(known: &'a Known, h: &'a HgDraft, row: &HgRow) -> &'a [u8]
     }
 }
 
-// The body of a row's revision.
-fn body_of<'a>(known: &'a Known, h: &'a HgDraft, row: &HgRow) -> &'a [u8]
+/// The body of a row's revision.
+pub fn body_of<'a>(known: &'a Known, h: &'a HgDraft, row: &HgRow) -> &'a [u8]
     requires held { (r : Row) × IsRowOf (h.now.fresh ++ known.now.hg) row.now r }
     ensures { (r : Row) → IsRowOf (h.entry.now.fresh ++ known.entry.now.hg) row.now r → result.now ≡ (r.revision).body }
 {
@@ -39,56 +36,45 @@ fn body_of<'a>(known: &'a Known, h: &'a HgDraft, row: &HgRow) -> &'a [u8]
     }
 }
 
-// Whether the revision of a row stands in the store, and not in the draft. The store takes no text above the limit, so
-// the body needs no look.
-fn is_stored(known: &Known, h: &HgDraft, row: &HgRow) -> bool
+/// Whether the revision of a row stands in the store, and not in the draft. The store takes no text above the limit, so
+/// the body needs no look.
+pub fn is_stored(known: &Known, h: &HgDraft, row: &HgRow) -> bool
     ensures { IsTrue result → (r : Row) → IsRowOf (h.now.fresh ++ known.now.hg) row.now r → length (r.revision).body ≤ text_limit }
 {
     known.hg.check();
     h.fresh.get(row.path.as_slice(), &row.node).is_none()
 }
 
-// Appends the blob of a row, unless it is there or the store holds it. PairLimit comes exactly where it is too large.
-// No text is looked up for a revision of the store whose blob is known, as most rows have.
+// Appends the blob of a row, unless it is there or the store holds it. No text is looked up for a row whose blob is known, as most have.
 fn add_blob(
     alloc: Global,
     known: &Known,
     h: &HgDraft,
     row: &HgRow,
     fresh: &mut FreshBlobs,
-) -> Result<(), PairFault>
+) -> Result<(), NoMemory>
     requires held { (r : Row) × IsRowOf (h.now.fresh ++ known.now.hg) row.now r }
-    ensures ok { OnOk result ((rows : List Row) (r : Row) → AreBrought known.now.git fresh.old (map tree_row_of rows) → IsRowOf (h.now.fresh ++ known.now.hg) row.now r
+    ensures { OnOk result ((rows : List Row) (r : Row) → AreBrought known.now.git fresh.old (map tree_row_of rows) → IsRowOf (h.now.fresh ++ known.now.hg) row.now r
         → AreBrought known.now.git fresh.new (map tree_row_of rows ++ tree_row_of r ∷ [])) }
-    ensures limit { result ≡ Err PairLimit → (r : Row) → IsRowOf (h.now.fresh ++ known.now.hg) row.now r → length (r.revision).body ≤ text_limit → ⊥ }
 {
-    let is_known = known.git.content(&row.blob).is_some();
-    if is_known && is_stored(known, h, row) {
-        return Ok(());
-    }
-    let body = body_of(known, h, row);
-    if body.len() > MOST_BYTES {
-        return Err(PairFault::PairLimit);
-    }
-    if is_known {
+    if known.git.content(&row.blob).is_some() {
         return Ok(());
     }
     if fresh.get(&row.blob).is_some() {
         return Ok(());
     }
-    let content = Bytes::of(alloc, body)?;
-    Ok(fresh.push(FreshBlob {
+    let content = Bytes::of(alloc, body_of(known, h, row))?;
+    fresh.push(FreshBlob {
         id: row.blob,
         content,
-    })?)
+    })?;
+    Ok(())
 }
 
-/// The blobs of a changeset's files that the store doesn't hold. PairLimit comes exactly where a blob of one is too large.
-pub fn fresh_blobs(alloc: Global, known: &Known, h: &HgDraft) -> Result<FreshBlobs, PairFault>
+/// The blobs of a changeset's files that the store doesn't hold.
+pub fn fresh_blobs(alloc: Global, known: &Known, h: &HgDraft) -> Result<FreshBlobs, NoMemory>
     requires held { (rows : List Row) × AreRowsOf (h.now.fresh ++ known.now.hg) h.now.rows rows }
-    ensures ok { IfOk result (λ fresh. (rows : List Row) → AreRowsOf (h.now.fresh ++ known.now.hg) h.now.rows rows → AreBrought known.now.git fresh (map tree_row_of rows)) }
-    ensures limit { result ≡ Err PairLimit → (rows : List Row) → AreRowsOf (h.now.fresh ++ known.now.hg) h.now.rows rows
-        → Each (λ row. length (row.revision).body ≤ text_limit) rows → ⊥ }
+    ensures { IfOk result (λ fresh. (rows : List Row) → AreRowsOf (h.now.fresh ++ known.now.hg) h.now.rows rows → AreBrought known.now.git fresh (map tree_row_of rows)) }
 {
     let mut fresh = FreshBlobs::new(alloc);
     let rows = h.rows.as_slice();

@@ -2,11 +2,11 @@
 #![tactic(auto)]
 
 mod fields;
+mod fits;
 mod fresh;
 mod rows;
 mod rule;
+mod trees;
 
-pub use rule::rule_commit;
-
-#[cfg(test)]
-mod tests;
+pub use fits::commit_fits;
+pub use rule::{make_commit, rule_commit};

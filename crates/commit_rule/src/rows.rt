@@ -1,24 +1,19 @@
-ghost use Rattle.std.specs.Prelude.{◌≡◌, ◌≤◌, ◌↔◌, nat_le, length, map, IfOk, IsTrue};
+ghost use Rattle.std.specs.Prelude.{◌≡◌, map, IfOk};
 ghost use Rattle.hg_manifest.specs.Values.{file_flag};
-ghost use Rattle.git_model.specs.Unfold.{rows_limit};
+ghost use Rattle.git_model.specs.Residue.{carried, rows_with};
 ghost use Rattle.git_object.specs.Values.{mode_value};
 ghost use Rattle.tree_shape.specs.Sets.{IsFiles};
-ghost use Rattle.view_model.specs.View.{text_limit};
 ghost use Rattle.pair_model.specs.Rule.{mode_of_flag};
-ghost use Rattle.commit_rule.specs.Parts.{file_of_row, files_size, AreShort};
+ghost use Rattle.commit_rule.specs.Parts.{file_of_row, residue_below};
 
-use bridge_text::{Bytes, NoMemory};
+use bridge_text::{Bytes, Id, NoMemory};
 use git_object::Mode;
+use git_store::GitStore;
 use hg_manifest::Flag;
 use pair_known::{HgRow, HgRows};
 use std::alloc::Global;
-use tree_shape::{FileRow, Files, TreeItem, TreeList};
-
-/// The most bytes of a text or an object.
-pub const MOST_BYTES: usize = 1 << 26;
-
-/// The most bytes of the rows of a tree.
-const MOST_ROWS: usize = 1 << 26;
+use tree_residue::{carry, residue_at, with_residue};
+use tree_shape::{FileRow, Files};
 
 fn mode_of(flag: Flag) -> Mode
     ensures { mode_value result ≡ mode_of_flag (file_flag flag) }
@@ -55,29 +50,24 @@ pub fn files_of(alloc: Global, rows: &HgRows) -> Result<Files, NoMemory>
     Ok(files)
 }
 
-/// Whether the files, each counted as its path's bytes and 42, are within their limit.
-pub fn rows_fit(rows: &HgRows) -> bool
-    ensures { IsTrue result ↔ files_size rows.now ≤ rows_limit }
+/// The rows of the tree for these files: with what fits them of the residue of an old tree, where there is one.
+pub fn hand_on(
+    alloc: Global,
+    git: &GitStore,
+    old: Option<Id>,
+    files: Files,
+) -> Result<Files, NoMemory>
+    requires files { IsFiles files }
+    requires rows { IsFiles (rows_with (carried (residue_below git.now old) files) files) }
+    ensures { IfOk result (λ rows. rows ≡ rows_with (carried (residue_below git.now old) files) files) }
 {
-    let mut size = 0;
-    let rows = rows.as_slice();
-    for row in rows {
-        size += row.path.as_slice().len() + 42;
-        if size > MOST_ROWS {
-            return false;
-        }
+    let Some(root) = old else {
+        return Ok(files);
+    };
+    let residue = residue_at(alloc, git, &root)?;
+    let items = carry(alloc, &residue, &files)?;
+    if items.is_empty() {
+        return Ok(files);
     }
-    true
-}
-
-/// Whether each tree is within its limit.
-pub fn trees_fit(trees: &TreeList) -> bool
-    ensures { IsTrue result ↔ AreShort trees.now }
-{
-    let items = trees.as_slice();
-    items.iter().all(
-        |item: &TreeItem| -> bool
-            ensures { result ≡ nat_le (length item.now.content) text_limit }
-        { item.content().len() <= MOST_BYTES },
-    )
+    with_residue(alloc, files, &items)
 }

@@ -1,5 +1,5 @@
 -- The extras of a changeset's marks, as they are read and as they are put.
-use Rattle.std.proofs.Common.{◌≡◌, ◌≤◌, ◌<◌, ◌+◌, ◌^◌, ◌&&◌, ℕ, zero, suc, Bool, true, false, List, [], ◌∷◌, ◌++◌, length, drop, length-drop, Option, Some, None, option_map, refl, sym, ap, subst, ◌∙◌, append_assoc, arith, add-one, leb-true, Result, Ok, Err}
+use Rattle.std.proofs.Common.{◌≡◌, ◌≤◌, ◌<◌, ◌+◌, ◌^◌, ◌&&◌, ℕ, zero, suc, Bool, true, false, List, [], ◌∷◌, ◌++◌, length, drop, length-drop, Option, Some, None, option_map, refl, sym, ap, subst, ◌∙◌, append_assoc, append-nil, arith, add-one, leb-true, Result, Ok, Err}
 use Rattle.std.specs.Prelude.{codes, decimal, bytes_eq, nat_le, not, IfOk, MatchOption, if◌then◌else◌, slice_get}
 use Rattle.std.proofs.lemmas.Bool.{not-true, not-false}
 use Rattle.std.specs.Option.{option_and_then}
@@ -10,7 +10,7 @@ use Rattle.text_model.proofs.DecimalLemmas.{decimal_below-decimal, decimal_below
 use Rattle.text_model.proofs.TestLemmas.{both}
 use Rattle.text_model.proofs.EachLemmas.{Each-append}
 use Rattle.hg_model.specs.Changeset.{Extra, extra_at, key_rises, last_key}
-use Rattle.pair_model.specs.MarkList.{ChangesetMarks, extra_of, parents_extra, extras_of, IsPart, IsParentCount, AreChangesetMarks, AreExtrasOf}
+use Rattle.pair_model.specs.MarkList.{ChangesetMarks, extra_of, parents_extra, tree_extra, extras_of, IsPart, IsParentCount, AreChangesetMarks, AreExtrasOf}
 use Rattle.mark_code.specs.Reading.{raw_of, part_at, count_of, count_at, marks_in_extras, AreBelow}
 use Rattle.mark_code.specs.Values.{changeset_marks}
 use Rattle.mark_code.specs.declared.changeset_marks.ChangesetMarks as declared
@@ -125,9 +125,15 @@ behind_committer m = extra_of (codes "hg-git-headers") m.headers ++ (extra_of (c
 abbrev behind_headers : ChangesetMarks → List Extra
 behind_headers m = extra_of (codes "hg-git-message") m.message ++ parents_extra m.parents
 
-turned : (m : ChangesetMarks) → extras_of m ≡ extra_of (codes "hg-git-author") m.author ++ behind_author m
+-- no residue is named
+no_tree : (m : ChangesetMarks) → m.tree ≡ None → parents_extra m.parents ++ tree_extra m.tree ≡ parents_extra m.parents
+no_tree m none = ap (λ x. parents_extra m.parents ++ tree_extra x) none ∙ append-nil (parents_extra m.parents)
+
+turned : (m : ChangesetMarks) → m.tree ≡ None → extras_of m ≡ extra_of (codes "hg-git-author") m.author ++ behind_author m
 unfolding extras_of
-turned m = simp append_assoc
+turned m none =
+    let whole : extras_of m ≡ extra_of (codes "hg-git-author") m.author ++ (extra_of (codes "hg-git-committer") m.committer ++ (extra_of (codes "hg-git-headers") m.headers ++ (extra_of (codes "hg-git-message") m.message ++ (parents_extra m.parents ++ tree_extra m.tree)))) = simp append_assoc in
+    whole ∙ ap (λ (z : List Extra). extra_of (codes "hg-git-author") m.author ++ (extra_of (codes "hg-git-committer") m.committer ++ (extra_of (codes "hg-git-headers") m.headers ++ (extra_of (codes "hg-git-message") m.message ++ z)))) (no_tree m none)
 
 no_headers_key : (m : ChangesetMarks) → extra_at (codes "hg-git-headers") (behind_headers m) ≡ None
 no_headers_key m = skip (codes "hg-git-headers") (codes "hg-git-message") refl m.message (parents_extra m.parents) ∙ no_count (codes "hg-git-headers") refl m.parents
@@ -144,14 +150,14 @@ no_author_key m =
     ∙ skip (codes "hg-git-author") (codes "hg-git-message") refl m.message (parents_extra m.parents) ∙ no_count (codes "hg-git-author") refl m.parents
 
 -- the extras of marks read as the marks
-pub marks_in_extras-again : (m : ChangesetMarks) → AreChangesetMarks m → marks_in_extras (extras_of m) ≡ Some m
+pub marks_in_extras-again : (m : ChangesetMarks) → m.tree ≡ None → AreChangesetMarks m → marks_in_extras (extras_of m) ≡ Some m
 unfolding marks_in_extras
-marks_in_extras-again m is =
+marks_in_extras-again m none is =
     let author = part_at-again (codes "hg-git-author") m.author (behind_author m) is.author (no_author_key m) in
     let committer = part_at-again (codes "hg-git-committer") m.committer (behind_committer m) is.committer (no_committer_key m) in
     let headers = part_at-again (codes "hg-git-headers") m.headers (behind_headers m) is.headers (no_headers_key m) in
     let message = part_at-again (codes "hg-git-message") m.message (parents_extra m.parents) is.message (no_count (codes "hg-git-message") refl m.parents) in
-    rw (turned m, author, committer, headers, message, count_at-again m.parents is.parents) refl
+    rw (turned m none, author, committer, headers, message, count_at-again m.parents is.parents) (λ i. Some (record { author = m.author; committer = m.committer; headers = m.headers; message = m.message; parents = m.parents; tree = sym none i }))
 
 -- what the extras read as has these extras
 pub marks_in_extras-takes : (extras : List Extra) (m : ChangesetMarks) → marks_in_extras extras ≡ Some m → AreExtrasOf extras m
@@ -180,7 +186,7 @@ marks_in_extras-takes extras m h = by_author (part_at (codes "hg-git-author") ex
                     by_parents : (v : Option (Option ℕ)) → count_at d.1 ≡ v → AreExtrasOf extras m
                     by_parents None v = absurd (none_some m (sym (rw (r, s, t, u, v) refl) ∙ h))
                     by_parents (Some n) v =
-                        let x : ChangesetMarks = record { author = a.0; committer = b.0; headers = c.0; message = d.0; parents = n } in
+                        let x : ChangesetMarks = record { author = a.0; committer = b.0; headers = c.0; message = d.0; parents = n; tree = None } in
                         let same : x ≡ m = some_is x m (sym (rw (r, s, t, u, v) refl) ∙ h) in
                         let author = part_at-takes (codes "hg-git-author") extras a.0 a.1 r in
                         let committer = part_at-takes (codes "hg-git-committer") a.1 b.0 b.1 s in
@@ -189,15 +195,15 @@ marks_in_extras-takes extras m h = by_author (part_at (codes "hg-git-author") ex
                         let parents = count_at-takes d.1 n v in
                         let whole : extras ≡ extra_of (codes "hg-git-author") a.0 ++ (extra_of (codes "hg-git-committer") b.0 ++ (extra_of (codes "hg-git-headers") c.0 ++ (extra_of (codes "hg-git-message") d.0 ++ parents_extra n))) =
                         author.1 ∙ ap (λ (z : List Extra). extra_of (codes "hg-git-author") a.0 ++ z) (committer.1 ∙ ap (λ (z : List Extra). extra_of (codes "hg-git-committer") b.0 ++ z) (headers.1 ∙ ap (λ (z : List Extra). extra_of (codes "hg-git-headers") c.0 ++ z) (message.1 ∙ ap (λ (z : List Extra). extra_of (codes "hg-git-message") d.0 ++ z) parents.1))) in
-                        subst (AreExtrasOf extras) same (record { author = author.0; committer = committer.0; headers = headers.0; message = message.0; parents = parents.0 }, whole ∙ sym (turned x))
+                        subst (AreExtrasOf extras) same (record { author = author.0; committer = committer.0; headers = headers.0; message = message.0; parents = parents.0; tree = tt }, whole ∙ sym (turned x refl))
 
 -- so extras that read as nothing are those of no marks
-pub marks_in_extras-none : (extras : List Extra) → marks_in_extras extras ≡ None → (m : ChangesetMarks) → AreExtrasOf extras m → ⊥
-marks_in_extras-none extras none m is = none_some m (sym none ∙ ap marks_in_extras is.1 ∙ marks_in_extras-again m is.0)
+pub marks_in_extras-none : (extras : List Extra) → marks_in_extras extras ≡ None → (m : ChangesetMarks) → m.tree ≡ None → AreExtrasOf extras m → ⊥
+marks_in_extras-none extras none m t is = none_some m (sym none ∙ ap marks_in_extras is.1 ∙ marks_in_extras-again m t is.0)
 
 -- what reading them answers
 pub judged : {E : Type 0} (extras : List Extra) (r : Result (Option declared.ChangesetMarks) E) → IfOk r (λ marks. option_map changeset_marks marks ≡ marks_in_extras extras)
-    → IfOk r (λ marks. MatchOption marks ((m : ChangesetMarks) → ¬ (AreExtrasOf extras m)) (λ marks. AreExtrasOf extras (changeset_marks marks)))
+    → IfOk r (λ marks. MatchOption marks ((m : ChangesetMarks) → m.tree ≡ None → ¬ (AreExtrasOf extras m)) (λ marks. AreExtrasOf extras (changeset_marks marks)))
 judged extras (Err e) h = tt
 judged extras (Ok None) h = marks_in_extras-none extras (sym h)
 judged extras (Ok (Some x)) h = marks_in_extras-takes extras (changeset_marks x) (sym h)
@@ -301,10 +307,13 @@ module _ (m : ChangesetMarks) (none first second third fourth : List Extra) (not
       (below (codes "hg-git-parents") (codes "hg-git-author") m.author refl) (below (codes "hg-git-parents") (codes "hg-git-committer") m.committer refl))
       (below (codes "hg-git-parents") (codes "hg-git-headers") m.headers refl)) (below (codes "hg-git-parents") (codes "hg-git-message") m.message refl))
 
-  pub all_put : (fifth : List Extra) → fifth ≡ fourth ++ parents_extra m.parents → fifth ≡ extras_of m
+  pub all_put : (fifth : List Extra) → fifth ≡ fourth ++ parents_extra m.parents → m.tree ≡ None → fifth ≡ extras_of m
   unfolding extras_of
-  all_put fifth parents = parents ∙ ap (λ (es : List Extra). es ++ parents_extra m.parents) put_fourth
+  all_put fifth parents none =
+      let whole : fifth ≡ extra_of (codes "hg-git-author") m.author ++ (extra_of (codes "hg-git-committer") m.committer ++ (extra_of (codes "hg-git-headers") m.headers ++ (extra_of (codes "hg-git-message") m.message ++ parents_extra m.parents))) =
+      parents ∙ ap (λ (es : List Extra). es ++ parents_extra m.parents) put_fourth ∙ simp append_assoc in
+      whole ∙ sym (turned m none)
 
 -- extras are those of the marks of one commit at most
-pub one_marks : (extras : List Extra) (m n : ChangesetMarks) → AreExtrasOf extras m → AreExtrasOf extras n → m ≡ n
-one_marks extras m n h k = some_is m n (sym (ap marks_in_extras h.1 ∙ marks_in_extras-again m h.0) ∙ ap marks_in_extras k.1 ∙ marks_in_extras-again n k.0)
+pub one_marks : (extras : List Extra) (m n : ChangesetMarks) → m.tree ≡ None → n.tree ≡ None → AreExtrasOf extras m → AreExtrasOf extras n → m ≡ n
+one_marks extras m n s t h k = some_is m n (sym (ap marks_in_extras h.1 ∙ marks_in_extras-again m s h.0) ∙ ap marks_in_extras k.1 ∙ marks_in_extras-again n t k.0)

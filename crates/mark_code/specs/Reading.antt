@@ -44,7 +44,7 @@ count_at [] = Some None
 count_at (e ∷ []) = if bytes_eq e.key (codes "hg-git-parents") then option_map (λ n. Some n) (count_of e.value) else None
 count_at (e ∷ f ∷ es) = None
 
--- the marks that the extras are, where they are no others
+-- the marks that the extras are, where they are no others and name no residue
 unfoldable pub marks_in_extras : List Extra → Option ChangesetMarks
 marks_in_extras extras = do
   author ← part_at (codes "hg-git-author") extras
@@ -52,7 +52,7 @@ marks_in_extras extras = do
   headers ← part_at (codes "hg-git-headers") committer.1
   message ← part_at (codes "hg-git-message") headers.1
   parents ← count_at message.1
-  Some (record { author = author.0; committer = committer.0; headers = headers.0; message = message.0; parents = parents })
+  Some (record { author = author.0; committer = committer.0; headers = headers.0; message = message.0; parents = parents; tree = None })
 
 -- a key that isn't empty and has no `:`
 abbrev pub is_key : Bytes → Bool

@@ -1,4 +1,4 @@
-ghost use Rattle.std.specs.Prelude.{◌≡◌, ◌≤◌, ◌++◌, ◌∷◌, [], IsTrue, length, drop, option_map, codes, decimal, OnOk, IfOk, IfSome, MatchOption};
+ghost use Rattle.std.specs.Prelude.{◌≡◌, ◌≤◌, ◌++◌, ◌∷◌, [], IsTrue, length, drop, option_map, codes, decimal, OnOk, IfOk, IfSome, MatchOption, None};
 ghost use Rattle.pair_model.specs.MarkList as model;
 ghost use Rattle.pair_model.specs.MarkList.{extra_of, parents_extra, AreExtrasOf, IsPart, IsParentCount};
 ghost use Rattle.mark_code.specs.Values.{changeset_marks};
@@ -36,10 +36,11 @@ const MESSAGE: &[u8] = b"hg-git-message";
 const PARENTS: &[u8] = b"hg-git-parents";
 
 impl ChangesetMarks {
-    /// The marks that the extras are. `None` exactly where they are no marks: an item has another
-    /// key, its value is no escape, or the number of parents is no decimal from 3 to 64.
+    /// The marks that the extras are. `None` exactly where they are no marks without a residue: an
+    /// item has another key, its value is no escape, or the number of parents is no decimal from 3
+    /// to 64.
     pub fn read(alloc: Global, extras: &Extras) -> Result<Option<ChangesetMarks>, NoMemory>
-        ensures { IfOk result (λ marks. MatchOption marks ((m : model.ChangesetMarks) → ¬ (AreExtrasOf extras.now m)) (λ marks. AreExtrasOf extras.now (changeset_marks marks))) }
+        ensures { IfOk result (λ marks. MatchOption marks ((m : model.ChangesetMarks) → m.tree ≡ None → ¬ (AreExtrasOf extras.now m)) (λ marks. AreExtrasOf extras.now (changeset_marks marks))) }
     {
         read_marks(alloc, extras)
     }

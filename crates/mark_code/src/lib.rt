@@ -17,6 +17,3 @@ pub use changeset_marks::ChangesetMarks;
 pub use law::reads_exactly;
 pub use list::CommitMarks;
 pub use mark::{ManifestRev, Mark};
-
-#[cfg(test)]
-mod tests;

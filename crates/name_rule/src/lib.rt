@@ -7,8 +7,6 @@ mod address;
 mod laws;
 mod line;
 mod message;
-#[cfg(test)]
-mod tests;
 mod text;
 mod user;
 mod zone;

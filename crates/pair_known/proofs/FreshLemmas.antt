@@ -16,7 +16,7 @@ use Rattle.hg_model.specs.Revision.{Revision, FilesAt, revision_of}
 use Rattle.pair_known.specs.declared.fresh_files.FreshFile.{FreshFile}
 use Rattle.pair_known.specs.declared.fresh_blobs.FreshBlob.{FreshBlob}
 use Rattle.pair_known.specs.Fresh.{fresh_revision, fresh_object, group_path, AreFreshFiles}
-use Rattle.pair_known.proofs.SearchLemmas.{IsRising, rising, found_in, find-map}
+use Rattle.text_model.proofs.Search.{IsRising, rising, found_in, find-map}
 
 abbrev pub path_in : FreshFile → Bytes
 path_in f = f.path

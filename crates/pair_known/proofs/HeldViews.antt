@@ -1,15 +1,15 @@
 -- A node has one view among the revisions of a store, and it is what the store lends.
-use Rattle.std.proofs.Common.{◌≡◌, ◌<◌, ◌≤◌, ◌+◌, ℕ, zero, suc, ◌||◌, Bool, true, false, true≢false, not, List, [], ◌∷◌, ◌++◌, length, map, take, get_or, Option, Some, None, refl, sym, ap, subst, ◌∙◌, arith}
+use Rattle.std.proofs.Common.{◌≡◌, ◌≤◌, ◌+◌, ℕ, zero, suc, ◌||◌, Bool, true, false, true≢false, not, List, [], ◌∷◌, ◌++◌, length, map, take, Option, Some, None, refl, sym, ap, subst, ◌∙◌, arith}
 use Rattle.std.specs.Prelude.{is_some, option_map, bytes_eq, slice_get, IsTrue}
 use Rattle.std.specs.List.{find, list_any}
 use Rattle.std.proofs.lemmas.Bool.{or_parts}
-use Rattle.std.proofs.lemmas.List.Quantifiers.{position-Some}
 use Rattle.std.proofs.lemmas.Slice.Eq.{bytes_eq-Decides}
 use Rattle.text_model.specs.Lists.{Each}
 use Rattle.text_model.specs.Text.{Bytes}
 use Rattle.text_model.specs.Id.{Id, null, is_null, node_id, blob_id}
 use Rattle.text_model.specs.Fault.{FaultName}
 use Rattle.text_model.proofs.TestLemmas.{both}
+use Rattle.hg_model.proofs.RevisionLemmas.{same_group-is}
 use Rattle.hg_model.specs.Changeset.{Changeset, IsChangesetText}
 use Rattle.hg_model.specs.Manifest.{ManifestEntry, IsManifestText, manifest_text}
 use Rattle.hg_model.specs.FileText.{file_text, file_order, manifest_order}
@@ -19,11 +19,8 @@ use Rattle.hg_model.proofs.ManifestLemmas.{one_manifest}
 use Rattle.hg_filelog.proofs.MarkLemmas.{one_pair}
 use Rattle.hg_changeset.specs.Values.{changeset_value}
 use Rattle.hg_store.specs.Known.{IsAddedTo, AreAddedTo, AreAdded, text_limit, manifest_text_of, IsFileBlob}
-use Rattle.hg_store.specs.Views.{IsChangesetOf, IsManifestOf, IsView, IsViewFault, is_unknown, first_unknown}
+use Rattle.hg_store.specs.Views.{IsChangesetOf, IsManifestOf, IsView, is_unknown}
 use Rattle.hg_store.specs.declared.view.View.{View}
-use Rattle.hg_store.specs.declared.fault.ViewFault.{ViewFault}
-use Rattle.hg_store.specs.declared.fault.ViewFault.TheVariants.{ChangesetUnknown, ManifestUnknown, FileUnknown}
-use Rattle.hg_store.proofs.KeyLemmas.{same_group-is}
 use Rattle.view_model.specs.View.{Row, file_node, entry_of_row, ManifestParents, NoManifest, Over, ChangesetView}
 use Rattle.view_model.specs.Held.{IsFileHeld, IsManifestHeld, IsChangesetHeld}
 use Rattle.pair_known.specs.Rows.{RowValue, row_value}
@@ -174,21 +171,6 @@ module _ (known : List Revision) (added : AreAdded known) where
 
 -- ---- what the store lends
 
-each_at : {X : Type 0} (P : X → Type 0) (xs : List X) (i : ℕ) (d : X) → i < length xs → Each P xs → P (get_or xs i d)
-each_at P [] i d below h = absurd (omega (arith, below))
-each_at P (x ∷ xs) zero d below h = h.0
-each_at P (x ∷ xs) (suc i) d below h = each_at P xs i d (omega (arith, below)) h.1
-
-all_known : (known : List Revision) (xs : List Row) → Each (IsFileHeld known) xs → Each (λ e. is_unknown known e ≡ false) (map entry_of_row xs)
-all_known known [] h = tt
-all_known known (x ∷ xs) h = (ap (λ (o : Option Revision). not (is_some o)) h.0.is_held, all_known known xs h.1)
-
-first_known : (known : List Revision) (es : List ManifestEntry) (line : ℕ) → Each (λ e. is_unknown known e ≡ false) es → first_unknown known es ≡ Some line → ⊥
-first_known known [] line h at = none_some at
-first_known known (e ∷ es) line h at =
-    let p = position-Some (is_unknown known) (e ∷ es) line e at in
-    true≢false (sym p.1 ∙ each_at (λ e. is_unknown known e ≡ false) (e ∷ es) line e p.0 h)
-
 pub record Agrees (h : ChangesetView) (v : View) : Type 0 where
   pub p : h.p ≡ v.p1
   pub q : h.q ≡ v.p2
@@ -210,14 +192,6 @@ module _ (known : List Revision) (added : AreAdded known) (node : Id) (h : Chang
   same_entries n es is m =
       let text : m.text ≡ of_manifest.text = some_is (sym m.is_held ∙ ap (manifest_text_of known) is ∙ of_manifest.is_held) in
       one_manifest of_manifest.text es (map entry_of_row h.rows) (subst (λ (t : Bytes). IsManifestText t es) text m.spells) of_manifest.spells
-
-  pub view-there : (e : ViewFault) → IsViewFault known node e → ⊥
-  view-there ChangesetUnknown f = true≢false (sym (ap is_some held.is_held) ∙ f)
-  view-there ManifestUnknown f =
-      none_some (sym f.unknown ∙ ap (λ (x : Changeset). manifest_text_of known x.manifest) (same_fields f.changeset) ∙ of_manifest.is_held)
-  view-there (FileUnknown line) f =
-      let entries = same_entries (f.fields).manifest f.entries (ap (λ (x : Changeset). x.manifest) (same_fields f.changeset)) f.manifest in
-      first_known known (map entry_of_row h.rows) line (all_known known h.rows held.files) (sym (ap (first_unknown known) entries) ∙ f.first)
 
   pub view-agrees : (v : View) → IsView known node v → Agrees h v
   view-agrees v is =

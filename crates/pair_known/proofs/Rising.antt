@@ -4,7 +4,7 @@ use Rattle.std.specs.Prelude.{IsTrue}
 use Rattle.text_model.specs.Lists.{Each, In, rises}
 use Rattle.text_model.specs.Text.{Bytes, is_below}
 use Rattle.text_model.proofs.OrderLemmas.{is_below-one_way, is_below-irreflexive}
-use Rattle.pair_known.proofs.SearchLemmas.{IsRising, rising}
+use Rattle.text_model.proofs.Search.{IsRising, rising}
 
 module _ {X : Type 0} (key : X → Bytes) where
   below_each : (x z : X) (ys : List X) → Each (λ y. is_below (key x) (key y) ≡ true) ys → In z ys → is_below (key x) (key z) ≡ true

@@ -38,11 +38,10 @@ pub fn draft_of_commit(alloc: Global, known: &Known, id: &Id) -> Result<GitDraft
     ensures nothing_fresh { IfOk result (λ d. d.fresh ≡ []) }
     ensures no_trees { IfOk result (λ d. d.trees ≡ []) }
 {
-    match read_draft(alloc, known, id) {
+    match read_commit_draft(alloc, known, id) {
         Ok(draft) => Ok(draft),
         Err(TreeFault::Memory) => Err(NoMemory),
         Err(TreeFault::ObjectUnknown(_)) => unreachable!(),
-        Err(TreeFault::EmptySubtree(_)) => unreachable!(),
         Err(TreeFault::PathUnfit) => unreachable!(),
         Err(TreeFault::Limit) => unreachable!(),
     }
@@ -50,7 +49,7 @@ pub fn draft_of_commit(alloc: Global, known: &Known, id: &Id) -> Result<GitDraft
 
 /// The draft of a commit that the store holds, whatever its tree is. The fault is the first of the walk through that tree.
 /// No blob is copied, and nothing is hashed.
-pub fn read_draft(alloc: Global, known: &Known, id: &Id) -> Result<GitDraft, TreeFault>
+pub fn read_commit_draft(alloc: Global, known: &Known, id: &Id) -> Result<GitDraft, TreeFault>
     requires held { (content : Bytes) × (content_at commit known.now.git id.now ≡ Some content) }
     ensures fields { IfOk result (λ d. IsCommitAt known.now.git id.now d.commit) }
     ensures walks { IfOk result (λ d. walk_fault known.now.git (d.commit).tree_id ≡ None) }

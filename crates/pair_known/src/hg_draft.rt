@@ -12,6 +12,7 @@ ghost use Rattle.mark_code.specs.Values.{manifest_value};
 ghost use Rattle.pair_known.specs.Drafts.{HasView, IsHgDraft, IsDraftFault, IsLineFault};
 
 use crate::draft_fault::DraftFault;
+use crate::draft_texts::DraftTexts;
 use crate::fresh_files::FreshFiles;
 use crate::hg_row::{HgRow, HgRows};
 use crate::known::Known;
@@ -37,11 +38,26 @@ pub struct HgDraft {
     pub rows: HgRows,
     /// The file revisions that the store doesn't hold.
     pub fresh: FreshFiles,
+    /// Texts that were made for it.
+    pub texts: DraftTexts,
 }
 
-/// The draft of a changeset, or why the node has no view: ChangesetUnknown, ManifestUnknown or FileUnknown, each exactly where `HgStore::view_of`
-/// says. Each file revision is looked up once; no body is copied, and nothing is hashed.
-pub fn draft_of_changeset(alloc: Global, known: &Known, node: &Id) -> Result<HgDraft, DraftFault>
+/// The draft of a changeset that has a view, as each one of a history that is stored has. No body is copied, and nothing is hashed.
+pub fn draft_of_changeset(alloc: Global, known: &Known, node: &Id) -> Result<HgDraft, NoMemory>
+    requires view { HasView known.now.hg node.now }
+    ensures draft { IfOk result (λ d. (h : ChangesetView) → IsChangesetHeld known.now.hg node.now h → IsHgDraft known.now.hg d h) }
+    ensures nothing_fresh { IfOk result (λ d. d.fresh ≡ []) }
+{
+    match read_changeset_draft(alloc, known, node) {
+        Ok(draft) => Ok(draft),
+        Err(DraftFault::Memory) => Err(NoMemory),
+        Err(DraftFault::Unknown(_)) => unreachable!(),
+    }
+}
+
+/// The draft of a changeset that the store may lack, or why the node has no view: ChangesetUnknown, ManifestUnknown or FileUnknown, each exactly
+/// where `HgStore::view_of` says. Each file revision is looked up once; no body is copied, and nothing is hashed.
+pub fn read_changeset_draft(alloc: Global, known: &Known, node: &Id) -> Result<HgDraft, DraftFault>
     ensures view { OnOk result (HasView known.now.hg node.now) }
     ensures draft { IfOk result (λ d. (h : ChangesetView) → IsChangesetHeld known.now.hg node.now h → IsHgDraft known.now.hg d h) }
     ensures nothing_fresh { IfOk result (λ d. d.fresh ≡ []) }
@@ -68,7 +84,6 @@ fn draft_with(
     ensures nothing_fresh { IfOk result (λ d. d.fresh ≡ []) }
     ensures fault { IfErr result (IsDraftFault store.now node.now) }
 {
-    store.check();
     let Some(manifest) = store.manifest(&fields.manifest) else {
         return Err(DraftFault::Unknown(ViewFault::ManifestUnknown));
     };
@@ -81,6 +96,7 @@ fn draft_with(
         manifest: manifest_of_node(store, &fields.manifest),
         rows,
         fresh: FreshFiles::new(alloc),
+        texts: DraftTexts::none(),
     })
 }
 
@@ -101,7 +117,6 @@ fn read_changeset(alloc: Global, store: &HgStore, node: &Id) -> Result<Changeset
 pub fn manifest_of_node(store: &HgStore, node: &Id) -> ManifestRev
     ensures { (m : ManifestParents) → (rows : List Row) → IsManifestHeld store.now node.now m rows → m ≡ manifest_value result }
 {
-    store.check();
     match store.manifest_parents(node) {
         Some((p, q)) => ManifestRev::Over { p, q },
         None => ManifestRev::Null,

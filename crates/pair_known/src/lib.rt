@@ -2,8 +2,8 @@
 //! drafts of members that are to be added.
 #![tactic(auto)]
 
-mod cursor;
 mod draft_fault;
+mod draft_texts;
 mod fault;
 mod fresh_blobs;
 mod fresh_files;
@@ -14,17 +14,15 @@ mod hg_row;
 mod known;
 mod partners;
 
-pub use cursor::Cursor;
 pub use draft_fault::DraftFault;
+pub use draft_texts::DraftTexts;
 pub use fault::PairFault;
 pub use fresh_blobs::{FreshBlob, FreshBlobs};
 pub use fresh_files::{FreshFile, FreshFiles};
-pub use git_draft::{GitDraft, draft_of_commit, read_draft};
+pub use git_draft::{GitDraft, draft_of_commit, read_commit_draft};
 pub use hg_block::{HgBlock, HgDrafts};
-pub use hg_draft::{HgDraft, draft_of_changeset, manifest_of_node};
+pub use hg_draft::{HgDraft, draft_of_changeset, manifest_of_node, read_changeset_draft};
+pub use hg_manifest::Cursor;
 pub use hg_row::{HgRow, HgRows};
 pub use known::Known;
 pub use partners::Partners;
-
-#[cfg(test)]
-mod tests;

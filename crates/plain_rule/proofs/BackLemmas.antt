@@ -1,20 +1,25 @@
 -- A changeset comes back from its commit where its parts do.
-use Rattle.std.proofs.Common.{◌≡◌, List, [], ◌∷◌, ◌++◌, map, refl, sym, ap, ◌∙◌, bytes_eq}
-use Rattle.std.specs.Prelude.{not, filter, if◌then◌else◌}
+use Rattle.std.proofs.Common.{◌≡◌, List, [], ◌∷◌, ◌++◌, map, refl, sym, ap, subst, ◌∙◌, bytes_eq}
+use Rattle.std.specs.Prelude.{IsTrue, not, filter, if◌then◌else◌}
 use Rattle.std.specs.List.{list_all}
-use Rattle.text_model.specs.Lists.{first_of_each, in_order}
+use Rattle.text_model.specs.Lists.{rises, first_of_each, in_order}
 use Rattle.text_model.specs.Text.{Bytes, is_below}
 use Rattle.text_model.specs.Id.{node_id}
 use Rattle.hg_model.specs.Changeset.{Changeset}
 use Rattle.hg_model.specs.Manifest.{ManifestEntry, manifest_text}
 use Rattle.view_model.specs.View.{ChangesetView, IsChangesetView, Row, Compared, SameRows, SameChangeset, entry_of_row, rows_text, manifest_node, ManifestParents, NoManifest, Over}
+use Rattle.git_model.proofs.SortLemmas.{rises-ascends}
+use Rattle.git_model.proofs.ResidueLemmas.{path_of, groups_fit, carried_fits}
+use Rattle.view_model.specs.Held.{file_row_of}
 use Rattle.pair_model.specs.Block.{Block, Parents}
-use Rattle.pair_model.specs.Rule.{rule_commit, rule_changeset, ruled_rows, ruled_manifest, ruled_files, over_pair, one_or_two, tree_row_of, entry_at, same_entry, parents_rows}
+use Rattle.pair_model.specs.Rule.{old_residue, carried_to, rule_commit, rule_changeset, ruled_rows, ruled_manifest, ruled_files, over_pair, one_or_two, tree_row_of, entry_at, same_entry, parents_rows}
 use Rattle.pair_model.proofs.MessageLemmas.{description_of-message_of}
-use Rattle.list_rule.specs.Merged.{said}
-use Rattle.list_rule.proofs.MergeLemmas.{entry_paths, at_path}
-use Rattle.list_rule.proofs.FilesLemmas.{paths-are, said-at}
+use Rattle.manifest_rule.specs.Merged.{said}
+use Rattle.manifest_rule.proofs.MergeLemmas.{entry_paths, at_path}
+use Rattle.manifest_rule.proofs.FilesLemmas.{paths-are, said-at}
+use Rattle.commit_rule.proofs.FileLemmas.{view-files, same-paths, all-blobs}
 use Rattle.plain_rule.specs.Back.{ComesBack}
+use Rattle.plain_rule.proofs.HandedRows.{ruled-with}
 
 -- ---- what the entries decide
 
@@ -59,7 +64,15 @@ module _ (blocks : List Block) (ps : Parents) (v : ChangesetView) (view : IsChan
   again = rule_changeset ps (rule_commit blocks v)
 
   abbrev rows : List Row
-  rows = ruled_rows ps (map tree_row_of v.rows)
+  rows = ruled_rows ps (rule_commit blocks v).rows
+
+  -- what the first parent's commit hands on is nothing to them
+  rows-are : rows ≡ ruled_rows ps (map tree_row_of v.rows)
+  unfolding rule_commit
+  rows-are =
+      let files = map file_row_of (map tree_row_of v.rows) in
+      ruled-with ps (carried_to blocks v) (map tree_row_of v.rows) (subst (λ (paths : List Bytes). IsTrue (rises is_below paths)) (sym (same-paths v.rows)) view.in_order) (all-blobs v.rows)
+      (groups_fit files (rises-ascends path_of files (view-files v view).in_order) (carried_to blocks v) (carried_fits (old_residue blocks v.p) files))
 
   pub there : SameChangeset (rule_changeset ps (rule_commit blocks v)) v → ComesBack ps v
   unfolding rule_changeset rule_commit
@@ -67,7 +80,7 @@ module _ (blocks : List Block) (ps : Parents) (v : ChangesetView) (view : IsChan
       let entries = same-entries rows v.rows same.rows in
       record {
         line = record { user_is = ap (λ (x : Changeset). x.user) same.fields; date_is = ap (λ (x : Changeset). x.date) same.fields };
-        rows = same.rows;
+        rows = subst (λ (rs : List Row). SameRows rs v.rows) rows-are same.rows;
         manifest = sym same.manifest ∙ same-manifest ps rows v.rows entries;
         files = sym (ap (λ (x : Changeset). x.files) same.fields) ∙ same-files ps rows v.rows entries;
       }
@@ -75,7 +88,8 @@ module _ (blocks : List Block) (ps : Parents) (v : ChangesetView) (view : IsChan
   pub back : ComesBack ps v → SameChangeset (rule_changeset ps (rule_commit blocks v)) v
   unfolding rule_changeset rule_commit
   back b =
-      let entries = same-entries rows v.rows b.rows in
+      let are : SameRows rows v.rows = subst (λ (rs : List Row). SameRows rs v.rows) (sym rows-are) b.rows in
+      let entries = same-entries rows v.rows are in
       let manifest : ruled_manifest ps rows ≡ v.manifest = same-manifest ps rows v.rows entries ∙ sym b.manifest in
       let node : manifest_node (ruled_manifest ps rows) rows ≡ (v.fields).manifest = ap (λ (m : ManifestParents). manifest_node m rows) manifest ∙ same-node v.manifest rows v.rows entries ∙ sym view.agrees in
       let files : ruled_files ps rows ≡ (v.fields).files = same-files ps rows v.rows entries ∙ sym b.files in
@@ -85,5 +99,5 @@ module _ (blocks : List Block) (ps : Parents) (v : ChangesetView) (view : IsChan
         q = q_is;
         fields = λ i. record { manifest = node i; user = (b.line).user_is i; date = (b.line).date_is i; files = files i; description = description i };
         manifest = manifest;
-        rows = b.rows;
+        rows = are;
       }

@@ -16,7 +16,7 @@ use Rattle.pair_model.specs.Octopus.{links_by, links_over, links_of, partners_of
 use Rattle.pair_model.specs.Rule.{rule_commit}
 use Rattle.pair_known.specs.Partners.{ArePartners}
 use Rattle.pair_known.proofs.HeldViews.{some_is, none_some, held-as}
-use Rattle.row_rule.specs.Parents.{IsParentView}
+use Rattle.file_rule.specs.Parents.{IsParentView}
 
 eq_true : (x y : List ℕ) → bytes_eq x y ≡ true → x ≡ y
 eq_true x y h = (bytes_eq-Decides x y).0 h
@@ -131,23 +131,42 @@ held-at known (x ∷ views) node v held at = by (bytes_eq (changeset_node x) nod
         subst (λ (y : ChangesetView). IsChangesetHeld known node y) same (subst (λ (i : Id). IsChangesetHeld known i x) (eq_true (changeset_node x) node t) held.0)
     by false t rest = rest (sym (rw t refl) ∙ at)
 
-view-there : (blocks : List Block) (node : Id) → Each (λ b. b.links ≡ []) blocks → is_some (block_of_node blocks node) ≡ true → is_some (view_at (changesets_in blocks) node) ≡ true
-view-there [] node plain some = absurd (true≢false (sym some))
-view-there (b ∷ blocks) node plain some =
-    ap (λ (l : List ChangesetView). is_some (view_at (l ++ b.changeset ∷ [] ++ changesets_in blocks) node)) plain.0 ∙ by (bytes_eq (node_of b) node) refl (view-there blocks node plain.1)
+some-front : (xs ys : List ChangesetView) (node : Id) → is_some (view_at xs node) ≡ true → is_some (view_at (xs ++ ys) node) ≡ true
+some-front [] ys node some = absurd (true≢false (sym some))
+some-front (x ∷ xs) ys node some = by (bytes_eq (changeset_node x) node) refl (some-front xs ys node)
   where
-    by : (t : Bool) → bytes_eq (node_of b) node ≡ t → (is_some (block_of_node blocks node) ≡ true → is_some (view_at (changesets_in blocks) node) ≡ true) → is_some (view_at (b.changeset ∷ changesets_in blocks) node) ≡ true
+    by : (t : Bool) → bytes_eq (changeset_node x) node ≡ t → (is_some (view_at xs node) ≡ true → is_some (view_at (xs ++ ys) node) ≡ true) → is_some (view_at (x ∷ xs ++ ys) node) ≡ true
     by true t rest = rw t refl
     by false t rest = rw t (rest (sym (rw t refl) ∙ some))
 
-pub parent-view : (known : List Revision) → AreAdded known → (blocks : List Block) → AreChangesetsHeld known (map changeset_node (changesets_in blocks)) (changesets_in blocks) → Each (λ b. b.links ≡ []) blocks
+some-behind : (xs ys : List ChangesetView) (node : Id) → is_some (view_at ys node) ≡ true → is_some (view_at (xs ++ ys) node) ≡ true
+some-behind [] ys node some = some
+some-behind (x ∷ xs) ys node some = by (bytes_eq (changeset_node x) node) refl (some-behind xs ys node some)
+  where
+    by : (t : Bool) → bytes_eq (changeset_node x) node ≡ t → is_some (view_at (xs ++ ys) node) ≡ true → is_some (view_at (x ∷ xs ++ ys) node) ≡ true
+    by true t rest = rw t refl
+    by false t rest = rw t rest
+
+-- where a block has the node, some changeset of the blocks has
+view-there : (blocks : List Block) (node : Id) → is_some (block_of_node blocks node) ≡ true → is_some (view_at (changesets_in blocks) node) ≡ true
+view-there [] node some = absurd (true≢false (sym some))
+view-there (b ∷ blocks) node some = by (bytes_eq (node_of b) node) refl (view-there blocks node)
+  where
+    here : bytes_eq (node_of b) node ≡ true → is_some (view_at (b.changeset ∷ []) node) ≡ true
+    here t = rw t refl
+
+    by : (t : Bool) → bytes_eq (node_of b) node ≡ t → (is_some (block_of_node blocks node) ≡ true → is_some (view_at (changesets_in blocks) node) ≡ true) → is_some (view_at (changesets_in (b ∷ blocks)) node) ≡ true
+    by true t rest = some-front (b.links ++ b.changeset ∷ []) (changesets_in blocks) node (some-behind b.links (b.changeset ∷ []) node (here t))
+    by false t rest = some-behind (b.links ++ b.changeset ∷ []) (changesets_in blocks) node (rest (sym (rw t refl) ∙ some))
+
+pub parent-view : (known : List Revision) → AreAdded known → (blocks : List Block) → AreChangesetsHeld known (map changeset_node (changesets_in blocks)) (changesets_in blocks)
     → (p : Id) → (is_null p ≡ false → is_some (block_of_node blocks p) ≡ true) → IsParentView known p (view_or_none (changesets_in blocks) p)
-parent-view known added blocks held plain p there = by (view_at (changesets_in blocks) p) refl
+parent-view known added blocks held p there = by (view_at (changesets_in blocks) p) refl
   where
     by : (o : Option ChangesetView) → view_at (changesets_in blocks) p ≡ o → IsParentView known p (view_or_none (changesets_in blocks) p)
     by None e = record {
       of_null = λ null. ap (λ (o : Option ChangesetView). unwrap_or o no_changeset) e;
-      held = λ some. absurd (true≢false (sym (view-there blocks p plain (there some)) ∙ ap is_some e));
+      held = λ some. absurd (true≢false (sym (view-there blocks p (there some)) ∙ ap is_some e));
     }
     by (Some v) e =
         let is = held-at known (changesets_in blocks) p v held e in

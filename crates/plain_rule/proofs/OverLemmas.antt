@@ -1,11 +1,11 @@
 -- A changeset over a history that is held.
 use Rattle.std.proofs.Common.{◌≡◌, ◌+◌, ◌++◌, ℕ, zero, suc, Bool, true, false, List, [], ◌∷◌, map, take, Some, Result, Ok, Err, IfOk, refl, sym, ap, subst, ◌∙◌, arith}
-use Rattle.std.specs.Prelude.{◌↔◌, IsTrue, slice_get}
+use Rattle.std.specs.Prelude.{◌↔◌, not, IsTrue, slice_get}
 use Rattle.std.specs.List.{find}
 use Rattle.text_model.specs.Lists.{Each, rises}
 use Rattle.text_model.specs.Path.{is_fit_path}
 use Rattle.text_model.specs.Text.{Bytes, IsBytes, is_below}
-use Rattle.text_model.specs.Id.{Id, IsId}
+use Rattle.text_model.specs.Id.{Id, IsId, is_null}
 use Rattle.hg_model.specs.Manifest.{IsManifest}
 use Rattle.hg_model.specs.Revision.{Revision, FilesAt, is_of}
 use Rattle.hg_store.specs.Known.{AreAdded, AreAddedTo}
@@ -20,11 +20,11 @@ use Rattle.pair_known.specs.Partners.{ArePartners}
 use Rattle.pair_known.specs.declared.known.Known.{Known}
 use Rattle.pair_known.specs.declared.hg_draft.HgDraft.{HgDraft}
 use Rattle.pair_known.proofs.HeldViews.{some_is, none_some, held-as}
-use Rattle.row_rule.specs.Parents.{IsParent, IsParentView}
-use Rattle.row_rule.specs.declared.parents.Parent.{Parent}
-use Rattle.row_rule.specs.Back.{AreHeldRows}
-use Rattle.list_rule.specs.Over.{AreRowsOver}
-use Rattle.list_rule.proofs.FilesLemmas.{paths-are}
+use Rattle.file_rule.specs.Parents.{IsParent, IsParentView}
+use Rattle.file_rule.specs.declared.parents.Parent.{Parent}
+use Rattle.file_rule.specs.Back.{AreHeldRows}
+use Rattle.manifest_rule.specs.Over.{AreRowsOver}
+use Rattle.manifest_rule.proofs.FilesLemmas.{paths-are}
 use Rattle.plain_rule.specs.Back.{ComesBack, IsDraftOver}
 use Rattle.plain_rule.proofs.BackLemmas as back
 use Rattle.plain_rule.proofs.BlockLemmas.{once, parents-back, parent-view, among-first, among-second}
@@ -56,26 +56,30 @@ parents_in blocks v = parents_among (changesets_in blocks) v.p v.q
 
 module _ (k : Known) (added : AreAdded k.hg) (blocks : List Block) (d : HgDraft) (v : ChangesetView) (over : IsChangesetOver k blocks d v) where
   first-at : IsParentView k.hg v.p (view_or_none (changesets_in blocks) v.p)
-  first-at = parent-view k.hg added blocks ((over.history).held).changesets (over.history).plain v.p (among-first blocks v.p v.q over.parents)
+  first-at = parent-view k.hg added blocks over.inside.history.held.changesets v.p (among-first blocks v.p v.q over.parents)
 
   second-at : IsParentView k.hg v.q (view_or_none (changesets_in blocks) v.q)
-  second-at = parent-view k.hg added blocks ((over.history).held).changesets (over.history).plain v.q (among-second blocks v.p v.q over.parents)
+  second-at = parent-view k.hg added blocks over.inside.history.held.changesets v.q (among-second blocks v.p v.q over.parents)
 
   pub first-view : IsParentView k.hg d.p1 (view_or_none (changesets_in blocks) v.p)
-  first-view = subst (λ (x : Id). IsParentView k.hg x (view_or_none (changesets_in blocks) v.p)) ((over.draft).parents).0 first-at
+  first-view = subst (λ (x : Id). IsParentView k.hg x (view_or_none (changesets_in blocks) v.p)) over.inside.draft.parents.0 first-at
 
   pub second-view : IsParentView k.hg d.p2 (view_or_none (changesets_in blocks) v.q)
-  second-view = subst (λ (x : Id). IsParentView k.hg x (view_or_none (changesets_in blocks) v.q)) ((over.draft).parents).1 second-at
+  second-view = subst (λ (x : Id). IsParentView k.hg x (view_or_none (changesets_in blocks) v.q)) over.inside.draft.parents.1 second-at
 
   pub draft-over : d.fresh ≡ [] → (first second : Parent) → IsParent k.hg first (view_or_none (changesets_in blocks) v.p) → IsParent k.hg second (view_or_none (changesets_in blocks) v.q)
-      → IsDraftOver k.hg d first second (parents_in blocks v) v
-  draft-over fresh first second f s = record {
-    draft = over.draft;
+      → first.is_there ≡ not (is_null d.p1) → second.is_there ≡ not (is_null d.p2) → IsDraftOver k.hg d first second (parents_in blocks v) v
+  draft-over fresh first second f s is-first is-second = record {
+    draft = over.inside.draft;
     fresh = fresh;
-    view = over.view;
+    view = over.inside.view;
     in_first = f;
     in_second = s;
     parents = (refl, refl);
+    there = (
+      is-first ∙ ap (λ (p : Id). not (is_null p)) (sym over.inside.draft.parents.0),
+      is-second ∙ ap (λ (p : Id). not (is_null p)) (sym over.inside.draft.parents.1),
+    );
     no_first = first-at.of_null;
     no_second = second-at.of_null;
   }
@@ -83,9 +87,9 @@ module _ (k : Known) (added : AreAdded k.hg) (blocks : List Block) (d : HgDraft)
   -- the changeset is plain where its parts come back
   pub is-plain : ArePartners k.partners → is_link_view v ≡ false → (t : Bool) → (IsTrue t ↔ ComesBack (parents_in blocks v) v) → (IsTrue t ↔ IsPlainChangeset blocks v)
   is-plain partners no_link t h =
-      let same : parents_of_commit blocks (rule_commit blocks v) ≡ parents_in blocks v = parents-back blocks v over.view (once blocks k.partners partners ((over.history).held).partners) over.parents in (
-        (λ yes'. record { no_link = no_link; back = subst (λ (ps : Parents). SameChangeset (rule_changeset ps (rule_commit blocks v)) v) (sym same) (back.back blocks (parents_in blocks v) v over.view refl refl (h.0 yes')) }),
-        (λ plain. h.1 (back.there blocks (parents_in blocks v) v over.view refl refl (subst (λ (ps : Parents). SameChangeset (rule_changeset ps (rule_commit blocks v)) v) same plain.back))),
+      let same : parents_of_commit blocks (rule_commit blocks v) ≡ parents_in blocks v = parents-back blocks v over.inside.view (once blocks k.partners partners over.inside.history.held.partners) over.parents in (
+        (λ yes'. record { no_link = no_link; back = subst (λ (ps : Parents). SameChangeset (rule_changeset ps (rule_commit blocks v)) v) (sym same) (back.back blocks (parents_in blocks v) v over.inside.view refl refl (h.0 yes')) }),
+        (λ plain. h.1 (back.there blocks (parents_in blocks v) v over.inside.view refl refl (subst (λ (ps : Parents). SameChangeset (rule_changeset ps (rule_commit blocks v)) v) same plain.back))),
       )
 
 -- ---- the rows of a changeset that is held are the lines of a manifest

@@ -1,5 +1,5 @@
 -- What of a changeset comes back from its commit by the rules.
-use Rattle.std.specs.Prelude.{◌≡◌, true, List, [], map}
+use Rattle.std.specs.Prelude.{◌≡◌, true, not, List, [], map}
 use Rattle.text_model.specs.Text.{Bytes}
 use Rattle.text_model.specs.Id.{is_null}
 use Rattle.hg_model.specs.Changeset.{DateLine, Plain}
@@ -10,8 +10,8 @@ use Rattle.pair_model.specs.User.{user_of_line}
 use Rattle.pair_model.specs.Rule.{author_by, tree_row_of, ruled_rows, ruled_manifest, ruled_files}
 use Rattle.pair_known.specs.declared.hg_draft.HgDraft.{HgDraft}
 use Rattle.pair_known.specs.Drafts.{IsHgDraft}
-use Rattle.row_rule.specs.Parents.{IsParent}
-use Rattle.row_rule.specs.declared.parents.Parent.{Parent}
+use Rattle.file_rule.specs.Parents.{IsParent}
+use Rattle.file_rule.specs.declared.parents.Parent.{Parent}
 
 -- the user and the date are those of the author's line, and there are no extras
 pub record LineComesBack (user : Bytes) (date : DateLine) : Type 0 where
@@ -33,5 +33,6 @@ pub record IsDraftOver (known : List Revision) (d : HgDraft) (first second : Par
   pub in_first : IsParent known first ps.first
   pub in_second : IsParent known second ps.second
   pub parents : (ps.p ≡ v.p) × (ps.q ≡ v.q)
+  pub there : (first.is_there ≡ not (is_null ps.p)) × (second.is_there ≡ not (is_null ps.q))
   pub no_first : is_null ps.p ≡ true → ps.first ≡ no_changeset
   pub no_second : is_null ps.q ≡ true → ps.second ≡ no_changeset

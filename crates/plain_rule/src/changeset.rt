@@ -1,5 +1,4 @@
-ghost use Rattle.std.specs.Prelude.{◌≡◌, ◌↔◌, List, [], Some, None, if◌then◌else◌, option_map, IfOk, IsTrue};
-ghost use Rattle.text_model.specs.Id.{is_null};
+ghost use Rattle.std.specs.Prelude.{◌≡◌, ◌↔◌, List, [], IfOk, IsTrue};
 ghost use Rattle.hg_changeset.specs.Values.{date_value};
 ghost use Rattle.hg_model.specs.Changeset.{Plain};
 ghost use Rattle.hg_model.specs.Revision.{Revision};
@@ -11,14 +10,13 @@ ghost use Rattle.pair_known.specs.Over.{IsChangesetOver};
 ghost use Rattle.plain_rule.specs.Back.{LineComesBack, ComesBack, IsDraftOver};
 
 use crate::link::is_link;
-use bridge_text::{Bytes, Id, NoMemory, Paths};
+use bridge_text::{Bytes, NoMemory, Paths};
+use file_rule::{Parent, are_ruled, parent_of};
 use hg_changeset::DateLine;
-use hg_manifest::Manifest;
 use hg_store::HgStore;
-use list_rule::{default_files, is_default_manifest};
+use manifest_rule::{is_ruled_manifest, ruled_files};
 use name_rule::{line_of_user, user_of_line};
 use pair_known::{HgDraft, Known};
-use row_rule::{Parent, are_ruled, parent_of};
 use std::alloc::Global;
 
 /// Whether a changeset that is held, whose parents have partners, is the one that the rule gives for its commit, and no link.
@@ -57,7 +55,7 @@ fn comes_back(
     if !are_ruled(store, &h.rows, first, second) {
         return Ok(false);
     }
-    if !is_default_manifest(store, &h.rows, &h.manifest, first, second) {
+    if !is_ruled_manifest(store, &h.rows, &h.manifest, first, second) {
         return Ok(false);
     }
     lists_default(alloc, h, first, second)
@@ -103,21 +101,8 @@ fn lists_default(
     ensures { IfOk result (λ same. (known : List Revision) (ps : Parents) (v : ChangesetView) → IsDraftOver known h.now first.now second.now ps v
         → (IsTrue same ↔ (v.fields).files ≡ ruled_files ps v.rows)) }
 {
-    let first = files_of(&h.p1, first);
-    let second = files_of(&h.p2, second);
-    let files = default_files(alloc, &h.rows, first, second)?;
+    let files = ruled_files(alloc, &h.rows, first.entries(), second.entries())?;
     Ok(are_same(&h.changeset.files, &files))
-}
-
-// The files of a parent, if it is there.
-fn files_of<'a>(node: &Id, parent: &Parent<'a>) -> Option<&'a Manifest>
-    ensures { option_map (λ m. m.now) result ≡ (if is_null node.now then None else Some (parent.entry.now.manifest).now) }
-{
-    if node.is_null() {
-        None
-    } else {
-        Some(parent.manifest)
-    }
 }
 
 // Whether two lists of paths are the same.

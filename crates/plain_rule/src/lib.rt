@@ -8,8 +8,3 @@ mod link;
 pub use changeset::is_plain_changeset;
 pub use commit::is_plain_commit;
 pub use link::is_link;
-
-#[cfg(test)]
-mod commit_tests;
-#[cfg(test)]
-mod link_tests;

@@ -15,7 +15,7 @@ unreachable-requires c =
     let known = c.args.known.now.hg in
     let row = c.args.row.now in
     let none = c.in-None.ensures ∙ ap (λ (p : Bytes). revision_of fresh (FilesAt p) c.row.inside.node) c.as_slice-path.ensures ∙ ap (λ (v : RowValue). revision_of fresh (FilesAt v.path) v.node) c.row.view_is in
-    let at = c.in-None-file_text.ensures ∙ ap (λ (p : Bytes). text_of known (FilesAt p) c.row.inside.node) c.as_slice-path.ensures ∙ ap (λ (v : RowValue). text_of known (FilesAt v.path) v.node) c.row.view_is in
+    let at = c.in-None-file_text.ensures.value ∙ ap (λ (p : Bytes). text_of known (FilesAt p) c.row.inside.node) c.as_slice-path.ensures ∙ ap (λ (v : RowValue). text_of known (FilesAt v.path) v.node) c.row.view_is in
     none_some (at ∙ stored-there fresh known row c.requires.held.0 c.requires.held.1 none)
 
 pub returns-in-Some : goal.returns-in-Some
@@ -32,5 +32,5 @@ returns-in-Some-file_text c = λ r is.
     let known = c.args.known.now.hg in
     let row = c.args.row.now in
     let none = c.in-None.ensures ∙ ap (λ (p : Bytes). revision_of fresh (FilesAt p) c.row.inside.node) c.as_slice-path.ensures ∙ ap (λ (v : RowValue). revision_of fresh (FilesAt v.path) v.node) c.row.view_is in
-    let at = c.in-Some-file_text.ensures ∙ ap (λ (p : Bytes). text_of known (FilesAt p) c.row.inside.node) c.as_slice-path.ensures ∙ ap (λ (v : RowValue). text_of known (FilesAt v.path) v.node) c.row.view_is in
+    let at = c.in-Some-file_text.ensures.value ∙ ap (λ (p : Bytes). text_of known (FilesAt p) c.row.inside.node) c.as_slice-path.ensures ∙ ap (λ (v : RowValue). text_of known (FilesAt v.path) v.node) c.row.view_is in
     stored-text fresh known row r is c.in-Some-file_text.text.now none at

@@ -13,19 +13,13 @@ none_some e = cc
 none_name : (why : Option WalkFault) (name : FaultName) → why ≡ None → option_map (λ (w : WalkFault). w.name) why ≡ Some name → ⊥
 none_name why name none is = none_some (sym (ap (option_map (λ (w : WalkFault). w.name)) none) ∙ is)
 
-pub read_draft-requires : goal.read_draft-requires
-read_draft-requires c = let at = held-at _ _ c.requires.held.0 c.requires.held.1 in record { held = (at.content, at.held) }
+pub read_commit_draft-requires : goal.read_commit_draft-requires
+read_commit_draft-requires c = let at = held-at _ _ c.requires.held.0 c.requires.held.1 in record { held = (at.content, at.held) }
 
 pub unreachable-requires : goal.unreachable-requires
 unreachable-requires c =
     let view = c.requires.held.0 in
     let fault = subst (λ (e : TreeFault). IsTreeFault (walk_fault c.args.known.now.git (view.value).tree_id) e) c.in-Err-ObjectUnknown.field-0-is (c.in-Err-ObjectUnknown.ensures.fault view.value (held-at _ _ view c.requires.held.1)) in
-    none_some (sym c.requires.held.2 ∙ fault)
-
-pub unreachable-requires-in-Err-EmptySubtree : goal.unreachable-requires-in-Err-EmptySubtree
-unreachable-requires-in-Err-EmptySubtree c =
-    let view = c.requires.held.0 in
-    let fault = subst (λ (e : TreeFault). IsTreeFault (walk_fault c.args.known.now.git (view.value).tree_id) e) c.in-Err-EmptySubtree.field-0-is (c.in-Err-EmptySubtree.ensures.fault view.value (held-at _ _ view c.requires.held.1)) in
     none_some (sym c.requires.held.2 ∙ fault)
 
 pub unreachable-requires-in-Err-PathUnfit : goal.unreachable-requires-in-Err-PathUnfit

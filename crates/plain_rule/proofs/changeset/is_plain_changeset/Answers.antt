@@ -17,8 +17,8 @@ parent_of-second-requires c =
 pub returns : goal.returns
 returns c =
     if_weaker c.comes_back.result _ _ (λ t back blocks v over.
-    let first = c.parent_of-first.ensures (view_or_none (changesets_in blocks) v.p) (first-view c.args.known.now c.check-2.ensures blocks c.args.h.now v over) in
-    let second = c.parent_of-second.ensures (view_or_none (changesets_in blocks) v.q) (second-view c.args.known.now c.check-2.ensures blocks c.args.h.now v over) in
-    let draft = draft-over c.args.known.now c.check-2.ensures blocks c.args.h.now v over c.requires.held c.parent_of-first.result c.parent_of-second.result first second in
-    let link = (λ i. is_link ((over.draft).fields i) (((over.draft).parents).0 i) (((over.draft).parents).1 i)) ∙ sym c.is_link.ensures ∙ c.if-is_link.false in
+    let first = c.parent_of-first.ensures.view (view_or_none (changesets_in blocks) v.p) (first-view c.args.known.now c.check-2.ensures blocks c.args.h.now v over) in
+    let second = c.parent_of-second.ensures.view (view_or_none (changesets_in blocks) v.q) (second-view c.args.known.now c.check-2.ensures blocks c.args.h.now v over) in
+    let draft = draft-over c.args.known.now c.check-2.ensures blocks c.args.h.now v over c.requires.held c.parent_of-first.result c.parent_of-second.result first second c.parent_of-first.ensures.there c.parent_of-second.ensures.there in
+    let link = (λ i. is_link (over.inside.draft.fields i) (over.inside.draft.parents.0 i) (over.inside.draft.parents.1 i)) ∙ sym c.is_link.ensures ∙ c.if-is_link.false in
     is-plain c.args.known.now c.check-2.ensures blocks c.args.h.now v over c.check.ensures link t (back (parents_in blocks v) v draft)) c.comes_back.ensures

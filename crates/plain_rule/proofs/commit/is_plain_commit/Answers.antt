@@ -1,19 +1,28 @@
-use Rattle.std.proofs.Common.{IsTrue, ◌↔◌, List, sym, subst}
+use Rattle.std.proofs.Common.{IsTrue, ◌↔◌, ◌≡◌, true≢false, List, refl, sym, subst, ◌∙◌}
 use Rattle.std.proofs.lemmas.Result.{IfOk-weaker}
+use Rattle.git_model.specs.Residue.{residue_of, carried, plain_files}
 use Rattle.view_model.specs.View.{CommitView}
 use Rattle.pair_model.specs.Block.{Block}
 use Rattle.pair_model.specs.Plain.{IsPlainCommit}
 use Rattle.pair_known.specs.Over.{IsCommitOver}
-use Rattle.pair_known.specs.declared.known.Known as known
 use Rattle.plain_rule.specs.CommitHead.{IsPlainHead}
-use Rattle.plain_rule.proofs.PlainCommit.{plain-by_head, head-by_plain}
+use Rattle.plain_rule.proofs.PlainCommit.{is-plain, head-by-plain}
 use Rattle.plain_rule.proofs.commit.is_plain_commit.Goals as goal
 
+pub returns-then-not-branch : goal.returns-then-not-branch
+returns-then-not-branch c = λ blocks v over. (
+  (λ t. absurd (true≢false (sym t))),
+  (λ plain.
+      let head = subst IsPlainHead over.draft.value (head-by-plain c.args.known.now blocks c.args.c.now v over plain) in
+      absurd (true≢false (sym (c.in_ok-has_plain_head.ensures.1 head) ∙ c.if-not-branch.true))),
+)
+
 pub returns : goal.returns
-returns c = IfOk-weaker c.has_plain_head.result (λ plain. IsTrue plain ↔ IsPlainHead c.args.c.now.commit) (λ plain. (k : known.Known) → (blocks : List Block) → (v : CommitView) → IsCommitOver k blocks c.args.c.now v → IsTrue plain ↔ IsPlainCommit blocks v)
-    (λ plain h k blocks v over.
-    let same = over.draft.value in (
-      (λ t. plain-by_head k blocks c.args.c.now v over (subst IsPlainHead (sym same) (h.0 t))),
-      (λ p. h.1 (subst IsPlainHead same (head-by_plain k blocks c.args.c.now v over p))),
-    ))
-    c.has_plain_head.ensures
+returns c =
+    let known = c.args.known.now in
+    let files = c.args.c.now.files in
+    IfOk-weaker c.is_handed_on.result (λ t. IsTrue t ↔ residue_of files ≡ carried c.in_ok-old.old (plain_files files))
+    (λ t. (blocks : List Block) → (v : CommitView) → IsCommitOver known blocks c.args.c.now v → IsTrue t ↔ IsPlainCommit blocks v)
+    (λ t test blocks v over.
+    is-plain known blocks c.args.c.now v over c.check.ensures c.first_tree.result (c.first_tree.ensures blocks v over) (c.in_ok-has_plain_head.ensures.0 c.if-not-branch.false)
+    files c.in_ok-old.old refl c.in_ok-old.ensures t test) c.is_handed_on.ensures

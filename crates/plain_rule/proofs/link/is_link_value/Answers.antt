@@ -1,6 +1,6 @@
 use Rattle.std.proofs.Common.{◌&&◌, Bool, sym, ap, ◌∙◌}
 use Rattle.std.specs.Prelude.{is_some}
-use Rattle.list_rule.proofs.FilesLemmas.{some-map}
+use Rattle.manifest_rule.proofs.FilesLemmas.{some-map}
 use Rattle.plain_rule.proofs.LinkLemmas.{one, two, three, four, value-is, counts}
 use Rattle.plain_rule.proofs.link.is_link_value.Goals as goal
 

@@ -4,7 +4,7 @@ use Rattle.std.specs.Cmp.Lexicographic.{slice_cmp}
 use Rattle.std.proofs.lemmas.Fn.{always_returns_same}
 use Rattle.hg_model.specs.Revision.{Revision}
 use Rattle.pair_known.specs.Fresh.{fresh_revision, group_path}
-use Rattle.pair_known.proofs.SearchLemmas.{got, not_got, find-map}
+use Rattle.text_model.proofs.Search.{got, not_got, find-map}
 use Rattle.pair_known.proofs.FreshLemmas.{path_in, paths_rise}
 use Rattle.pair_known.proofs.fresh_files.FreshFiles.at_path.Goals as goal
 

@@ -1,0 +1,85 @@
+// What is too large.
+ghost use Rattle.std.specs.Prelude.{◌≡◌, ◌≤◌, ◌↔◌, ◌++◌, List, length, IfOk, IsTrue};
+ghost use Rattle.std.specs.List.{sum_by};
+ghost use Rattle.git_model.specs.Commit.{commit_text};
+ghost use Rattle.git_model.specs.Unfold.{row_size, rows_limit};
+ghost use Rattle.view_model.specs.View.{Row, CommitView, CommitFits, commit_limit, text_limit};
+ghost use Rattle.pair_known.specs.Ruled.{IsMadeCommit};
+ghost use Rattle.commit_rule.specs.Parts.{IsRowOf, AreRowsOf, AreShortBodies};
+
+use crate::fresh::{body_of, is_stored};
+use bridge_text::NoMemory;
+use git_object::Commit;
+use pair_known::{GitDraft, HgDraft, HgRow, Known};
+use std::alloc::Global;
+use tree_shape::Files;
+
+/// The most bytes of a text or an object.
+const MOST_BYTES: usize = 1 << 26;
+
+/// The most bytes of the rows of a tree.
+const MOST_ROWS: usize = 1 << 26;
+
+/// The most bytes of a commit's text.
+const MOST_TEXT: usize = 1 << 24;
+
+// Whether the rows, each counted as its path's bytes and 42, are within their limit.
+fn rows_fit(files: &Files) -> bool
+    ensures { IsTrue result ↔ sum_by row_size files.now ≤ rows_limit }
+{
+    let mut size = 0;
+    let rows = files.as_slice();
+    for row in rows {
+        size += row.path().len() + 42;
+        if size > MOST_ROWS {
+            return false;
+        }
+    }
+    true
+}
+
+// Whether the text of a commit is within its limit.
+fn text_fits(alloc: Global, commit: &Commit) -> Result<bool, NoMemory>
+    ensures { IfOk result (λ fits. IsTrue fits ↔ length (commit_text commit.now) ≤ commit_limit) }
+{
+    let mut text = Vec::new(alloc);
+    commit.write_into(&mut text)?;
+    Ok(text.len() <= MOST_TEXT)
+}
+
+/// Whether each object of a commit that was made and the rows of its tree are within their limits. No tree is looked at: an entry takes at
+/// most 28 bytes beside its name, and a row counts 42 beside its path.
+pub fn commit_fits(alloc: Global, known: &Known, d: &GitDraft) -> Result<bool, NoMemory>
+    ensures { IfOk result (λ fits. (v : CommitView) → IsMadeCommit known.now.git d.now v → (IsTrue fits ↔ CommitFits v)) }
+{
+    let _known = known;
+    if !rows_fit(&d.files) {
+        return Ok(false);
+    }
+    text_fits(alloc, &d.commit)
+}
+
+// Whether the body of a row's revision is within the limit of a text. That of a revision of the store is.
+fn body_fits(known: &Known, h: &HgDraft, row: &HgRow) -> bool
+    requires held { (r : Row) × IsRowOf (h.now.fresh ++ known.now.hg) row.now r }
+    ensures { (r : Row) → IsRowOf (h.now.fresh ++ known.now.hg) row.now r → (IsTrue result ↔ length (r.revision).body ≤ text_limit) }
+{
+    if is_stored(known, h, row) {
+        return true;
+    }
+    body_of(known, h, row).len() <= MOST_BYTES
+}
+
+/// Whether the body of each file revision of a changeset is within the limit of a text.
+pub fn bodies_fit(known: &Known, h: &HgDraft) -> bool
+    requires held { (rows : List Row) × AreRowsOf (h.now.fresh ++ known.now.hg) h.now.rows rows }
+    ensures { (rows : List Row) → AreRowsOf (h.now.fresh ++ known.now.hg) h.now.rows rows → (IsTrue result ↔ AreShortBodies rows) }
+{
+    let rows = h.rows.as_slice();
+    for row in rows {
+        if !body_fits(known, h, row) {
+            return false;
+        }
+    }
+    true
+}

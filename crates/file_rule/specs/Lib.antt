@@ -1,0 +1,4 @@
+pub mod Parents
+pub mod Made
+pub mod Rows
+pub mod Back

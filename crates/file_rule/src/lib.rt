@@ -1,0 +1,13 @@
+//! The files of a changeset by the plain rule: for each file of a commit the revision of a parent, or a new one over those of
+//! the parents. And whether the files of a changeset come back so.
+#![tactic(auto)]
+
+mod back;
+mod parents;
+mod revision;
+mod rows;
+
+pub use back::are_ruled;
+pub use parents::{Parent, parent_of};
+pub use revision::parents_over;
+pub use rows::{RuledRows, make_rows};

@@ -1,0 +1,69 @@
+ghost use Rattle.std.specs.Prelude.{◌≡◌, ◌++◌, false, List, [], ◌∷◌, map, OnOk, IfOk};
+ghost use Rattle.text_model.specs.Lists.{Each};
+ghost use Rattle.hg_store.specs.Known.{knows_same};
+ghost use Rattle.view_model.specs.View.{TreeRow};
+ghost use Rattle.view_model.specs.Held.{IsRowHeld, file_row_of};
+ghost use Rattle.pair_model.specs.Block.{Parents};
+ghost use Rattle.pair_known.specs.Fresh.{AreFreshFiles};
+ghost use Rattle.file_rule.specs.Made.{fresh_list};
+ghost use Rattle.file_rule.specs.Rows.{AreRows, AreMadeRows};
+
+use crate::parents::Parent;
+use crate::revision::{RuledRow, make_row};
+use bridge_text::NoMemory;
+use pair_known::{Cursor, FreshFiles, GitDraft, HgRows, Known};
+use std::alloc::Global;
+
+/// The files of the changeset that the rule gives, and the file revisions that the store doesn't hold.
+#[derive(Drop)]
+pub struct RuledRows {
+    pub rows: HgRows,
+    pub fresh: FreshFiles,
+}
+
+impl RuledRows {
+    // Puts a row at the end.
+    fn push(&mut self, made: RuledRow) -> Result<(), NoMemory>
+        requires { AreFreshFiles (self.old.fresh ++ fresh_list made.fresh) }
+        ensures rows { OnOk result (self.new.rows ≡ self.old.rows ++ made.row ∷ []) }
+        ensures fresh { OnOk result (self.new.fresh ≡ self.old.fresh ++ fresh_list made.fresh) }
+    {
+        self.rows.push(made.row)?;
+        match made.fresh {
+            Some(fresh) => self.fresh.push(fresh),
+            None => Ok(()),
+        }
+    }
+}
+
+/// The files that the rule gives for those of a commit, whatever the length of their texts. Rows that are no files are passed over.
+pub fn make_rows(
+    alloc: Global,
+    known: &Known,
+    c: &GitDraft,
+    first: &Parent<'_>,
+    second: &Parent<'_>,
+) -> Result<RuledRows, NoMemory>
+    requires contents { (ts : List TreeRow) × (c.now.files ≡ map file_row_of ts) × Each (IsRowHeld (c.now.fresh ++ known.now.git)) ts }
+    ensures ok { IfOk result (λ made. (ps : Parents) (ts : List TreeRow) → AreRows known.now.hg (c.now.fresh ++ known.now.git) c.now.files first.now second.now ps ts → AreMadeRows known.now.hg made ps ts) }
+    ensures new { IfOk result (λ made. Each (λ r. knows_same known.now.hg r ≡ false) made.fresh) }
+{
+    let mut ruled = RuledRows {
+        rows: HgRows::new(alloc),
+        fresh: FreshFiles::new(alloc),
+    };
+    let mut first_walk = Cursor::new(first.manifest);
+    let mut second_walk = Cursor::new(second.manifest);
+    let files = c.files.as_slice();
+    for file in files {
+        if !file.mode().is_blob() {
+            continue;
+        }
+        let in_first = first_walk.get(file.path());
+        let in_second = second_walk.get(file.path());
+        let made = make_row(alloc, known, c, file, in_first, in_second)?;
+        ruled.fresh.check();
+        ruled.push(made)?;
+    }
+    Ok(ruled)
+}

@@ -1,0 +1,82 @@
+ghost use Rattle.std.specs.Prelude.{◌≡◌, ℕ, ◌+◌, ◌++◌, ◌<◌, List, [], ◌∷◌, length, true, if◌then◌else◌, option_map, map, IfOk, OnOk, IsTrue};
+ghost use Rattle.text_model.specs.Lists.{rises};
+ghost use Rattle.text_model.specs.Text.{is_below};
+ghost use Rattle.view_model.specs.View.{Row};
+ghost use Rattle.pair_model.specs.Block.{Parents};
+ghost use Rattle.pair_model.specs.Rule as rule;
+ghost use Rattle.manifest_rule.specs.Listed.{AreListed, entries_or_none};
+
+use crate::merge::{entry_at, next, row_at};
+use bridge_text::{Bytes, NoMemory, Paths};
+use hg_manifest::Manifest;
+use pair_known::HgRows;
+use std::alloc::Global;
+
+/// The paths that a changeset lists by the rule, rising: those where it has something else than each of its parents, and all of its paths
+/// where it has none.
+pub fn ruled_files(
+    alloc: Global,
+    rows: &HgRows,
+    first: Option<&Manifest>,
+    second: Option<&Manifest>,
+) -> Result<Paths, NoMemory>
+    ensures { IfOk result (λ paths. (ps : Parents) (hs : List Row) → AreListed rows.now (option_map (λ m. m.now) first.entry) (option_map (λ m. m.now) second.entry) ps hs
+        → paths ≡ rule.ruled_files ps hs) }
+{
+    rises(first);
+    rises(second);
+    let mut paths = Paths::new(alloc);
+    let mut place = 0;
+    let mut in_first = 0;
+    let mut in_second = 0;
+    'paths: while let Some(found) = next(
+        row_at(rows, place),
+        entry_at(first, in_first),
+        entry_at(second, in_second),
+    ) {
+        let listed = found.is_listed(first.is_some(), second.is_some());
+        push_if(alloc, &mut paths, found.path, listed)?;
+        place = after(place, found.row.is_some(), rows.len());
+        in_first = after(in_first, found.first.is_some(), len_of(first));
+        in_second = after(in_second, found.second.is_some(), len_of(second));
+    }
+    Ok(paths)
+}
+
+// A law: the paths of a manifest rise.
+fn rises(manifest: Option<&Manifest>)
+    ensures { IsTrue (rises is_below (map (λ e. e.path) (entries_or_none (option_map (λ m. m.now) manifest.entry)))) }
+{
+    match manifest {
+        Some(manifest) => manifest.is_manifest(),
+        None => (),
+    }
+}
+
+// How many entries there are.
+fn len_of(manifest: Option<&Manifest>) -> usize
+    ensures { result ≡ length (entries_or_none (option_map (λ m. m.now) manifest.entry)) }
+{
+    match manifest {
+        Some(manifest) => manifest.len(),
+        None => 0,
+    }
+}
+
+// The place after one that was met.
+fn after(place: usize, met: bool, len: usize) -> usize
+    requires { met ≡ true → place < len }
+    ensures { result ≡ (if met then place + 1 else place) }
+{
+    if met { place + 1 } else { place }
+}
+
+// Puts a path at the end, where it is listed.
+fn push_if(alloc: Global, paths: &mut Paths, path: &[u8], listed: bool) -> Result<(), NoMemory>
+    ensures { OnOk result (paths.new ≡ paths.old ++ (if listed then path.now ∷ [] else [])) }
+{
+    if !listed {
+        return Ok(());
+    }
+    paths.push(Bytes::of(alloc, path)?)
+}

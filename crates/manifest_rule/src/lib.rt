@@ -1,0 +1,9 @@
+//! The manifest and the list of files that a changeset has by the rule.
+#![tactic(auto)]
+
+mod files;
+mod manifest;
+mod merge;
+
+pub use files::ruled_files;
+pub use manifest::{RuledManifest, is_ruled_manifest, lines_fit, make_manifest};

@@ -1,6 +1,0 @@
-pub mod NodeLemmas
-pub mod ParentLemmas
-pub mod KnownParents
-pub mod RowViews
-pub mod ViewLemmas
-pub mod RuledLemmas

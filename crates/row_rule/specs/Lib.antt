@@ -1,4 +1,0 @@
-pub mod Parents
-pub mod Ruled
-pub mod Rows
-pub mod Back
