@@ -12,11 +12,11 @@ use Rattle.git_model.specs.Object.{Object}
 use Rattle.history_model.specs.Command.{CheckHg, CheckGit, Written, is_manifests, is_files, revision_counts, object_counts, written_of, ComesTo}
 use Rattle.history_model.specs.Pull.{is_changesets}
 use Rattle.hg_bundle.specs.declared.arrival.Arrival.{Arrival}
-use Rattle.git_stream.specs.declared.arrival.ObjectArrival.{ObjectArrival}
+use Rattle.git_batch.specs.declared.arrival.ObjectArrival.{ObjectArrival}
 use Rattle.hg_bundle.specs.declared.arrival.RevKind.TheVariants.{Changeset, Manifest, File}
 use Rattle.hg_bundle.specs.Arrivals as bundle
-use Rattle.git_stream.specs.Arrivals as stream
-use Rattle.git_stream.proofs.StreamLaws.{counts}
+use Rattle.git_batch.specs.Arrivals as stream
+use Rattle.git_batch.proofs.StreamLaws.{counts}
 use Rattle.bridge_cli.specs.Counts.{arrival_counts, stream_counts}
 
 -- elements that pass one test after a map are those that pass another before it

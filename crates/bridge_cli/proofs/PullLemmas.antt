@@ -14,8 +14,8 @@ use Rattle.pair_state.specs.Blocks.{IsStateOf}
 use Rattle.pull_outcome.specs.declared.pulled.Pulled.{Pulled}
 use Rattle.pull_outcome.specs.declared.refused.PullFault.{PullFault}
 use Rattle.pull_outcome.specs.declared.refused.PullFault.TheVariants as pull
-use Rattle.pull_outcome.specs.Names.{fault_name}
-use Rattle.pull_outcome.specs.Tight.{IsTight, state_value}
+use Rattle.bridge_text.specs.Refusals.{fault_name, refusal_value}
+use Rattle.pull_outcome.specs.AllBlocks.{HasAllBlocks, state_value}
 use Rattle.pull_outcome.specs.Pulls.{PulledHg, PulledGit, RefusesHg, RefusesGit}
 use Rattle.bridge_cli.specs.Report.{pull_report}
 use Rattle.bridge_cli.specs.Makes.{IsEndOf}
@@ -26,7 +26,7 @@ pub record IsEmpty (s : State) : Type 0 where
   pub revisions : s.known.hg ≡ []
   pub objects : s.known.git ≡ []
 
-tight : (s : State) → IsEmpty s → IsTight s []
+tight : (s : State) → IsEmpty s → HasAllBlocks s []
 tight s is = record {
   state = is.state;
   saved = subst (λ (rs : List Revision). Each (λ (r : Revision). r.group ≡ Changesets → IsTrue (is_saved [] r.node)) rs) (sym is.revisions) tt;
@@ -35,26 +35,28 @@ tight s is = record {
 value : (s : State) → IsEmpty s → state_value s [] ≡ empty_state
 value s is = λ i. record { revisions = is.revisions i; objects = is.objects i; blocks = [] }
 
-pub hg-makes : (input : Option Bytes) (s : State) (pulled : Pulled) → IsEmpty s → IfSome input (λ bytes. (blocks : List Block) → IsTight s blocks → PulledHg s blocks bytes pulled)
-    → IfSome input (λ bytes. PullHgMakes empty_state bytes pulled.made.items)
-hg-makes None s pulled is told = tt
-hg-makes (Some bytes) s pulled is told = subst (λ (m : model.State). PullHgMakes m bytes pulled.made.items) (value s is) (told [] (tight s is)).makes
+pub hg-makes : (input : Option Bytes) (s : State) (pulled : Pulled) (output : Bytes) → output ≡ pulled.made → IsEmpty s → IfSome input (λ bytes. (blocks : List Block) → HasAllBlocks s blocks → PulledHg s blocks bytes pulled)
+    → IfSome input (λ bytes. PullHgMakes empty_state bytes output)
+hg-makes None s pulled output e is told = tt
+hg-makes (Some bytes) s pulled output e is told =
+    subst (λ (o : Bytes). PullHgMakes empty_state bytes o) (sym e) (subst (λ (m : model.State). PullHgMakes m bytes pulled.made) (value s is) (told [] (tight s is)).makes)
 
-pub git-makes : (input : Option Bytes) (s : State) (pulled : Pulled) → IsEmpty s → IfSome input (λ bytes. (blocks : List Block) → IsTight s blocks → PulledGit s blocks bytes pulled)
-    → IfSome input (λ bytes. PullGitMakes empty_state bytes pulled.made.items)
-git-makes None s pulled is told = tt
-git-makes (Some bytes) s pulled is told = subst (λ (m : model.State). PullGitMakes m bytes pulled.made.items) (value s is) (told [] (tight s is)).makes
+pub git-makes : (input : Option Bytes) (s : State) (pulled : Pulled) (output : Bytes) → output ≡ pulled.made → IsEmpty s → IfSome input (λ bytes. (blocks : List Block) → HasAllBlocks s blocks → PulledGit s blocks bytes pulled)
+    → IfSome input (λ bytes. PullGitMakes empty_state bytes output)
+git-makes None s pulled output e is told = tt
+git-makes (Some bytes) s pulled output e is told =
+    subst (λ (o : Bytes). PullGitMakes empty_state bytes o) (sym e) (subst (λ (m : model.State). PullGitMakes m bytes pulled.made) (value s is) (told [] (tight s is)).makes)
 
-pub hg-refuses : (input : Option Bytes) (s : State) (e : PullFault) → IsEmpty s → IfSome input (λ bytes. (blocks : List Block) → IsTight s blocks → RefusesHg s blocks bytes e)
+pub hg-refuses : (input : Option Bytes) (s : State) (e : PullFault) → IsEmpty s → IfSome input (λ bytes. (blocks : List Block) → HasAllBlocks s blocks → RefusesHg s blocks bytes e)
     → IsEndOf PullHg input (pull_report e)
-hg-refuses None s (pull.Refused why id at) is told = tt
-hg-refuses (Some bytes) s (pull.Refused why id at) is told = subst (λ (m : model.State). PullHgRefuses m bytes (record { name = fault_name why; id = id; place = at })) (value s is) (told [] (tight s is))
+hg-refuses None s (pull.Refused why) is told = tt
+hg-refuses (Some bytes) s (pull.Refused why) is told = subst (λ (m : model.State). PullHgRefuses m bytes (refusal_value why)) (value s is) (told [] (tight s is))
 hg-refuses input s pull.Read is told = tt
 hg-refuses input s pull.Memory is told = tt
 
-pub git-refuses : (input : Option Bytes) (s : State) (e : PullFault) → IsEmpty s → IfSome input (λ bytes. (blocks : List Block) → IsTight s blocks → RefusesGit s blocks bytes e)
+pub git-refuses : (input : Option Bytes) (s : State) (e : PullFault) → IsEmpty s → IfSome input (λ bytes. (blocks : List Block) → HasAllBlocks s blocks → RefusesGit s blocks bytes e)
     → IsEndOf PullGit input (pull_report e)
-git-refuses None s (pull.Refused why id at) is told = tt
-git-refuses (Some bytes) s (pull.Refused why id at) is told = subst (λ (m : model.State). PullGitRefuses m bytes (record { name = fault_name why; id = id; place = at })) (value s is) (told [] (tight s is))
+git-refuses None s (pull.Refused why) is told = tt
+git-refuses (Some bytes) s (pull.Refused why) is told = subst (λ (m : model.State). PullGitRefuses m bytes (refusal_value why)) (value s is) (told [] (tight s is))
 git-refuses input s pull.Read is told = tt
 git-refuses input s pull.Memory is told = tt

@@ -6,8 +6,8 @@ use Rattle.history_model.specs.Command.{count_line}
 use Rattle.hg_bundle.specs.declared.arrival.Arrival.{Arrival}
 use Rattle.hg_bundle.specs.declared.arrival.RevKind.TheVariants.{Changeset, Manifest, File}
 use Rattle.hg_bundle.specs.Arrivals.{count_of_kind}
-use Rattle.git_stream.specs.declared.arrival.ObjectArrival.{ObjectArrival}
-use Rattle.git_stream.specs.Arrivals.{count_of}
+use Rattle.git_batch.specs.declared.arrival.ObjectArrival.{ObjectArrival}
+use Rattle.git_batch.specs.Arrivals.{count_of}
 
 abbrev pub arrival_counts : List Arrival → Bytes
 arrival_counts arrivals =

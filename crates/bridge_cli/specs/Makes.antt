@@ -6,7 +6,7 @@ use Rattle.text_model.specs.Text.{Bytes}
 use Rattle.hg_model.specs.Bundle.{ListsBundle, IsNoBundle}
 use Rattle.bridge_io.specs.Causes.{Rose}
 use Rattle.history_model.specs.Command.{Command, Written, Refused, ComesTo}
-use Rattle.bridge_cli.specs.Report.{refusal_value}
+use Rattle.bridge_text.specs.Refusals.{refusal_value}
 use Rattle.bridge_cli.specs.declared.report.Report.{Report}
 use Rattle.bridge_cli.specs.declared.report.Report.TheVariants as code
 

@@ -4,6 +4,7 @@ ghost use Rattle.std.specs.Io.KnownBytes.{IsAtEnd};
 ghost use Rattle.history_model.specs.Command.{command_of};
 ghost use Rattle.history_model.specs.Command as model;
 ghost use Rattle.history_model.specs.Run as run;
+ghost use Rattle.bridge_io.specs.Sink.{IsOut};
 ghost use Rattle.bridge_cli.specs.Ends.{Ends, EndsBy};
 ghost use Rattle.bridge_cli.specs.Outside.{InputCause, ListingEnds, OutputCause, TakesOrFails, WritesOut};
 ghost use Rattle.bridge_cli.specs.Report.{report_value};
@@ -48,11 +49,14 @@ pub fn run<I: Source, O: Sink, E: Sink, K: Slot, L: Ledger>(
     ensures output { OutputCause (O.faults output.old) (O.faults output.new) result }
     ensures unwritten { result ≢ Status.Done → result ≢ Status.WriteFault → output.new ≡ output.old }
 
+    // A run that is done has flushed what its output took.
+    ensures flushed { result ≡ Status.Done → IsOut (O.flushed output.new) (O.taken output.new) }
+
     ensures slot { slot.new ≡ slot.old }
     ensures steps { steps.new ≡ steps.old }
 {
     let report = match words.command() {
-        Some(command) => perform(alloc, command, input, output),
+        Some(command) => perform(alloc, command, input, output, steps),
         None => Report::Usage,
     };
     // What the errors do with the line changes nothing.
@@ -61,11 +65,12 @@ pub fn run<I: Source, O: Sink, E: Sink, K: Slot, L: Ledger>(
 }
 
 // Does the work of a command.
-fn perform<I: Source, O: Sink>(
+fn perform<I: Source, O: Sink, L: Ledger>(
     alloc: Global,
     command: Command,
     input: &mut I,
     output: &mut O,
+    steps: &mut Steps<L>,
 ) -> Report
     ensures ends { EndsBy (command_value command) (I.left input.old) (I.left input.new) (O.taken output.old) (O.taken output.new) (report_value result) }
     ensures bundle { command_value command ≡ model.ListHg
@@ -73,8 +78,10 @@ fn perform<I: Source, O: Sink>(
     ensures input { InputCause (I.faults input.old) (I.faults input.new) (status_of (report_value result)) }
     ensures output { OutputCause (O.faults output.old) (O.faults output.new) (status_of (report_value result)) }
     ensures unwritten { result ≢ Report.Done → result ≢ Report.WriteFault → output.new ≡ output.old }
+    ensures flushed { status_of (report_value result) ≡ Status.Done → IsOut (O.flushed output.new) (O.taken output.new) }
+    ensures steps { steps.new ≡ steps.old }
 {
-    match output_of(alloc, command, input) {
+    match output_of(alloc, command, input, steps) {
         Ok(bytes) => write_out(output, &bytes),
         Err(report) => report,
     }
@@ -84,6 +91,7 @@ fn perform<I: Source, O: Sink>(
 fn write_out<O: Sink>(output: &mut O, bytes: &[u8]) -> Report
     ensures written { WritesOut (O.taken output.old) (O.taken output.new) bytes.now result }
     ensures output { OutputCause (O.faults output.old) (O.faults output.new) (status_of (report_value result)) }
+    ensures flushed { status_of (report_value result) ≡ Status.Done → IsOut (O.flushed output.new) (O.taken output.new) }
 {
     if write_all(output, bytes).is_err() || output.flush().is_err() {
         return Report::WriteFault;

@@ -5,7 +5,7 @@ ghost use Rattle.history_model.specs.Command.{count_line};
 ghost use Rattle.bridge_cli.specs.Counts.{arrival_counts, stream_counts};
 
 use bridge_text::{Kind, NoMemory, decimal_into};
-use git_stream::ObjectArrivals;
+use git_batch::ObjectArrivals;
 use hg_bundle::{Arrivals, RevKind};
 use std::alloc::Global;
 

@@ -8,8 +8,6 @@ mod line;
 mod output;
 mod report;
 mod status;
-#[cfg(test)]
-mod tests;
 mod words;
 
 pub use command::run;

@@ -1,10 +1,12 @@
 // The line that a run prints on its errors, built without memory.
 ghost use Rattle.std.specs.Prelude.{◌≡◌, ◌≤◌, length};
 ghost use Rattle.history_model.specs.Run.{refused_line, report_line};
-ghost use Rattle.bridge_cli.specs.Report.{refusal_value, report_value};
+ghost use Rattle.bridge_text.specs.Refusals.{refusal_value};
+ghost use Rattle.bridge_cli.specs.Report.{report_value};
 
-use crate::report::{Refusal, Report};
+use crate::report::Report;
 use arrayvec::ArrayVec;
+use bridge_text::Refusal;
 
 /// The longest line has 89 bytes.
 pub const LONGEST: usize = 96;

@@ -7,30 +7,33 @@ ghost use Rattle.bridge_cli.specs.Status.{command_value};
 use crate::counts::{object_counts, revision_counts};
 use crate::report::Report;
 use crate::words::Command;
-use bridge_io::Source;
+use bridge_io::{Source, Steps};
 use git_store::GitStore;
 use hg_store::HgStore;
 use pair_state::State;
 use pull_engine::{pull_git, pull_hg};
 use std::alloc::Global;
+use std::sync::ledger::Ledger;
 
 /// The output of a command over an input, which is read to its end; or how the run ends without one.
-pub fn output_of<I: Source>(
+pub fn output_of<I: Source, L: Ledger>(
     alloc: Global,
     command: Command,
     input: &mut I,
+    steps: &mut Steps<L>,
 ) -> Result<Vec<u8>, Report>
     ensures makes { Makes (command_value command) (I.left input.old) (I.left input.new) result }
     ensures bundle { command_value command ≡ model.ListHg → ListsTheBundle (I.left input.old) result }
     ensures input { LeavesCount (I.faults input.old) (I.faults input.new) result }
+    ensures steps { steps.new ≡ steps.old }
 {
     match command {
         Command::ListHg => bundle_lines(alloc, input),
         Command::CheckHg => bundle_counts(alloc, input),
         Command::ListGit => stream_lines(alloc, input),
         Command::CheckGit => stream_counts(alloc, input),
-        Command::PullHg => commits_of_bundle(alloc, input),
-        Command::PullGit => changesets_of_stream(alloc, input),
+        Command::PullHg => commits_of_bundle(alloc, input, steps),
+        Command::PullGit => changesets_of_stream(alloc, input, steps),
     }
 }
 
@@ -75,30 +78,40 @@ fn stream_counts<I: Source>(alloc: Global, input: &mut I) -> Result<Vec<u8>, Rep
     ensures makes { Makes model.CheckGit (I.left input.old) (I.left input.new) result }
     ensures input { LeavesCount (I.faults input.old) (I.faults input.new) result }
 {
-    match git_stream::read_into(alloc, input, GitStore::new(alloc)) {
+    match git_batch::read_into(alloc, input, GitStore::new(alloc)) {
         Ok((_, arrivals)) => Ok(object_counts(alloc, &arrivals)?),
         Err(fault) => Err(Report::from(fault)),
     }
 }
 
 // The objects of the commits of a bundle's changesets.
-fn commits_of_bundle<I: Source>(alloc: Global, input: &mut I) -> Result<Vec<u8>, Report>
+fn commits_of_bundle<I: Source, L: Ledger>(
+    alloc: Global,
+    input: &mut I,
+    steps: &mut Steps<L>,
+) -> Result<Vec<u8>, Report>
     ensures makes { Makes model.PullHg (I.left input.old) (I.left input.new) result }
     ensures input { LeavesCount (I.faults input.old) (I.faults input.new) result }
+    ensures steps { steps.new ≡ steps.old }
 {
-    match pull_hg(alloc, State::empty(alloc), input) {
-        Ok(pulled) => Ok(pulled.made),
+    match pull_hg(State::empty(alloc), input, steps) {
+        Ok(pulled) => Ok(pulled.made.into_vec()),
         Err(fault) => Err(Report::from(fault)),
     }
 }
 
 // The bundle of the changesets of a stream's commits.
-fn changesets_of_stream<I: Source>(alloc: Global, input: &mut I) -> Result<Vec<u8>, Report>
+fn changesets_of_stream<I: Source, L: Ledger>(
+    alloc: Global,
+    input: &mut I,
+    steps: &mut Steps<L>,
+) -> Result<Vec<u8>, Report>
     ensures makes { Makes model.PullGit (I.left input.old) (I.left input.new) result }
     ensures input { LeavesCount (I.faults input.old) (I.faults input.new) result }
+    ensures steps { steps.new ≡ steps.old }
 {
-    match pull_git(alloc, State::empty(alloc), input) {
-        Ok(pulled) => Ok(pulled.made),
+    match pull_git(State::empty(alloc), input, steps) {
+        Ok(pulled) => Ok(pulled.made.into_vec()),
         Err(fault) => Err(Report::from(fault)),
     }
 }

@@ -5,21 +5,10 @@ ghost use Rattle.bridge_cli.specs.Status.{status_of};
 ghost use Rattle.bridge_cli.specs.declared.report.Report.TheVariants.{Memory};
 
 use crate::status::Status;
-use bridge_text::{Id, NoMemory};
-use git_batch::{BatchFault, INPUT_LIMIT};
-use git_stream::StreamFault;
+use bridge_text::{NoMemory, Refusal};
+use git_batch::{BatchFault, StreamFault};
 use hg_bundle::BundleFault;
-use pull_engine::{Fault, PullFault};
-
-/// Why an input is refused.
-#[derive(Clone, Copy, Debug, PartialEq, Eq)]
-pub struct Refusal {
-    pub fault: Fault,
-    /// The revision or object of which it is refused; null where it is none's.
-    pub id: Id,
-    /// The offset in the input, or the number of a line.
-    pub place: u64,
-}
+use pull_engine::PullFault;
 
 /// How a run ends.
 #[derive(Clone, Copy, Debug, PartialEq, Eq)]
@@ -53,7 +42,7 @@ impl From<BundleFault> for Report {
 
     fn from(fault: BundleFault) -> Report {
         match fault {
-            BundleFault::Bad { why, id, at } => refused(Fault::from(why), id, at),
+            BundleFault::Refused(why) => Report::Refused(why),
             BundleFault::Read => Report::ReadFault,
             BundleFault::Memory => Report::Memory,
         }
@@ -73,7 +62,7 @@ impl From<StreamFault> for Report {
 
     fn from(fault: StreamFault) -> Report {
         match fault {
-            StreamFault::Bad { why, id, at } => refused(Fault::from(why), id, at),
+            StreamFault::Refused(why) => Report::Refused(why),
             StreamFault::Read => Report::ReadFault,
             StreamFault::Memory => Report::Memory,
         }
@@ -84,17 +73,7 @@ impl From<BatchFault> for Report {
     ghost from_gives = { λ fault e. e ≡ stream_report fault };
 
     fn from(fault: BatchFault) -> Report {
-        match fault {
-            BatchFault::Line(at) => refused(Fault::Line, Id::NULL, at),
-            BatchFault::Missing(at) => refused(Fault::Missing, Id::NULL, at),
-            BatchFault::KindUnknown(id, at) => refused(Fault::KindUnknown, id, at),
-            BatchFault::Limit(at) => refused(Fault::Limit, Id::NULL, at),
-            BatchFault::Truncated(at) => refused(Fault::Truncated, Id::NULL, at),
-            BatchFault::InputLimit => refused(Fault::InputLimit, Id::NULL, INPUT_LIMIT),
-            BatchFault::IdWrong(id, at) => refused(Fault::IdWrong, id, at),
-            BatchFault::Read => Report::ReadFault,
-            BatchFault::Memory => Report::Memory,
-        }
+        Report::from(StreamFault::from(fault))
     }
 }
 
@@ -103,15 +82,9 @@ impl From<PullFault> for Report {
 
     fn from(fault: PullFault) -> Report {
         match fault {
-            PullFault::Refused { fault, id, at } => refused(fault, id, at),
+            PullFault::Refused(why) => Report::Refused(why),
             PullFault::Read => Report::ReadFault,
             PullFault::Memory => Report::Memory,
         }
     }
-}
-
-fn refused(fault: Fault, id: Id, place: u64) -> Report
-    ensures { result ≡ Report.Refused (record { fault = fault; id = id; place = place }) }
-{
-    Report::Refused(Refusal { fault, id, place })
 }

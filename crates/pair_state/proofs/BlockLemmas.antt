@@ -1,23 +1,27 @@
--- Blocks that are held, with one more behind them.
-use Rattle.std.proofs.Common.{◌≡◌, Bool, true, false, true≢false, List, [], ◌∷◌, ◌++◌, map, Option, Some, None, refl, sym, ap, subst, ◌∙◌}
-use Rattle.std.specs.Prelude.{bytes_eq, option_map, is_some, if◌then◌else◌}
-use Rattle.std.specs.List.{find}
+-- Blocks that are stored, with one more behind them.
+use Rattle.std.proofs.Common.{◌≡◌, Bool, true, false, true≢false, ◌||◌, List, [], ◌∷◌, ◌++◌, length, map, Option, Some, None, refl, sym, ap, subst, ◌∙◌, append-nil}
+use Rattle.std.specs.Prelude.{bytes_eq, option_map, is_some, if◌then◌else◌, IsTrue}
+use Rattle.std.specs.List.{find, list_any}
+use Rattle.std.proofs.lemmas.List.{length-map}
 use Rattle.std.proofs.lemmas.List.Concat.{flat_map-append}
 use Rattle.text_model.specs.Lists.{Each}
-use Rattle.text_model.specs.Id.{Id}
+use Rattle.text_model.specs.Id.{Id, has_id}
 use Rattle.text_model.proofs.EachLemmas.{Each-push}
 use Rattle.hg_model.specs.Revision.{Revision}
 use Rattle.git_model.specs.Object.{Object}
 use Rattle.git_model.specs.Unfold.{walk_fault}
-use Rattle.view_model.specs.View.{ChangesetView, CommitView, changeset_node, commit_id, HaveSameBodies}
-use Rattle.view_model.specs.Held.{IsChangesetHeld, IsCommitHeld, AreChangesetsHeld, AreCommitsHeld}
-use Rattle.pair_model.specs.Block.{Block, node_of, id_of, changesets_in, commits_in, block_of_node, block_of_id}
-use Rattle.pair_known.specs.Blocks.{AreBlocksHeld, ArePlainBlocksHeld}
-use Rattle.pair_known.specs.Partners.{git_at, hg_at}
+use Rattle.git_store.proofs.DistinctLemmas.{bytes_eq-comm}
+use Rattle.view_model.specs.View.{ChangesetView, CommitView, changeset_node, commit_id}
+use Rattle.view_model.specs.Held.{IsCommitHeld, AreChangesetsHeld, AreCommitsHeld}
+use Rattle.pair_model.specs.Block.{Block, node_of, id_of, changesets_in, commits_in, view_at, block_of_node, block_of_id}
+use Rattle.pair_model.specs.Octopus.{is_link_view}
+use Rattle.partner_model.specs.Clash.{is_any_saved}
+use Rattle.pair_known.specs.Blocks.{AreBlocksHeld, IsHistoryHeld}
+use Rattle.pair_known.specs.Partners.{git_at, hg_at, ArePartners}
 use Rattle.pair_known.specs.declared.known.Known.{Known}
 use Rattle.hg_store.specs.Known.{AreAdded}
-use Rattle.pair_known.specs.Partners.{ArePartners}
-use Rattle.pair_state.specs.Blocks.{IsStateOf}
+use Rattle.pair_state.specs.Blocks.{BlockValue, value_of, block_value, IsAgreed, IsStateOf}
+use Rattle.pair_state.specs.Step.{IsPushed}
 use Rattle.pair_state.specs.declared.state.State.{State}
 
 -- ---- partners
@@ -51,12 +55,27 @@ pub none-is : {X : Type 0} (o : Option X) → is_some o ≡ false → o ≡ None
 none-is None h = refl
 none-is (Some x) h = absurd (true≢false h)
 
-module _ (k : Known) (blocks : List Block) (held : ArePlainBlocksHeld k blocks) where
+module _ (k : Known) (blocks : List Block) (held : IsHistoryHeld k blocks) where
   pub git-some : (node : Id) → is_some (git_at k.partners node) ≡ is_some (block_of_node blocks node)
   git-some node = ap (λ (ps : List (Id × Id)). is_some (git_at ps node)) held.held.partners ∙ ap is_some (git-blocks blocks node) ∙ some-map id_of (block_of_node blocks node)
 
   pub hg-some : (id : Id) → is_some (hg_at k.partners id) ≡ is_some (block_of_id blocks id)
   hg-some id = ap (λ (ps : List (Id × Id)). is_some (hg_at ps id)) held.held.partners ∙ ap is_some (hg-blocks blocks id) ∙ some-map node_of (block_of_id blocks id)
+
+-- ---- nodes
+
+pub has-view : (vs : List ChangesetView) (node : Id) → has_id (map changeset_node vs) node ≡ is_some (view_at vs node)
+has-view [] node = refl
+has-view (v ∷ vs) node = ap (λ (t : Bool). t || has_id (map changeset_node vs) node) (bytes_eq-comm node (changeset_node v)) ∙ by (bytes_eq (changeset_node v) node) (has-view vs node)
+  where
+    by : (t : Bool) → has_id (map changeset_node vs) node ≡ is_some (view_at vs node) → (t || has_id (map changeset_node vs) node) ≡ is_some (if t then Some v else view_at vs node)
+    by true rest = refl
+    by false rest = rest
+
+pub any-saved : (nodes : List Id) (blocks : List Block) → nodes ≡ map changeset_node (changesets_in blocks) → (ls : List ChangesetView) → list_any (has_id nodes) (map changeset_node ls) ≡ is_any_saved blocks ls
+any-saved nodes blocks are [] = refl
+any-saved nodes blocks are (l ∷ ls) =
+    (λ i. (ap (λ (ns : List Id). has_id ns (changeset_node l)) are ∙ has-view (changesets_in blocks) (changeset_node l)) i || any-saved nodes blocks are ls i)
 
 -- ---- lists with one more
 
@@ -64,16 +83,23 @@ map-push : {X Y : Type 0} (f : X → Y) (xs : List X) (x : X) → map f (xs ++ x
 map-push f [] x = refl
 map-push f (y ∷ xs) x = ap (λ l. f y ∷ l) (map-push f xs x)
 
-changesets-push : (blocks : List Block) (b : Block) → b.links ≡ [] → changesets_in (blocks ++ b ∷ []) ≡ changesets_in blocks ++ b.changeset ∷ []
-changesets-push blocks b plain =
-    flat_map-append (λ (b : Block). b.links ++ b.changeset ∷ []) blocks (b ∷ [])
-    ∙ ap (λ (l : List ChangesetView). changesets_in blocks ++ ((l ++ b.changeset ∷ []) ++ [])) plain
+map-append : {X Y : Type 0} (f : X → Y) (xs ys : List X) → map f (xs ++ ys) ≡ map f xs ++ map f ys
+map-append f [] ys = refl
+map-append f (x ∷ xs) ys = ap (λ l. f x ∷ l) (map-append f xs ys)
 
-changesets-held : (known : List Revision) (nodes : List Id) (vs : List ChangesetView) (node : Id) (v : ChangesetView) → AreChangesetsHeld known nodes vs → IsChangesetHeld known node v → AreChangesetsHeld known (nodes ++ node ∷ []) (vs ++ v ∷ [])
-changesets-held known [] [] node v are is = (is, tt)
-changesets-held known [] (w ∷ vs) node v are is = absurd are
-changesets-held known (n ∷ nodes) [] node v are is = absurd are
-changesets-held known (n ∷ nodes) (w ∷ vs) node v are is = (are.0, changesets-held known nodes vs node v are.1 is)
+-- the changesets of a block
+abbrev pub parts_of : Block → List ChangesetView
+parts_of b = b.links ++ b.changeset ∷ []
+
+changesets-push : (blocks : List Block) (b : Block) → changesets_in (blocks ++ b ∷ []) ≡ changesets_in blocks ++ parts_of b
+changesets-push blocks b = flat_map-append parts_of blocks (b ∷ []) ∙ ap (λ (l : List ChangesetView). changesets_in blocks ++ l) (append-nil (parts_of b))
+
+abbrev AreHeld : List Revision → List ChangesetView → Type 0
+AreHeld known vs = AreChangesetsHeld known (map changeset_node vs) vs
+
+pub held-append : (known : List Revision) (vs ws : List ChangesetView) → AreHeld known vs → AreHeld known ws → AreHeld known (vs ++ ws)
+held-append known [] ws a b = b
+held-append known (v ∷ vs) ws a b = (a.0, held-append known vs ws a.1 b)
 
 commits-held : (known : List Object) (ids : List Id) (cs : List CommitView) (id : Id) (c : CommitView) → AreCommitsHeld known ids cs → IsCommitHeld known id c → AreCommitsHeld known (ids ++ id ∷ []) (cs ++ c ∷ [])
 commits-held known [] [] id c are is = (is, tt)
@@ -84,32 +110,54 @@ commits-held known (i ∷ ids) (d ∷ cs) id c are is = (are.0, commits-held kno
 -- what the stores hold of the blocks and of one more
 pub record HoldMore (hg : List Revision) (git : List Object) (blocks : List Block) (b : Block) : Type 0 where
   pub changesets : AreChangesetsHeld hg (map changeset_node (changesets_in blocks)) (changesets_in blocks)
-  pub changeset : IsChangesetHeld hg (node_of b) b.changeset
+  pub parts : AreChangesetsHeld hg (map changeset_node (parts_of b)) (parts_of b)
   pub commits : AreCommitsHeld git (map commit_id (commits_in blocks)) (commits_in blocks)
   pub commit : IsCommitHeld git (id_of b) b.commit
   pub walks : Each (λ b. walk_fault git ((b.commit).value).tree_id ≡ None) blocks
   pub walk : walk_fault git ((b.commit).value).tree_id ≡ None
-  pub bodies : HaveSameBodies (b.changeset).rows (b.commit).rows
-  pub plain : b.links ≡ []
+  pub no_link : is_link_view b.changeset ≡ false
 
-module _ (old next : State) (blocks : List Block) (b : Block) (of : IsStateOf old blocks) (more : HoldMore next.known.hg next.known.git blocks b)
-    (partners : next.known.partners ≡ old.known.partners ++ pair_of b ∷ []) (nodes : next.nodes ≡ old.nodes ++ node_of b ∷ []) (ids : next.ids ≡ old.ids ++ id_of b ∷ []) (added : AreAdded next.known.hg) (are : ArePartners next.known.partners) where
+-- the lists of the state with one block more
+pub record HasMore (old next : State) (b : Block) : Type 0 where
+  pub partners : next.known.partners ≡ old.known.partners ++ (node_of b, id_of b) ∷ []
+  pub blocks : map value_of next.blocks ≡ map value_of old.blocks ++ block_value b ∷ []
+  pub changesets : next.changesets ≡ old.changesets ++ map changeset_node (parts_of b)
+  pub commits : next.commits ≡ old.commits ++ id_of b ∷ []
+  pub added : AreAdded next.known.hg
+  pub one : ArePartners next.known.partners
+  pub agreed : (node : Id) → IsTrue (has_id next.agreed node) → IsAgreed next.known.hg next.known.git node
+
+-- what was put behind the others is a block
+pub has-more : (old next : State) (b : Block) (links : List Id) (node id : Id) → IsPushed old next links node id → links ≡ map changeset_node b.links → node ≡ node_of b → id ≡ id_of b
+    → (next_agreed : (node : Id) → IsTrue (has_id next.agreed node) → IsAgreed next.known.hg next.known.git node) → HasMore old next b
+has-more old next b links node id by links_are node_is id_is agreed = record {
+  partners = by.partners ∙ (λ i. old.known.partners ++ (node_is i, id_is i) ∷ []);
+  blocks = by.blocks ∙ (λ i. map value_of old.blocks ++ record { node = node_is i; commit = id_is i; links = (ap (λ (l : List Id). length l) links_are ∙ length-map b.links changeset_node) i } ∷ []);
+  changesets = by.changesets ∙ ap (λ (l : List Id). old.changesets ++ l) ((λ i. links_are i ++ node_is i ∷ []) ∙ sym (map-append changeset_node b.links (b.changeset ∷ [])));
+  commits = by.commits ∙ (λ i. old.commits ++ id_is i ∷ []);
+  added = by.added;
+  one = by.one;
+  agreed = agreed;
+}
+
+module _ (old next : State) (blocks : List Block) (b : Block) (of : IsStateOf old blocks) (more : HoldMore next.known.hg next.known.git blocks b) (has : HasMore old next b) where
   blocks-more : AreBlocksHeld next.known (blocks ++ b ∷ [])
   blocks-more = record {
-    changesets = subst (λ (vs : List ChangesetView). AreChangesetsHeld next.known.hg (map changeset_node vs) vs) (sym (changesets-push blocks b more.plain))
-        (subst (λ (ns : List Id). AreChangesetsHeld next.known.hg ns (changesets_in blocks ++ b.changeset ∷ [])) (sym (map-push changeset_node (changesets_in blocks) b.changeset))
-        (changesets-held next.known.hg (map changeset_node (changesets_in blocks)) (changesets_in blocks) (node_of b) b.changeset more.changesets more.changeset));
+    changesets = subst (λ (vs : List ChangesetView). AreChangesetsHeld next.known.hg (map changeset_node vs) vs) (sym (changesets-push blocks b))
+        (held-append next.known.hg (changesets_in blocks) (parts_of b) more.changesets more.parts);
     commits = subst (λ (cs : List CommitView). AreCommitsHeld next.known.git (map commit_id cs) cs) (sym (map-push (λ (b : Block). b.commit) blocks b))
         (subst (λ (is : List Id). AreCommitsHeld next.known.git is (commits_in blocks ++ b.commit ∷ [])) (sym (map-push commit_id (commits_in blocks) b.commit))
         (commits-held next.known.git (map commit_id (commits_in blocks)) (commits_in blocks) (id_of b) b.commit more.commits more.commit));
     walks = Each-push (λ (b : Block). walk_fault next.known.git ((b.commit).value).tree_id ≡ None) blocks b more.walks more.walk;
-    bodies = Each-push (λ (b : Block). HaveSameBodies (b.changeset).rows (b.commit).rows) blocks b of.held.held.bodies more.bodies;
-    partners = partners ∙ ap (λ (ps : List (Id × Id)). ps ++ pair_of b ∷ []) of.held.held.partners ∙ sym (map-push pair_of blocks b);
+    partners = has.partners ∙ ap (λ (ps : List (Id × Id)). ps ++ pair_of b ∷ []) of.held.held.partners ∙ sym (map-push pair_of blocks b);
   }
 
   pub state-more : IsStateOf next (blocks ++ b ∷ [])
   state-more = record {
-    held = record { held = blocks-more; plain = Each-push (λ (b : Block). b.links ≡ []) blocks b of.held.plain more.plain; added = added; partners = are };
-    nodes = nodes ∙ ap (λ (ns : List Id). ns ++ node_of b ∷ []) of.nodes ∙ sym (map-push node_of blocks b);
-    ids = ids ∙ ap (λ (is : List Id). is ++ id_of b ∷ []) of.ids ∙ sym (map-push id_of blocks b);
+    held = record { held = blocks-more; no_links = Each-push (λ (b : Block). is_link_view b.changeset ≡ false) blocks b of.held.no_links more.no_link; added = has.added; partners = has.one };
+    blocks_are = has.blocks ∙ ap (λ (l : List BlockValue). l ++ block_value b ∷ []) of.blocks_are ∙ sym (map-push block_value blocks b);
+    changesets = has.changesets ∙ ap (λ (l : List Id). l ++ map changeset_node (parts_of b)) of.changesets
+        ∙ sym (map-append changeset_node (changesets_in blocks) (parts_of b)) ∙ ap (map changeset_node) (sym (changesets-push blocks b));
+    commits = has.commits ∙ ap (λ (l : List Id). l ++ id_of b ∷ []) of.commits ∙ sym (map-push id_of blocks b);
+    agreed = has.agreed;
   }

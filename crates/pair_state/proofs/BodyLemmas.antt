@@ -10,7 +10,7 @@ use Rattle.text_model.proofs.TestLemmas.{both}
 use Rattle.hg_model.specs.FileText.{IsFileText}
 use Rattle.hg_model.specs.Revision.{Revision, FilesAt}
 use Rattle.git_model.specs.Object.{Object, object_at, knows_object}
-use Rattle.git_model.proofs.OptionLemmas.{none_some, some_is}
+use Rattle.text_model.proofs.Options.{none_some, some_is}
 use Rattle.git_store.proofs.KnownLemmas.{same_kind-is}
 use Rattle.git_view.proofs.Found.{found-id}
 use Rattle.hg_store.specs.Known.{text_of}
@@ -18,7 +18,8 @@ use Rattle.tree_shape.specs.Laws.{IsKnown}
 use Rattle.view_model.specs.View.{Row, file_node}
 use Rattle.view_model.specs.Held.{IsFileHeld}
 use Rattle.pair_known.specs.Rows.{RowValue, row_value}
-use Rattle.pair_state.specs.Step.{body_blob, AreAsked, IsElse}
+use Rattle.pair_state.specs.Blocks.{body_blob}
+use Rattle.pair_state.specs.Step.{AreAsked, IsElse}
 use Rattle.pair_state.proofs.GrowthLemmas.{found-in}
 
 abbrev kind_and_content : Object → ObjectKind × Bytes
@@ -35,9 +36,9 @@ found-object : (git : List Object) (id : Id) (kind : ObjectKind) (content : Byte
 found-object git id kind content h = by (object_at git id) refl h
   where
     by : (o : Option Object) → object_at git id ≡ o → Some (kind, content) ≡ option_map {U = ObjectKind × Bytes} kind_and_content o → FoundObject git id kind content
-    by None e i = absurd (none_some (kind, content) (sym i))
+    by None e i = absurd (none_some {x = (kind, content)} (sym i))
     by (Some o) e i =
-        let same : (kind, content) ≡ (o.kind, o.content) = some_is (kind, content) (o.kind, o.content) i in
+        let same : (kind, content) ≡ (o.kind, o.content) = some_is {x = (kind, content)} {y = (o.kind, o.content)} i in
         record { object = o; at = e; kind_is = sym (ap (λ (p : ObjectKind × Bytes). p.0) same); content_is = sym (ap (λ (p : ObjectKind × Bytes). p.1) same) }
 
 -- the text of a revision has the row's body
@@ -45,7 +46,7 @@ pub body-is : (hg : List Revision) (x : Row) (text : Bytes) (meta : Option Bytes
     → ((text : Bytes) (meta other : Option Bytes) (body rest : Bytes) → IsFileText text meta body → IsFileText text other rest → (meta ≡ other) × (body ≡ rest))
     → IsFileHeld hg x → Some text ≡ text_of hg (FilesAt x.path) (file_node x.revision) → IsFileText text meta body → body ≡ (x.revision).body
 body-is hg x text meta body one held at spells =
-    let same : text ≡ held.revision.text = some_is text held.revision.text (at ∙ ap (option_map (λ (r : Revision). r.text)) held.is_held) in
+    let same : text ≡ held.revision.text = some_is {x = text} {y = held.revision.text} (at ∙ ap (option_map (λ (r : Revision). r.text)) held.is_held) in
     (one text meta (x.revision).meta body (x.revision).body spells (subst (λ (t : Bytes). IsFileText t (x.revision).meta (x.revision).body) (sym same) held.text)).1
 
 module _ (git : List Object) (x : Row) (kind : ObjectKind) (content body : Bytes) (is : body ≡ (x.revision).body) (at : Some (kind, content) ≡ option_map {U = ObjectKind × Bytes} kind_and_content (object_at git (body_blob x).id)) where
@@ -82,18 +83,18 @@ pub asked-at : (hg : List Revision) (git : List Object) (values : List RowValue)
 asked-at hg git values xs i v asked at = by xs i asked.held asked.blobs (ap (λ (l : List RowValue). slice_get l i) (sym asked.are) ∙ at)
   where
     by : (xs : List Row) (i : ℕ) → Each (IsFileHeld hg) xs → Each (λ row. knows_object git (body_blob row).id ≡ true) xs → slice_get (map row_value xs) i ≡ Some v → AskedAt hg git xs i v
-    by [] i h b e = absurd (none_some v e)
-    by (x ∷ xs) zero h b e = record { row = x; at = refl; asked = record { are = ap (λ (w : RowValue). w ∷ []) (sym (some_is (row_value x) v e)); held = (h.0, tt); blobs = (b.0, tt) } }
+    by [] i h b e = absurd (none_some {x = v} e)
+    by (x ∷ xs) zero h b e = record { row = x; at = refl; asked = record { are = ap (λ (w : RowValue). w ∷ []) (sym (some_is {x = row_value x} {y = v} e)); held = (h.0, tt); blobs = (b.0, tt) } }
     by (x ∷ xs) (suc i) h b e = let r = by xs i h.1 b.1 e in record { row = r.row; at = r.at; asked = r.asked }
 
 pub each-more : {X : Type 0} (P : X → Type 0) (xs : List X) (i : ℕ) (x : X) → Each P (take i xs) → slice_get xs i ≡ Some x → P x → Each P (take (i + 1) xs)
-each-more P [] i x h at p = absurd (none_some x at)
-each-more P (y ∷ xs) zero x h at p = (subst P (sym (some_is y x at)) p, tt)
+each-more P [] i x h at p = absurd (none_some {x = x} at)
+each-more P (y ∷ xs) zero x h at p = (subst P (sym (some_is {x = y} {y = x} at)) p, tt)
 each-more P (y ∷ xs) (suc i) x h at p = let e : suc i + 1 ≡ suc (i + 1) = omega arith in rw e (h.0, each-more P xs i x h.1 at p)
 
 pub some-at : {X : Type 0} (P : X → Type 0) (xs : List X) (i : ℕ) (x : X) → slice_get xs i ≡ Some x → P x → SomeOf xs P
-some-at P [] i x at p = absurd (none_some x at)
-some-at P (y ∷ xs) zero x at p = inl (subst P (sym (some_is y x at)) p)
+some-at P [] i x at p = absurd (none_some {x = x} at)
+some-at P (y ∷ xs) zero x at p = inl (subst P (sym (some_is {x = y} {y = x} at)) p)
 some-at P (y ∷ xs) (suc i) x at p = inr (some-at P xs i x at p)
 
 pub value-at : (values list : List RowValue) (i : ℕ) (v : RowValue) → list ≡ values → i < length list → v ≡ get_or list i v → slice_get values i ≡ Some v

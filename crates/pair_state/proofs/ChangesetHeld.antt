@@ -4,16 +4,17 @@ use Rattle.std.specs.Prelude.{bytes_eq, is_some, IsTrue, if◌then◌else◌}
 use Rattle.std.specs.List.{find, list_any}
 use Rattle.std.proofs.lemmas.Slice.Eq.{bytes_eq-Decides}
 use Rattle.text_model.specs.Lists.{In, Each}
-use Rattle.text_model.specs.Text.{Bytes, IsBytes}
+use Rattle.text_model.specs.Text.{Bytes, IsBytes, is_below}
 use Rattle.text_model.specs.Path.{is_fit_path}
-use Rattle.text_model.specs.Id.{Id, is_null}
+use Rattle.text_model.specs.Id.{Id, null, is_null}
 use Rattle.text_model.proofs.EachLemmas.{Each-front, Each-rest, Each-weaker}
+use Rattle.text_model.proofs.OrderLemmas.{is_below-one_way, is_below-same}
 use Rattle.text_model.proofs.TestLemmas.{both}
 use Rattle.hg_model.specs.Changeset.{changeset_text}
-use Rattle.hg_model.specs.FileText.{file_text, file_order, manifest_order}
+use Rattle.hg_model.specs.FileText.{file_text, names_copy, file_order, manifest_order}
 use Rattle.hg_model.specs.Revision.{Revision, Group, Changesets, Manifests, FilesAt, same_group, is_of, revision_of, known_after, is_otherwise, same_parents}
-use Rattle.row_rule.proofs.OrderLemmas.{manifest_order-either, file_order-either}
-use Rattle.view_model.specs.View.{Row, ChangesetView, IsChangesetView, IsRevision, AreManifestParents, ManifestParents, NoManifest, Over, changeset_node, manifest_node, file_node, rows_text}
+use Rattle.pair_known.specs.Ruled.{IsLooseView}
+use Rattle.view_model.specs.View.{Row, ChangesetView, IsRevision, AreManifestParents, ManifestParents, NoManifest, Over, changeset_node, manifest_node, file_node, rows_text}
 use Rattle.view_model.specs.Held.{IsFileHeld, IsManifestHeld, IsChangesetHeld, AreChangesetsHeld}
 use Rattle.view_model.specs.Dump.{own_revision, manifest_revision, file_revision, revisions_of}
 use Rattle.pair_state.specs.Came.{is_bad, AreClean, IsWithinHg}
@@ -32,7 +33,7 @@ module _ (old new : List Revision) (within : IsWithinHg old new) where
   manifest-on node NoManifest rows h = h
   manifest-on node (Over p q) rows h = record { revision = h.revision; is_held = within Manifests node h.revision h.is_held; parents = h.parents; text = h.text }
 
-  changeset-on : (node : Id) (v : ChangesetView) → IsChangesetHeld old node v → IsChangesetHeld new node v
+  pub changeset-on : (node : Id) (v : ChangesetView) → IsChangesetHeld old node v → IsChangesetHeld new node v
   changeset-on node v h = record {
     revision = h.revision;
     is_held = within Changesets node h.revision h.is_held;
@@ -116,9 +117,37 @@ all-as known (r ∷ rs) clean =
     let c = came-as known r clean.0 in
     (record { found = c.found; at = within-all (known_after known r) rs r.group r.node c.found c.at; like = c.like }, all-as (known_after known r) rs clean.1)
 
+-- ---- the order of two parents
+
+null-is : (p : Id) → is_null p ≡ true → p ≡ null
+null-is p h = (bytes_eq-Decides p null).0 h
+
+manifest_order-either : (p q : Id) → manifest_order p q ≡ manifest_order q p
+manifest_order-either p q = by (is_null p) (is_null q) (is_below q p) (is_below p q) refl refl refl refl
+  where
+    by : (s t u v : Bool) → is_null p ≡ s → is_null q ≡ t → is_below q p ≡ u → is_below p q ≡ v → manifest_order p q ≡ manifest_order q p
+    by true true u v e f g h = rw (e, f) (let same : p ≡ q = null-is p e ∙ sym (null-is q f) in λ i. (sym same i, same i))
+    by true false u v e f g h = rw (e, f) refl
+    by false true u v e f g h = rw (e, f) refl
+    by false false true true e f g h = absurd (true≢false (sym h ∙ is_below-one_way q p g))
+    by false false true false e f g h = rw (e, f, g, h) refl
+    by false false false true e f g h = rw (e, f, g, h) refl
+    by false false false false e f g h = rw (e, f, g, h) (let same : p ≡ q = is_below-same p q h g in λ i. (same i, sym same i))
+
+file_order-either : (meta : Option Bytes) (p q : Id) → file_order meta p q ≡ file_order meta q p
+file_order-either meta p q =
+    let m = manifest_order-either p q in
+    (λ i. if names_copy meta && (or (is_null p) (is_null q) i) then ((m i).1, (m i).0) else m i)
+  where
+    or : (s t : Bool) → (s || t) ≡ (t || s)
+    or true true = refl
+    or true false = refl
+    or false true = refl
+    or false false = refl
+
 -- ---- a changeset whose revisions came is held
 
-either-way : (p q p' q' : Id) → ((bytes_eq p p' && bytes_eq q q') || (bytes_eq p q' && bytes_eq q p')) ≡ true → ((p ≡ p') × (q ≡ q')) ⊎ ((p ≡ q') × (q ≡ p'))
+pub either-way : (p q p' q' : Id) → ((bytes_eq p p' && bytes_eq q q') || (bytes_eq p q' && bytes_eq q p')) ≡ true → ((p ≡ p') × (q ≡ q')) ⊎ ((p ≡ q') × (q ≡ p'))
 either-way p q p' q' h = by (bytes_eq p p' && bytes_eq q q') refl h
   where
     by : (t : Bool) → (bytes_eq p p' && bytes_eq q q') ≡ t → (t || (bytes_eq p q' && bytes_eq q p')) ≡ true → ((p ≡ p') × (q ≡ q')) ⊎ ((p ≡ q') × (q ≡ p'))
@@ -129,7 +158,7 @@ ordered : (order : Id → Id → Id × Id) → ((p q : Id) → order p q ≡ ord
 ordered order turn p q p' q' is (inl s) = sym is ∙ (λ i. order (s.0 i) (s.1 i))
 ordered order turn p q p' q' is (inr s) = sym is ∙ (λ i. order (s.0 i) (s.1 i)) ∙ turn q' p'
 
-module _ (known : List Revision) (k : ChangesetView) (view : IsChangesetView k) (all : Each (CameAs known) (revisions_of k)) where
+module _ (known : List Revision) (k : ChangesetView) (view : IsLooseView k) (all : Each (CameAs known) (revisions_of k)) where
   whole : Each (CameAs known) (own_revision k ∷ manifest_revision k k.manifest ++ map (file_revision (changeset_node k)) k.rows)
   unfolding revisions_of
   whole = all

@@ -1,20 +1,20 @@
 -- The parts of a commit: the trees of its files, the blob of each and itself; and when all of them are there.
 use Rattle.std.proofs.Common.{◌≡◌, ◌≢◌, ◌≤◌, ◌+◌, ◌⊎◌, ℕ, Bool, true, false, true≢false, arith, List, [], ◌∷◌, ◌++◌, length, map, Some, None, refl, sym, ap, subst, ◌∙◌, append_assoc, append-nil, inl, inr}
-use Rattle.std.specs.Prelude.{◌||◌, filter, if◌then◌else◌, IsTrue, is_some}
+use Rattle.std.specs.Prelude.{◌||◌, if◌then◌else◌, IsTrue, is_some, not}
 use Rattle.std.specs.List.{list_any, sum_by, join_with_byte}
 use Rattle.std.proofs.lemmas.List.Splits.{join_with_byte-slice_split}
 use Rattle.std.proofs.lemmas.List.Sums.{sum_by-cons}
 use Rattle.std.proofs.lemmas.Slice.Eq.{bytes_eq-Decides}
 use Rattle.text_model.specs.Lists.{In, Each, rises}
 use Rattle.text_model.specs.Text.{Bytes, is_below}
-use Rattle.text_model.specs.Id.{Id, IsId, blob, tree, commit, object_id, kind_word}
+use Rattle.text_model.specs.Id.{Id, IsId, blob, tree, commit, object_id, kind_word, blob_id}
 use Rattle.text_model.specs.Path.{components, lies_below}
 use Rattle.text_model.proofs.OrderLemmas.{is_below-irreflexive}
-use Rattle.git_model.specs.Tree.{Mode, File, Exec, Link, Directory, is_directory, is_blob_mode, tree_text}
+use Rattle.git_model.specs.Tree.{Mode, File, Exec, Link, Directory, is_directory, is_blob_mode, tree_text, GroupFile, Gitlink}
 use Rattle.git_model.specs.Commit.{commit_text}
 use Rattle.git_model.specs.Object.{Object, object_of, object_at, is_other_content}
-use Rattle.git_model.specs.Unfold.{FileRow, IsUnfolding, is_kind_there, is_row, row_size, rows_limit, walk, walk_fault}
-use Rattle.git_model.specs.Shape.{leaf_of, shape_objects, root_of, trees_of, clash_from, first_clash}
+use Rattle.git_model.specs.Unfold.{FileRow, IsUnfolding, is_kind_there, row_size, rows_limit, walk_fault, is_object_there, tree_rows}
+use Rattle.git_model.specs.Shape.{Leaf, leaf_of, shape_objects, root_of, trees_of, clash_from, first_clash}
 use Rattle.git_store.specs.Known.{AreKnown, is_same_as, knows_same}
 use Rattle.git_store.proofs.KnownLemmas.{same-has_no_fault}
 use Rattle.git_view.proofs.Found.{found}
@@ -30,14 +30,14 @@ use Rattle.tree_shape.proofs.Names.{components-some, same-components}
 use Rattle.tree_shape.proofs.Rows.{in-lies}
 use Rattle.tree_shape.proofs.Unfolding.{unfolds, fit-short}
 use Rattle.tree_shape.proofs.Walking.{rows-again, no-fault}
-use Rattle.view_model.specs.View.{CommitView, TreeRow, IsCommitView, CommitFits, commit_id, commit_objects, leaf_of_row, root_of_rows, tree_paths}
-use Rattle.view_model.specs.Held.{file_row_of, IsBlobHeld, IsCommitHeld}
+use Rattle.view_model.specs.View.{CommitView, TreeRow, IsCommitView, rows_size, files_among, commit_id, commit_objects, leaf_of_row, root_of_rows, tree_paths, IsRowId}
+use Rattle.view_model.specs.Held.{file_row_of, IsCommitHeld, IsRowHeld}
 use Rattle.pair_model.specs.Block.{Block, block_of_id}
 use Rattle.pair_model.specs.Collision.{commit_collides}
 use Rattle.pair_known.specs.Ruled.{blob_of_row}
 use Rattle.pair_state.specs.Growth.{Clash}
 use Rattle.pair_state.proofs.GrowthLemmas.{in-any, none-any, found-in, fault-by, none-other}
-use Rattle.pair_state.proofs.ShapeLemmas.{Apart, Part, part-of, tree-in, blob-in, in-map}
+use Rattle.pair_state.proofs.ShapeLemmas.{Apart, Part, part-of, tree-in, blob-in, empty_tree, empty-in, in-map}
 
 -- ---- paths
 
@@ -57,9 +57,58 @@ longer-lies p q m more e =
 
 file-mode : (m : Mode) → is_blob_mode m ≡ true → is_directory m ≡ false
 file-mode File h = refl
+file-mode GroupFile h = refl
 file-mode Exec h = refl
 file-mode Link h = refl
 file-mode Directory h = absurd (true≢false (sym h))
+file-mode Gitlink h = refl
+
+-- the id of a row that is a file
+pub blob-id : (m : Mode) (id : Id) (content : Bytes) → IsRowId m id content → is_blob_mode m ≡ true → id ≡ blob_id content
+blob-id File id content h b = h
+blob-id GroupFile id content h b = h
+blob-id Exec id content h b = h
+blob-id Link id content h b = h
+blob-id Directory id content h b = absurd (true≢false (sym b))
+blob-id Gitlink id content h b = absurd (true≢false (sym b))
+
+-- the id of a row is an id, that of an empty directory is the tree without entries, and what is no file has no content
+row-id : (m : Mode) (id : Id) (content : Bytes) → IsRowId m id content → IsId id
+row-id File id content h = subst IsId (sym h) (IsId-object_id blob content)
+row-id GroupFile id content h = subst IsId (sym h) (IsId-object_id blob content)
+row-id Exec id content h = subst IsId (sym h) (IsId-object_id blob content)
+row-id Link id content h = subst IsId (sym h) (IsId-object_id blob content)
+row-id Directory id content h = subst IsId (sym h.0) (IsId-object_id tree [])
+row-id Gitlink id content h = h.0
+
+row-empty : (m : Mode) (id : Id) (content : Bytes) → IsRowId m id content → is_directory m ≡ true → id ≡ object_id tree []
+row-empty File id content h d = absurd (true≢false (sym d))
+row-empty GroupFile id content h d = absurd (true≢false (sym d))
+row-empty Exec id content h d = absurd (true≢false (sym d))
+row-empty Link id content h d = absurd (true≢false (sym d))
+row-empty Directory id content h d = h.0
+row-empty Gitlink id content h d = absurd (true≢false (sym d))
+
+row-content : (m : Mode) (id : Id) (content : Bytes) → IsRowId m id content → is_blob_mode m ≡ false → content ≡ []
+row-content File id content h f = absurd (true≢false f)
+row-content GroupFile id content h f = absurd (true≢false f)
+row-content Exec id content h f = absurd (true≢false f)
+row-content Link id content h f = absurd (true≢false f)
+row-content Directory id content h f = h.1
+row-content Gitlink id content h f = h.1
+
+pub all-of : {X : Type 0} (P : X → Type 0) (xs : List X) → ((x : X) → In x xs → P x) → Each P xs
+all-of P [] h = tt
+all-of P (x ∷ xs) h = (h x (inl refl), all-of P xs (λ y i. h y (inr i)))
+
+each-map : {X Y : Type 0} (P : Y → Type 0) (f : X → Y) (xs : List X) → ((x : X) → In x xs → P (f x)) → Each P (map f xs)
+each-map P f [] h = tt
+each-map P f (x ∷ xs) h = (h x (inl refl), each-map P f xs (λ y i. h y (inr i)))
+
+-- the blob of a row that is a file is there
+blob-there : (known : List Object) (v : FileRow) → is_blob_mode v.mode ≡ true → is_kind_there blob (object_at known v.id) ≡ true → is_object_there known v ≡ true
+blob-there known v b h = ap (λ (t : Bool). if t then is_kind_there tree (object_at known v.id) else not (is_blob_mode v.mode) || is_kind_there blob (object_at known v.id)) (file-mode v.mode b)
+    ∙ ap (λ (t : Bool). not t || is_kind_there blob (object_at known v.id)) b ∙ h
 
 paths-of_files : (rows : List TreeRow) → map (λ (r : FileRow). r.path) (map file_row_of rows) ≡ tree_paths rows
 paths-of_files [] = refl
@@ -95,7 +144,7 @@ size-same (row ∷ rows) =
     sum_by-cons row_size (file_row_of row) (map file_row_of rows) ∙ ap (λ (n : ℕ). (length row.path + 42) + n) (size-same rows)
     ∙ sym (sum_by-cons (λ (row : TreeRow). length row.path + 42) row rows)
 
-same-leaves : (rows : List TreeRow) → map (filled (λ _. [])) (map leaf_of_row rows) ≡ map leaf_of (map file_row_of rows)
+same-leaves : (rows : List TreeRow) → map (filled (λ _ _. [])) (map leaf_of_row rows) ≡ map leaf_of (map file_row_of rows)
 same-leaves [] = refl
 same-leaves (row ∷ rows) = ap (λ l. leaf_of (file_row_of row) ∷ l) (same-leaves rows)
 
@@ -121,14 +170,14 @@ module _ (c : CommitView) (view : IsCommitView c) where
   row-file : (row : TreeRow) → In row c.rows → IsFileRow (file_row_of row)
   row-file row i =
       let r = each-in _ c.rows row view.rows i in
-      record { fit = r.0; bytes = r.1; file = file-mode row.mode r.3; id = subst IsId (sym r.4) (IsId-object_id blob row.content) }
-
-  each-row : (rows : List TreeRow) → ((row : TreeRow) → In row rows → IsFileRow (file_row_of row)) → Each IsFileRow (map file_row_of rows)
-  each-row [] h = tt
-  each-row (row ∷ rows) h = (h row (inl refl), each-row rows (λ r i. h r (inr i)))
+      record { fit = r.0; bytes = r.1; empty = row-empty row.mode row.id row.content r.3; id = row-id row.mode row.id row.content r.3 }
 
   pub are-files : IsFiles files
-  are-files = record { each = each-row c.rows row-file; in_order = up }
+  are-files = record { each = each-map IsFileRow file_row_of c.rows row-file; in_order = up }
+
+  -- a row that is a file
+  pub among : (row : TreeRow) → In row (files_among c.rows) → In row c.rows × (is_blob_mode row.mode ≡ true)
+  among row i = of-filter (λ (t : TreeRow). is_blob_mode t.mode) row c.rows i
 
   no-lies : (a b : TreeRow) → In a c.rows → In b c.rows → lies_below a.path b.path ≡ false
   no-lies a b i j =
@@ -166,36 +215,55 @@ module _ (c : CommitView) (view : IsCommitView c) where
   unfolding commit_objects
   own-in = in-right (own c) (shape_objects 257 (map leaf_of_row c.rows)) (own c ∷ []) (inl refl)
 
-  pub blob-of : (row : TreeRow) → In row c.rows → In (blob_of_row row) (commit_objects c)
-  blob-of row i =
-      let r = each-in _ c.rows row view.rows i in
+  pub blob-of : (row : TreeRow) → In row (files_among c.rows) → In (blob_of_row row) (commit_objects c)
+  blob-of row j =
+      let i = among row j in
+      let r = each-in _ c.rows row view.rows i.0 in
       let short : length (components row.path) ≤ 256 = fit-short row.path r.0 in
       in-shape (blob_of_row row)
-      (blob-in 257 (map leaf_of_row c.rows) (leaf_of_row row) leaves-apart (in-map leaf_of_row row c.rows i) (components-some row.path) (omega (arith, short)) r.3)
+      (blob-in 257 (map leaf_of_row c.rows) (leaf_of_row row) leaves-apart (in-map leaf_of_row row c.rows i.0) (components-some row.path) (omega (arith, short)) i.1)
 
   pub tree-of : (o : Object) → In o (trees_of files) → In o (commit_objects c)
   unfolding trees_of
   tree-of o i =
       let t = of-filter is_tree o (shape_objects 257 (map leaf_of files)) i in
-      in-shape o (tree-in (λ _. []) 257 (map leaf_of_row c.rows) o (subst (λ ls. In o (shape_objects 257 ls)) (sym (same-leaves c.rows)) t.0) t.1)
+      in-shape o (tree-in (λ _ _. []) 257 (map leaf_of_row c.rows) o (subst (λ ls. In o (shape_objects 257 ls)) (sym (same-leaves c.rows)) t.0) t.1)
 
   pub data IsPart (o : Object) : Type 0 where
     a_tree : In o (trees_of files) → IsPart o
-    a_blob : (row : TreeRow) → In row c.rows → o ≡ blob_of_row row → IsPart o
+    a_blob : (row : TreeRow) → In row (files_among c.rows) → o ≡ blob_of_row row → IsPart o
     itself : o ≡ own c → IsPart o
 
   pub part : (o : Object) → In o (commit_objects c) → IsPart o
   unfolding commit_objects trees_of
   part o i = by (in-append o (shape_objects 257 (map leaf_of_row c.rows)) (own c ∷ []) i)
     where
-      shape : Part (λ _. []) 257 (map leaf_of_row c.rows) o → IsPart o
+      shape : Part (λ _ _. []) 257 (map leaf_of_row c.rows) o → IsPart o
       shape (inl t) = a_tree (in-filter is_tree o (shape_objects 257 (map leaf_of files)) (subst (λ ls. In o (shape_objects 257 ls)) (same-leaves c.rows) t.0) t.1)
-      shape (inr b) = let m = of-map leaf_of_row b.0 c.rows b.1 in a_blob m.0 m.1 (b.2 ∙ (λ k. record { id = (m.2 k).id; kind = blob; content = (m.2 k).content }))
+      shape (inr b) =
+          let m = of-map leaf_of_row b.0 c.rows b.1 in
+          let i = in-filter (λ (t : TreeRow). is_blob_mode t.mode) m.0 c.rows m.1 (ap (λ (l : Leaf). is_blob_mode l.mode) (sym m.2) ∙ b.2) in
+          a_blob m.0 i (b.3 ∙ (λ k. record { id = (m.2 k).id; kind = blob; content = (m.2 k).content }))
 
       by : In o (shape_objects 257 (map leaf_of_row c.rows)) ⊎ In o (own c ∷ []) → IsPart o
-      by (inl j) = shape (part-of (λ _. []) 257 (map leaf_of_row c.rows) o j)
+      by (inl j) = shape (part-of (λ _ _. []) 257 (map leaf_of_row c.rows) o j)
       by (inr (inl q)) = itself q
       by (inr (inr j)) = absurd j
+
+  -- the tree of a row that is an empty directory
+  empty-of : (row : TreeRow) → In row c.rows → is_directory row.mode ≡ true → In empty_tree (trees_of files)
+  empty-of row i dir =
+      let short : length (components row.path) ≤ 256 = fit-short row.path (each-in _ c.rows row view.rows i).0 in
+      by (part empty_tree (in-shape empty_tree
+      (empty-in 257 (map leaf_of_row c.rows) (leaf_of_row row) leaves-apart (in-map leaf_of_row row c.rows i) (components-some row.path) (omega (arith, short)) dir)))
+    where
+      kind : (o : Object) → empty_tree ≡ o → is_tree o ≡ true
+      kind o e = ap is_tree (sym e)
+
+      by : IsPart empty_tree → In empty_tree (trees_of files)
+      by (a_tree j) = j
+      by (a_blob t j e) = absurd (true≢false (sym (kind (blob_of_row t) e)))
+      by (itself e) = absurd (true≢false (sym (kind (own c) e)))
 
   pub root-is : (c.value).tree_id ≡ root_of files
   unfolding root_of_rows root_of
@@ -205,7 +273,7 @@ module _ (c : CommitView) (view : IsCommitView c) where
 
   pub record HoldsAll (new : List Object) : Type 0 where
     pub trees : Each (IsKnown new) (trees_of files)
-    pub blobs : Each (λ row. IsKnown new (blob_of_row row)) c.rows
+    pub blobs : Each (λ row. IsKnown new (blob_of_row row)) (files_among c.rows)
     pub itself : IsKnown new (own c)
 
   module _ (new : List Object) (are : AreKnown new) (all : HoldsAll new) where
@@ -214,43 +282,55 @@ module _ (c : CommitView) (view : IsCommitView c) where
       where
         by : IsPart o → IsKnown new o
         by (a_tree j) = each-in (IsKnown new) (trees_of files) o all.trees j
-        by (a_blob row j e) = subst (IsKnown new) (sym e) (each-in (λ row. IsKnown new (blob_of_row row)) c.rows row all.blobs j)
+        by (a_blob row j e) = subst (IsKnown new) (sym e) (each-in (λ row. IsKnown new (blob_of_row row)) (files_among c.rows) row all.blobs j)
         by (itself e) = subst (IsKnown new) (sym e) all.itself
 
-    walkable : CommitFits c → AreWalkable new files
+    known-file : (row : TreeRow) → In row c.rows → is_blob_mode row.mode ≡ true → IsKnown new (blob_of_row row)
+    known-file row i file = each-in (λ row. IsKnown new (blob_of_row row)) (files_among c.rows) row all.blobs (in-filter (λ (t : TreeRow). is_blob_mode t.mode) row c.rows i file)
+
+    object-there : (row : TreeRow) → In row c.rows → is_object_there new (file_row_of row) ≡ true
+    object-there row i = by (is_directory row.mode) refl (is_blob_mode row.mode) refl
+      where
+        by : (d : Bool) → is_directory row.mode ≡ d → (b : Bool) → is_blob_mode row.mode ≡ b → is_object_there new (file_row_of row) ≡ true
+        by true d b e =
+            let id = row-empty row.mode row.id row.content (each-in _ c.rows row view.rows i).3 d in
+            let there = each-in (IsKnown new) (trees_of files) empty_tree all.trees (empty-of row i d) in
+            ap (λ (t : Bool). if t then is_kind_there tree (object_at new row.id) else not (is_blob_mode row.mode) || is_kind_there blob (object_at new row.id)) d
+            ∙ ap (λ (n : Id). is_kind_there tree (object_at new n)) id ∙ ap (is_kind_there tree) there
+        by false d true b = blob-there new (file_row_of row) b (ap (is_kind_there blob) (known-file row i b))
+        by false d false b =
+            ap (λ (t : Bool). if t then is_kind_there tree (object_at new row.id) else not (is_blob_mode row.mode) || is_kind_there blob (object_at new row.id)) d
+            ∙ ap (λ (t : Bool). not t || is_kind_there blob (object_at new row.id)) b
+
+    walkable : rows_size c ≤ rows_limit → AreWalkable new files
     walkable fits = record {
       objects = are.are;
       files = are-files;
       apart = no-clash;
       trees = all.trees;
-      blobs = each c.rows all.blobs;
-      within = subst (λ (n : ℕ). n ≤ rows_limit) (sym (size-same c.rows)) fits.rows;
+      objects_there = each-map (λ row. is_object_there new row ≡ true) file_row_of c.rows object-there;
+      within = subst (λ (n : ℕ). n ≤ rows_limit) (sym (size-same c.rows)) fits;
     }
-      where
-        each : (rows : List TreeRow) → Each (λ row. IsKnown new (blob_of_row row)) rows → Each (λ row. is_kind_there blob (object_at new row.id) ≡ true) (map file_row_of rows)
-        each [] h = tt
-        each (row ∷ rows) h = (ap (is_kind_there blob) h.0, each rows h.1)
 
-    pub new-walk : CommitFits c → walk_fault new (c.value).tree_id ≡ None
+    pub new-walk : rows_size c ≤ rows_limit → walk_fault new (c.value).tree_id ≡ None
     new-walk fits = ap (walk_fault new) root-is ∙ no-fault new files (walkable fits)
 
-    pub new-held : CommitFits c → IsCommitHeld new (commit_id c) c
+    pub new-held : rows_size c ≤ rows_limit → IsCommitHeld new (commit_id c) c
     unfolding commit_id
     new-held fits = record {
       object = own c;
       is_held = all.itself;
       kind = refl;
       text = (view.value, refl);
-      rows = subst (IsUnfolding new (c.value).tree_id) (ap (λ (id : Id). filter is_row (walk new id)) root-is ∙ rows-again new files (walkable fits)) (unfolds new (c.value).tree_id are.are (none-refused new are.are (c.value).tree_id (new-walk fits)));
-      blobs = each c.rows all.blobs;
+      rows = subst (IsUnfolding new (c.value).tree_id) (ap (λ (id : Id). tree_rows new id) root-is ∙ rows-again new files (walkable fits)) (unfolds new (c.value).tree_id are.are (none-refused new are.are (c.value).tree_id (new-walk fits)));
+      blobs = all-of (IsRowHeld new) c.rows (λ row i. record {
+        blob = λ b. (blob_of_row row, known-file row i b, refl);
+        none = row-content row.mode row.id row.content (each-in _ c.rows row view.rows i).3;
+      });
     }
-      where
-        each : (rows : List TreeRow) → Each (λ row. IsKnown new (blob_of_row row)) rows → Each (IsBlobHeld new) rows
-        each [] h = tt
-        each (row ∷ rows) h = ((blob_of_row row, h.0, refl), each rows h.1)
 
     -- no other content of an object that is known stands in the store
-    none-else : (o x : Object) → IsKnown new o → In x new → is_other_content o x ≡ false
+    pub none-else : (o x : Object) → IsKnown new o → In x new → is_other_content o x ≡ false
     none-else o x h i =
         let of = found new o.id o are h in
         let like : knows_same new o ≡ true = ap (is_same_as o) h ∙ alike o in

@@ -8,12 +8,12 @@ use Rattle.text_model.specs.Id.{Id, is_null}
 use Rattle.text_model.specs.Fault.{FaultName}
 use Rattle.text_model.specs.Fault as fault
 use Rattle.text_model.proofs.TestLemmas.{or_true}
+use Rattle.hg_model.proofs.ParentOrder.{file_order-either}
 use Rattle.hg_filelog.proofs.MarkLemmas.{lacks-never}
 use Rattle.hg_model.specs.FileText.{IsFileText, file_text, file_order}
 use Rattle.hg_model.specs.Revision.{Revision, Group, Changesets, FilesAt, is_of, revision_of, knows, is_known_parent, first_name, named_if, ancestry_fault, text_fault, same_parents}
 use Rattle.hg_store.specs.Known.{AreAdded, HasBlob, knows_same, is_same_as}
 use Rattle.hg_store.proofs.KnownLemmas.{same-has_no_fault}
-use Rattle.hg_view.proofs.Canonical.{file_order-either}
 use Rattle.view_model.specs.View.{ChangesetView, Row, file_node, text_limit}
 use Rattle.view_model.specs.Held.{IsFileHeld}
 use Rattle.pair_known.specs.Ruled.{HasFileParents}
@@ -153,13 +153,13 @@ parent-within old new w group p h = by (is_null p) h
 
 module _ (base now : List Revision) (d : HgDraft) (link : Id) (k : ChangesetView) (a : IsAskedOver base now d link k) where
   pub asked-row : (i : ℕ) (v : RowValue) → slice_get d.rows i ≡ Some v → RowAt k.rows i v
-  asked-row i v e = row-at k.rows i v (ap (λ (l : List RowValue). slice_get l i) (sym a.ruled.draft.rows) ∙ e)
+  asked-row i v e = row-at k.rows i v (ap (λ (l : List RowValue). slice_get l i) (sym a.part.made.draft.rows) ∙ e)
 
   pub asked-file : (i : ℕ) (v : RowValue) (x : RowAt k.rows i v) → IsFileAsked now d.fresh v link x.row
   asked-file i v x =
-      let held = each-at (IsFileHeld (d.fresh ++ base)) k.rows i x.row x.at a.ruled.draft.files in
-      let parents = each-at (HasFileParents base) k.rows i x.row x.at a.ruled.file_parents in
-      let view = each-at _ k.rows i x.row x.at a.ruled.view.rows in
+      let held = each-at (IsFileHeld (d.fresh ++ base)) k.rows i x.row x.at a.part.made.draft.files in
+      let parents = each-at (HasFileParents base) k.rows i x.row x.at a.part.file_parents in
+      let view = each-at _ k.rows i x.row x.at a.part.made.view.rows in
       record {
         value = x.value;
         held = record {
@@ -170,7 +170,7 @@ module _ (base now : List Revision) (d : HgDraft) (link : Id) (k : ChangesetView
         };
         parents = (parent-within base now a.within (FilesAt (x.row).path) ((x.row).revision).p parents.0, parent-within base now a.within (FilesAt (x.row).path) ((x.row).revision).q parents.1);
         link_known = a.link;
-        short = each-at (λ (row : Row). length (file_text (row.revision).meta (row.revision).body) ≤ text_limit) k.rows i x.row x.at a.ruled.fits.files;
+        short = each-at (λ (row : Row). length (file_text (row.revision).meta (row.revision).body) ≤ text_limit) k.rows i x.row x.at a.part.fits.files;
         fit = view.0;
         spells = view.2.2;
       }
@@ -179,7 +179,7 @@ module _ (base now : List Revision) (d : HgDraft) (link : Id) (k : ChangesetView
   asked-on new rs come =
       let w : IsWithinHg now new = subst (IsWithinHg now) (sym come.are) (within-all now rs) in
       record {
-        ruled = a.ruled;
+        part = a.part;
         within = λ group node r e. w group node r (a.within group node r e);
         node_is = a.node_is;
         link = within-knows now new w Changesets link a.link;

@@ -9,7 +9,7 @@ use Rattle.text_model.specs.Fault.{FaultName, Collision}
 use Rattle.text_model.proofs.EachLemmas.{Each-append, Each-weaker, Each-rest}
 use Rattle.text_model.proofs.TestLemmas.{both}
 use Rattle.git_model.specs.Object.{Object, object_at, knows_object, content_fault, object_fault, objects_after, is_other_content}
-use Rattle.git_model.proofs.OptionLemmas.{none_some, some_is}
+use Rattle.text_model.proofs.Options.{none_some, some_is}
 use Rattle.git_store.proofs.KnownLemmas.{same_kind-is}
 use Rattle.git_view.proofs.Found.{found-id}
 use Rattle.tree_shape.specs.Laws.{IsKnown}
@@ -38,15 +38,15 @@ in-any test (y ∷ xs) x (inr i) h = by (test y) (in-any test xs x i h)
 -- ---- look-ups
 
 pub found-in : (known : List Object) (id : Id) (o : Object) → object_at known id ≡ Some o → In o known
-found-in [] id o at = absurd (none_some o at)
+found-in [] id o at = absurd (none_some {x = o} at)
 found-in (x ∷ known) id o at = by (bytes_eq id x.id) at (found-in known id o)
   where
     by : (t : Bool) → (if t then Some x else object_at known id) ≡ Some o → (object_at known id ≡ Some o → In o known) → In o (x ∷ known)
-    by true is later = inl (sym (some_is x o is))
+    by true is later = inl (sym (some_is {x = x} {y = o} is))
     by false is later = inr (later is)
 
 find-front : (known more : List Object) (id : Id) (o : Object) → object_at known id ≡ Some o → object_at (known ++ more) id ≡ Some o
-find-front [] more id o at = absurd (none_some o at)
+find-front [] more id o at = absurd (none_some {x = o} at)
 find-front (x ∷ known) more id o at = by (bytes_eq id x.id) at (find-front known more id o)
   where
     by : (t : Bool) → (if t then Some x else object_at known id) ≡ Some o → (object_at known id ≡ Some o → object_at (known ++ more) id ≡ Some o) → (if t then Some x else object_at (known ++ more) id) ≡ Some o
@@ -68,12 +68,12 @@ unfolding object_fault
 fault-by known o fits = rw (fits, object_fault) refl
 
 pub none-other : (t : Bool) → (if t then Some Collision else None) ≡ None → t ≡ false
-none-other true h = absurd (none_some Collision (sym h))
+none-other true h = absurd (none_some {x = Collision} (sym h))
 none-other false h = refl
 
 some-other : (t : Bool) → (if t then Some Collision else None) ≡ Some Collision → t ≡ true
 some-other true h = refl
-some-other false h = absurd (none_some Collision h)
+some-other false h = absurd (none_some {x = Collision} h)
 
 not-true : (t : Bool) → not t ≡ false → t ≡ true
 not-true true h = refl
@@ -168,8 +168,8 @@ pub none-fault : (known : List Object) (o : Object) → content_fault o.kind o.c
 none-fault known o fits name h other = by (list_any (is_other_content o) known) (sym (fault-by known o fits) ∙ h)
   where
     by : (t : Bool) → (if t then Some Collision else None) ≡ Some name → ⊥
-    by true is = other (some_is Collision name is)
-    by false is = none_some name is
+    by true is = other (some_is {x = Collision} {y = name} is)
+    by false is = none_some {x = name} is
 
 -- ---- turns of a loop
 

@@ -45,31 +45,31 @@ knows-after known r same = by (knows known r.group r.node) refl
     by true e = e
     by false e = find-last known r e same
 
-module _ (known : List Revision) (d : HgDraft) (node : Id) (text : Bytes) (k : ChangesetView) (a : IsAsked known d node text k) where
+module _ (base known : List Revision) (d : HgDraft) (node : Id) (text : Bytes) (k : ChangesetView) (a : IsAsked base known d node text k) where
   abbrev pub own : Revision
   own = record { group = Changesets; node = node; p = d.p1; q = d.p2; link = node; text = text }
 
   pub own-is : own ≡ own_revision k
-  own-is = (λ i. record { group = Changesets; node = a.node_is i; p = sym a.ruled.draft.parents.0 i; q = sym a.ruled.draft.parents.1 i; link = a.node_is i; text = a.text_is i })
+  own-is = (λ i. record { group = Changesets; node = a.node_is i; p = sym a.part.made.draft.parents.0 i; q = sym a.part.made.draft.parents.1 i; link = a.node_is i; text = a.text_is i })
 
   pub own-ready : IsReady known own
   unfolding ancestry_fault changeset_node
   own-ready =
-      let order : has_bad_order (own_revision k) ≡ false = good-order (own_revision k) a.ruled.view.first a.ruled.view.distinct in
+      let order : has_bad_order (own_revision k) ≡ false = good-order (own_revision k) a.parents.first a.parents.distinct in
       subst (IsReady known) (sym own-is) (record {
-        ancestry = rw (order, a.first, a.second, (bytes_eq-Decides (own_revision k).node (own_revision k).node).1 refl) refl;
+        ancestry = rw (order, a.parents.p, a.parents.q, (bytes_eq-Decides (own_revision k).node (own_revision k).node).1 refl) refl;
         node = refl;
-        shape = ap (λ (o : Option _). named_if (is_some o) fault.ChangesetShape) (changeset_fault-text (changeset_text k.fields) k.fields (a.ruled.view.fields, refl));
+        shape = ap (λ (o : Option _). named_if (is_some o) fault.ChangesetShape) (changeset_fault-text (changeset_text k.fields) k.fields (a.part.made.view.fields, refl));
       })
 
   pub own-short : length text ≤ 67108864
-  own-short = omega (arith, a.ruled.fits.text, ap (λ (t : Bytes). length t) a.text_is)
+  own-short = omega (arith, a.part.fits.text, ap (λ (t : Bytes). length t) a.text_is)
 
   -- the store with the changeset
-  pub asked-over : (new : List Revision) → HaveCome known new (own ∷ []) → IsAskedOver known new d node k
+  pub asked-over : (new : List Revision) → HaveCome known new (own ∷ []) → IsAskedOver base new d node k
   asked-over new come = record {
-    ruled = a.ruled;
-    within = λ group n r e. subst (λ (l : List Revision). revision_of l group n ≡ Some r) (sym come.are) (within-after known own group n r e);
+    part = a.part;
+    within = λ group n r e. subst (λ (l : List Revision). revision_of l group n ≡ Some r) (sym come.are) (within-after known own group n r (a.within group n r e));
     node_is = a.node_is;
     link = ap (λ (l : List Revision). knows l Changesets node) come.are ∙ knows-after known own ((bytes_eq-Decides node node).1 refl);
   }

@@ -1,129 +1,192 @@
--- A commit's changeset comes to the store.
-use Rattle.std.proofs.Common.{◌≡◌, ◌||◌, Bool, true, false, List, [], ◌∷◌, ◌++◌, map, Some, None, refl, sym, ap, subst, ◌∙◌}
+-- A commit's changesets come to the store.
+use Rattle.std.proofs.Common.{◌≡◌, ◌≤◌, ◌||◌, Bool, true, false, true≢false, arith, List, [], ◌∷◌, ◌++◌, length, map, Some, None, refl, sym, ap, subst, ◌∙◌, inl, inr}
 use Rattle.std.specs.Prelude.{bytes_eq, is_some, if◌then◌else◌, IsTrue}
 use Rattle.std.specs.List.{list_any}
+use Rattle.std.proofs.lemmas.List.{length-map}
+use Rattle.std.proofs.lemmas.Slice.Eq.{bytes_eq-Decides}
 use Rattle.text_model.specs.Lists.{Each}
-use Rattle.text_model.specs.Text.{Bytes}
-use Rattle.text_model.specs.Id.{Id, is_null, node_id}
-use Rattle.text_model.proofs.EachLemmas.{Each-weaker}
+use Rattle.text_model.specs.Id.{Id, is_null, has_id}
+use Rattle.text_model.proofs.EachLemmas.{Each-front, Each-rest}
 use Rattle.text_model.proofs.TestLemmas.{or_true}
-use Rattle.hg_changeset.specs.Values.{changeset_value}
-use Rattle.hg_model.specs.Changeset.{changeset_text}
-use Rattle.hg_model.specs.Revision.{Revision, Changesets, is_known_parent, is_otherwise}
+use Rattle.hg_model.specs.Revision.{Revision, Changesets, knows, is_otherwise}
 use Rattle.git_model.specs.Object.{Object}
-use Rattle.git_model.specs.Tree.{is_blob_mode}
-use Rattle.git_store.specs.Known.{AreKnown}
-use Rattle.tree_shape.specs.Laws.{IsKnown}
-use Rattle.view_model.specs.View.{ChangesetView, CommitView, HaveSameBodies, changeset_node, commit_id}
-use Rattle.view_model.specs.Held.{IsCommitHeld}
-use Rattle.view_model.specs.Dump.{revisions_of}
-use Rattle.pair_model.specs.Block.{Block, node_of, block_of_node, view_at, changesets_in, Parents, parents_among}
-use Rattle.pair_model.specs.Collision.{changeset_collides}
-use Rattle.pair_model.specs.Octopus.{parents_of_commit, partners_of_parents, first_of, second_of}
-use Rattle.pair_model.specs.Plain.{changeset_by_rule, block_of_commit}
-use Rattle.pair_model.specs.Rule.{rule_changeset}
-use Rattle.pair_known.specs.declared.git_draft.GitDraft.{GitDraft}
+use Rattle.git_model.specs.Unfold.{walk_fault}
+use Rattle.view_model.specs.View.{ChangesetView, changeset_node, commit_id}
+use Rattle.view_model.specs.Held.{IsCommitHeld, IsChangesetHeld, AreChangesetsHeld}
+use Rattle.view_model.specs.Dump.{revisions_of, revisions_in}
+use Rattle.pair_model.specs.Block.{Block, node_of, block_of_node, changesets_in}
+use Rattle.partner_model.specs.Clash.{changeset_side_collides, is_any_saved}
+use Rattle.pair_known.specs.Partners.{git_at}
+use Rattle.pair_known.specs.Ruled.{IsLooseView}
 use Rattle.pair_known.specs.declared.hg_draft.HgDraft.{HgDraft}
-use Rattle.hg_store.specs.Known.{AreAdded}
-use Rattle.pair_known.specs.Partners.{ArePartners}
-use Rattle.pair_state.specs.Came.{IsAsked, HaveCome, HasBad, IsWithinHg}
-use Rattle.pair_state.specs.Push.{PushesChangeset, ChangesetPushed}
-use Rattle.pair_state.specs.Step.{body_blob}
+use Rattle.pair_known.specs.declared.hg_block.HgBlock.{HgBlock}
+use Rattle.pair_state.specs.Blocks.{IsAgreed}
+use Rattle.pair_state.specs.Came.{IsWithinHg, ArePartsOf, PartsCame, PartsCollide, is_any_among}
+use Rattle.pair_state.specs.Push.{AreLinkParts, BringsParts, ChangesetPushed}
+use Rattle.pair_state.specs.Step.{IsPushed}
 use Rattle.pair_state.specs.declared.state.State.{State}
-use Rattle.pair_state.proofs.BlockLemmas.{HoldMore, state-more}
+use Rattle.pair_state.proofs.BlockLemmas.{HoldMore, HasMore, has-more, has-view, parts_of, state-more, git-some, none-is}
 use Rattle.pair_state.proofs.CameLemmas.{within-all}
-use Rattle.pair_state.proofs.ChangesetHeld.{CameAs, all-as, changesets-on, new-changeset}
+use Rattle.pair_state.proofs.ChangesetHeld.{CameAs, all-as, changeset-on, changesets-on, new-changeset, or-parts}
 use Rattle.pair_state.proofs.GrowthLemmas.{in-any}
-use Rattle.pair_state.proofs.HeldBodies.{blocks-blobs}
-use Rattle.pair_state.proofs.ParentRows.{parents-are, first-known, second-known, plain-blobs, view-blobs, ruled-bodies}
 use Rattle.pair_state.proofs.SlotLemmas.{none-bad}
 
--- where no block has links, the changeset of a node is that of its block
-view-some : (blocks : List Block) (node : Id) → Each (λ b. b.links ≡ []) blocks → is_some (view_at (changesets_in blocks) node) ≡ is_some (block_of_node blocks node)
-view-some [] node plain = refl
-view-some (b ∷ blocks) node plain =
-    ap (λ (links : List ChangesetView). is_some (view_at ((links ++ b.changeset ∷ []) ++ changesets_in blocks) node)) plain.0
-    ∙ by (bytes_eq (node_of b) node) (view-some blocks node plain.1)
+-- a block of a node has its changeset among those of the blocks
+block-saved : (blocks : List Block) (node : Id) → is_some (block_of_node blocks node) ≡ true → has_id (map changeset_node (changesets_in blocks)) node ≡ true
+block-saved [] node h = absurd (true≢false (sym h))
+block-saved (b ∷ blocks) node h = by (bytes_eq (node_of b) node) refl h (block-saved blocks node)
   where
-    by : (t : Bool) → is_some (view_at (changesets_in blocks) node) ≡ is_some (block_of_node blocks node)
-        → is_some (if t then Some b.changeset else view_at (changesets_in blocks) node) ≡ is_some (if t then Some b else block_of_node blocks node)
-    by true rest = refl
-    by false rest = rest
+    some-left : (xs ys : List ChangesetView) → has_id (map changeset_node xs) node ≡ true → has_id (map changeset_node (xs ++ ys)) node ≡ true
+    some-left [] ys e = absurd (true≢false (sym e))
+    some-left (x ∷ xs) ys e = either (bytes_eq node (changeset_node x)) e (some-left xs ys)
+      where
+        either : (t : Bool) → (t || has_id (map changeset_node xs) node) ≡ true → (has_id (map changeset_node xs) node ≡ true → has_id (map changeset_node (xs ++ ys)) node ≡ true)
+            → (t || has_id (map changeset_node (xs ++ ys)) node) ≡ true
+        either true e later = refl
+        either false e later = later e
 
-module _ (s : State) (c : GitDraft) (h : HgDraft) (id : Id) (blocks : List Block) (v : CommitView) (p : PushesChangeset s c h id blocks v) where
-  abbrev pub k : ChangesetView
-  k = changeset_by_rule blocks v
+    some-right : (xs ys : List ChangesetView) → has_id (map changeset_node ys) node ≡ true → has_id (map changeset_node (xs ++ ys)) node ≡ true
+    some-right [] ys e = e
+    some-right (x ∷ xs) ys e = ap (λ (t : Bool). bytes_eq node (changeset_node x) || t) (some-right xs ys e) ∙ or_true (bytes_eq node (changeset_node x))
 
-  abbrev ps : Parents
-  ps = parents_of_commit blocks v
+    by : (t : Bool) → bytes_eq (node_of b) node ≡ t → is_some (if t then Some b else block_of_node blocks node) ≡ true
+        → (is_some (block_of_node blocks node) ≡ true → has_id (map changeset_node (changesets_in blocks)) node ≡ true) → has_id (map changeset_node (changesets_in (b ∷ blocks))) node ≡ true
+    by true e is later =
+        some-left (parts_of b) (changesets_in blocks) (some-right b.links (b.changeset ∷ [])
+        (ap (λ (t : Bool). t || false) ((bytes_eq-Decides node (node_of b)).1 (sym ((bytes_eq-Decides (node_of b) node).0 e)))))
+    by false e is later = some-right (parts_of b) (changesets_in blocks) (later is)
 
-  parents : ps ≡ parents_among (changesets_in blocks) (first_of (partners_of_parents blocks v)) (second_of (partners_of_parents blocks v))
-  parents = parents-are blocks v p.over.few
+-- the changesets among these are known
+saved-known : (known : List Revision) (vs : List ChangesetView) (node : Id) → AreChangesetsHeld known (map changeset_node vs) vs → has_id (map changeset_node vs) node ≡ true → knows known Changesets node ≡ true
+saved-known known [] node held h = absurd (true≢false (sym h))
+saved-known known (v ∷ vs) node held h = by (bytes_eq node (changeset_node v)) refl h (saved-known known vs node held.1)
+  where
+    by : (t : Bool) → bytes_eq node (changeset_node v) ≡ t → (t || has_id (map changeset_node vs) node) ≡ true → (has_id (map changeset_node vs) node ≡ true → knows known Changesets node ≡ true) → knows known Changesets node ≡ true
+    by true e i later = ap (knows known Changesets) ((bytes_eq-Decides node (changeset_node v)).0 e) ∙ ap is_some held.0.is_held
+    by false e i later = later i
 
-  module _ (text : Bytes) (node : Id) (text_is : text ≡ changeset_text (changeset_value h.changeset)) (node_is : node ≡ node_id h.p1 h.p2 text) where
-    spells : text ≡ changeset_text k.fields
-    spells = text_is ∙ sym (ap changeset_text p.ruled.draft.fields)
+any-same : (saved : List Id) (blocks : List Block) → saved ≡ map changeset_node (changesets_in blocks) → (hs : List ChangesetView) → is_any_among saved hs ≡ is_any_saved blocks hs
+any-same saved blocks are [] = refl
+any-same saved blocks are (h ∷ hs) =
+    (λ i. (ap (λ (ns : List Id). has_id ns (changeset_node h)) are ∙ has-view (changesets_in blocks) (changeset_node h)) i || any-same saved blocks are hs i)
 
-    pub is-node : node ≡ changeset_node k
-    unfolding changeset_node
-    is-node = node_is ∙ (λ i. node_id (sym p.ruled.draft.parents.0 i) (sym p.ruled.draft.parents.1 i) (spells i))
+-- changesets whose revisions came are stored
+parts-held : (new : List Revision) (hs : List ChangesetView) → Each IsLooseView hs → Each (CameAs new) (revisions_in hs) → AreChangesetsHeld new (map changeset_node hs) hs
+parts-held new [] views came = tt
+parts-held new (h ∷ hs) views came =
+    (new-changeset new h views.0 (Each-front (CameAs new) (revisions_of h) (revisions_in hs) came), parts-held new hs views.1 (Each-rest (CameAs new) (revisions_of h) (revisions_in hs) came))
 
-    pub asked : IsAsked s.known.hg h node text k
-    unfolding rule_changeset
-    asked = record {
-      ruled = p.ruled;
-      first = ap (λ (x : Parents). is_known_parent s.known.hg Changesets x.p) parents ∙ first-known s.known.hg blocks (p.state.held.held).changesets (v.value).parents p.over.parents;
-      second = ap (λ (x : Parents). is_known_parent s.known.hg Changesets x.q) parents ∙ second-known s.known.hg blocks (p.state.held.held).changesets (v.value).parents p.over.few p.over.parents;
-      node_is = is-node;
-      text_is = spells;
-    }
+last-held : (new : List Revision) (ls : List ChangesetView) (h : ChangesetView) → AreChangesetsHeld new (map changeset_node (ls ++ h ∷ [])) (ls ++ h ∷ []) → IsChangesetHeld new (changeset_node h) h
+last-held new [] h held = held.0
+last-held new (l ∷ ls) h held = last-held new ls h held.1
+
+link-views : (known : List Revision) (ds : List HgDraft) (ls : List ChangesetView) (h : ChangesetView) → AreLinkParts known ds ls → IsLooseView h → Each IsLooseView (ls ++ h ∷ [])
+link-views known [] [] h a v = (v, tt)
+link-views known [] (l ∷ ls) h a v = absurd a
+link-views known (d ∷ ds) [] h a v = absurd a
+link-views known (d ∷ ds) (l ∷ ls) h a v = (a.0.made.view, link-views known ds ls h a.2 v)
+
+module _ (s : State) (d : HgBlock) (blocks : List Block) (b : Block) (p : BringsParts s d blocks b) where
+  abbrev hs : List ChangesetView
+  hs = parts_of b
+
+  pub parts : ArePartsOf s.known.hg s.changesets d blocks b.links b.changeset
+  parts = record {
+    links = p.links;
+    last = p.last;
+    linked = p.parents;
+    stands = λ q some.
+        let there = block-saved blocks q some in
+        (ap (λ (ns : List Id). has_id ns q) p.state.changesets ∙ there, saved-known s.known.hg (changesets_in blocks) q (p.state.held.held).changesets there);
+  }
 
   -- ---- collisions
 
-  pub partner-collides : is_some (block_of_node blocks (changeset_node k)) ≡ true → IsTrue (changeset_collides s.known.hg blocks k)
-  partner-collides some =
-      ap (λ (t : Bool). list_any (λ r. is_null r.node || list_any (is_otherwise r) (s.known.hg ++ revisions_of k)) (revisions_of k) || t) (view-some blocks (changeset_node k) p.state.held.plain ∙ some) ∙ or_true _
+  pub collides : PartsCollide s.known.hg s.changesets hs → IsTrue (changeset_side_collides s.known.hg blocks b)
+  collides (inl bad) =
+      ap (λ (t : Bool). t || is_any_saved blocks hs)
+      (in-any (λ r. is_null r.node || list_any (is_otherwise r) (s.known.hg ++ revisions_in hs)) (revisions_in hs) bad.revision bad.is_new bad.bad)
+  collides (inr some) =
+      ap (λ (t : Bool). list_any (λ r. is_null r.node || list_any (is_otherwise r) (s.known.hg ++ revisions_in hs)) (revisions_in hs) || t) (sym (any-same s.changesets blocks p.state.changesets hs) ∙ some)
+      ∙ or_true _
 
-  pub revisions-collide : HasBad s.known.hg (revisions_of k) → IsTrue (changeset_collides s.known.hg blocks k)
-  revisions-collide b =
-      ap (λ (t : Bool). t || is_some (view_at (changesets_in blocks) (changeset_node k)))
-      (in-any (λ r. is_null r.node || list_any (is_otherwise r) (s.known.hg ++ revisions_of k)) (revisions_of k) b.revision b.is_new b.bad)
+  pub few-nodes : (links : List Id) → links ≡ map changeset_node b.links → length links ≤ 62
+  few-nodes links e = omega (arith, p.few, ap (λ (l : List Id). length l) e, length-map b.links changeset_node)
 
   -- ---- all came
 
-  module _ (are : AreKnown s.known.git) where
-    blobs : Each (λ b. Each (λ y. IsKnown s.known.git (body_blob y)) (b.changeset).rows) blocks
-    blobs = blocks-blobs s.known.git are blocks (p.state.held.held).commits (p.state.held.held).walks (p.state.held.held).bodies
+  -- the state with these revisions
+  abbrev pub with_revisions : List Revision → State
+  with_revisions hg = record {
+    known = record { hg = hg; git = s.known.git; partners = s.known.partners };
+    blocks = s.blocks;
+    changesets = s.changesets;
+    commits = s.commits;
+    tags = s.tags;
+    names = s.names;
+    agreed = s.agreed;
+    alloc = s.alloc;
+  }
 
-    same-bodies : HaveSameBodies k.rows v.rows
-    unfolding rule_changeset
-    same-bodies =
-        let all = plain-blobs s.known.git blocks p.state.held.plain blobs in
-        let first = subst (λ (x : Parents). Each (λ y. IsKnown s.known.git (body_blob y)) (x.first).rows) (sym parents) (view-blobs s.known.git (changesets_in blocks) (first_of (partners_of_parents blocks v)) all) in
-        let second = subst (λ (x : Parents). Each (λ y. IsKnown s.known.git (body_blob y)) (x.second).rows) (sym parents) (view-blobs s.known.git (changesets_in blocks) (second_of (partners_of_parents blocks v)) all) in
-        ruled-bodies s.known.git ps first second v.rows (Each-weaker _ (λ row. IsTrue (is_blob_mode row.mode)) (λ row r. r.3) v.rows p.over.view.rows) p.held.blobs
+  module _ (new : List Revision) (came : PartsCame s.known.hg new s.changesets hs) where
+    within : IsWithinHg s.known.hg new
+    within = subst (IsWithinHg s.known.hg) (sym came.came.are) (within-all s.known.hg (revisions_in hs))
 
-    pub pushed : commit_id v ≡ id → (node : Id) → node ≡ changeset_node k → block_of_node blocks (changeset_node k) ≡ None → (new : List Revision) → HaveCome s.known.hg new (revisions_of k)
-        → (next : State) → next.known.hg ≡ new → next.known.git ≡ s.known.git → next.known.partners ≡ s.known.partners ++ (node, id) ∷ [] → next.nodes ≡ s.nodes ++ node ∷ [] → next.ids ≡ s.ids ++ id ∷ []
-        → AreAdded next.known.hg → ArePartners next.known.partners → ChangesetPushed s next blocks v
-    pushed id_is node node_is free new come next hg git partners nodes ids added one =
+    all-came : Each (CameAs new) (revisions_in hs)
+    all-came = subst (λ (l : List Revision). Each (CameAs l) (revisions_in hs)) (sym came.came.are) (all-as s.known.hg (revisions_in hs) came.came.clean)
+
+    -- no block has the changeset
+    pub node-free : (node : Id) → node ≡ changeset_node b.changeset → git_at s.known.partners node ≡ None
+    node-free node e = none-is (git_at s.known.partners node) (git-some s.known blocks p.state.held node ∙ by (is_some (block_of_node blocks node)) refl)
+      where
+        last : (ls : List ChangesetView) → is_any_among s.changesets (ls ++ b.changeset ∷ []) ≡ false → has_id s.changesets (changeset_node b.changeset) ≡ false
+        last [] a = (or-parts (has_id s.changesets (changeset_node b.changeset)) false a).0
+        last (l ∷ ls) a = last ls (or-parts (has_id s.changesets (changeset_node l)) (is_any_among s.changesets (ls ++ b.changeset ∷ [])) a).1
+
+        by : (t : Bool) → is_some (block_of_node blocks node) ≡ t → is_some (block_of_node blocks node) ≡ false
+        by false f = f
+        by true f = absurd (true≢false (sym (ap (λ (ns : List Id). has_id ns node) p.state.changesets ∙ block-saved blocks node f) ∙ ap (has_id s.changesets) e ∙ last b.links came.apart))
+
+    -- the changesets are stored
+    pub held-parts : AreChangesetsHeld new (map changeset_node hs) hs
+    held-parts = parts-held new hs (link-views s.known.hg d.links b.links b.changeset p.links p.last.made.view) all-came
+
+    pub held-last : IsChangesetHeld new (changeset_node b.changeset) b.changeset
+    held-last = last-held new b.links b.changeset held-parts
+
+    pub held-old : AreChangesetsHeld new (map changeset_node (changesets_in blocks)) (changesets_in blocks)
+    held-old = changesets-on s.known.hg new within (map changeset_node (changesets_in blocks)) (changesets_in blocks) (p.state.held.held).changesets
+
+    pub none-collides : changeset_side_collides s.known.hg blocks b ≡ false
+    none-collides = (λ i. none-bad s.known.hg (revisions_in hs) came.came.clean i || (sym (any-same s.changesets blocks p.state.changesets hs) ∙ came.apart) i)
+
+    pub agreed-on : (x : Id) → IsTrue (has_id s.agreed x) → IsAgreed new s.known.git x
+    agreed-on x some = let a = p.state.agreed x some in record { view = a.view; held = changeset-on s.known.hg new within x a.view a.held; blobs = a.blobs }
+
+    -- the block of a commit that is stored
+    pub pushed : (id : Id) → IsCommitHeld s.known.git id b.commit → walk_fault s.known.git ((b.commit).value).tree_id ≡ None → commit_id b.commit ≡ id
+        → (links : List Id) → links ≡ map changeset_node b.links → (node : Id) → node ≡ changeset_node b.changeset
+        → (next : State) → IsPushed (with_revisions new) next links node id → ChangesetPushed s next blocks b
+    pushed id commit_held walk id_is links links_are node node_is next is =
         let held = p.state.held.held in
-        let within : IsWithinHg s.known.hg new = subst (IsWithinHg s.known.hg) (sym come.are) (within-all s.known.hg (revisions_of k)) in
-        let came : Each (CameAs new) (revisions_of k) = subst (λ (l : List Revision). Each (CameAs l) (revisions_of k)) (sym come.are) (all-as s.known.hg (revisions_of k) come.clean) in
-        let more : HoldMore new s.known.git blocks (block_of_commit blocks v) = record {
-          changesets = changesets-on s.known.hg new within (map changeset_node (changesets_in blocks)) (changesets_in blocks) held.changesets;
-          changeset = new-changeset new k p.ruled.view came;
+        let more : HoldMore new s.known.git blocks b = record {
+          changesets = held-old;
+          parts = held-parts;
           commits = held.commits;
-          commit = subst (λ (i : Id). IsCommitHeld s.known.git i v) (sym id_is) p.held;
+          commit = subst (λ (i : Id). IsCommitHeld s.known.git i b.commit) (sym id_is) commit_held;
           walks = held.walks;
-          walk = p.walks;
-          bodies = same-bodies;
-          plain = refl;
+          walk = walk;
+          no_link = p.no_link;
         } in
+        let m = has-more (with_revisions new) next b links node id is links_are node_is (sym id_is) (λ x i.
+        subst (λ (os : List Object). IsAgreed next.known.hg os x) (sym is.git) (subst (λ (rs : List Revision). IsAgreed rs s.known.git x) (sym is.hg)
+        (agreed-on x (sym (ap (λ (l : List Id). has_id l x) is.agreed) ∙ i)))) in
+        let has : HasMore s next b = record { partners = m.partners; blocks = m.blocks; changesets = m.changesets; commits = m.commits; added = m.added; one = m.one; agreed = m.agreed } in
         record {
-          apart = (λ i. none-bad k p.ruled.view s.known.hg come.clean i || (view-some blocks (changeset_node k) p.state.held.plain ∙ ap is_some free) i);
-          state = state-more s next blocks (block_of_commit blocks v) p.state (subst (λ (rs : List Revision). HoldMore rs next.known.git blocks (block_of_commit blocks v)) (sym hg) (subst (λ (os : List Object). HoldMore new os blocks (block_of_commit blocks v)) (sym git) more))
-              (partners ∙ (λ i. s.known.partners ++ (node_is i, sym id_is i) ∷ [])) (nodes ∙ (λ i. s.nodes ++ node_is i ∷ [])) (ids ∙ (λ i. s.ids ++ sym id_is i ∷ [])) added one;
-          revisions = hg ∙ come.are;
-          objects = git;
+          apart = none-collides;
+          state = state-more s next blocks b p.state (subst (λ (rs : List Revision). HoldMore rs next.known.git blocks b) (sym is.hg) (subst (λ (os : List Object). HoldMore new os blocks b) (sym is.git) more)) has;
+          tags = is.tags;
+          names = is.names;
+          revisions = is.hg ∙ came.came.are;
+          objects = is.git;
         }

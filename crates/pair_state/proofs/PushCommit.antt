@@ -1,242 +1,132 @@
--- A changeset's commit comes to the store.
-use Rattle.std.proofs.Common.{◌≡◌, ◌≤◌, ◌⊎◌, Bool, true, false, true≢false, not, nat_lt, arith, List, [], ◌∷◌, ◌++◌, length, map, Option, Some, None, refl, sym, ap, subst, ◌∙◌, inl, inr}
-use Rattle.std.specs.Prelude.{◌||◌, bytes_eq, is_some, if◌then◌else◌, IsTrue}
+-- The commit of a changeset comes to the store.
+use Rattle.std.proofs.Common.{◌≡◌, ◌⊎◌, ◌||◌, Bool, true, false, List, [], ◌∷◌, ◌++◌, map, None, sym, ap, subst, ◌∙◌, inl, inr}
+use Rattle.std.specs.Prelude.{is_some, IsTrue}
 use Rattle.std.specs.List.{list_any}
-use Rattle.std.proofs.lemmas.Bool.Decides.{nat_tests}
-use Rattle.std.proofs.lemmas.Slice.Eq.{bytes_eq-Decides}
 use Rattle.text_model.specs.Lists.{In, Each, SomeOf}
-use Rattle.text_model.specs.Text.{Bytes}
-use Rattle.text_model.specs.Id.{Id, commit, object_id}
-use Rattle.text_model.specs.Fault as fault
-use Rattle.text_model.proofs.EachLemmas.{Each-front, Each-rest}
+use Rattle.text_model.specs.Id.{Id, has_id}
 use Rattle.text_model.proofs.TestLemmas.{or_true}
 use Rattle.hg_model.specs.Revision.{Revision}
-use Rattle.git_model.specs.Tree.{has_distinct}
-use Rattle.git_model.specs.Commit.{commit_text}
-use Rattle.git_model.specs.Object.{Object, object_at, knows_object, content_fault, is_other_content}
-use Rattle.git_model.specs.Shape.{trees_of}
-use Rattle.git_model.specs.Unfold.{walk_fault}
-use Rattle.git_model.proofs.CommitLemmas.{commit_fault-text, parent_ids-text}
+use Rattle.git_model.specs.Object.{Object, knows_object, is_other_content}
 use Rattle.git_store.specs.Known.{AreKnown}
 use Rattle.tree_shape.specs.Laws.{IsKnown}
-use Rattle.tree_shape.proofs.Elements.{in-left, in-right, in-append, each-in}
-use Rattle.view_model.specs.View.{Row, TreeRow, ChangesetView, CommitView, IsCommitView, HaveSameBodies, changeset_node, commit_id, commit_objects}
-use Rattle.view_model.specs.Held.{file_row_of, IsChangesetHeld}
+use Rattle.tree_shape.proofs.Elements.{each-in}
+use Rattle.view_model.specs.View.{TreeRow, ChangesetView, CommitView, IsCommitView, changeset_node, commit_id, commit_objects, files_among}
+use Rattle.view_model.specs.Held.{IsChangesetHeld, AreChangesetsHeld}
 use Rattle.pair_model.specs.Block.{Block, block_of_id, commits_in}
 use Rattle.pair_model.specs.Collision.{commit_collides}
-use Rattle.pair_model.specs.Plain.{block_of_changeset}
-use Rattle.pair_model.specs.Rule.{rule_commit, tree_row_of}
+use Rattle.partner_model.specs.Clash.{commit_side_collides, is_any_saved}
 use Rattle.pair_known.specs.Ruled.{blob_of_row}
 use Rattle.pair_known.specs.declared.hg_draft.HgDraft.{HgDraft}
 use Rattle.pair_known.specs.declared.git_draft.GitDraft.{GitDraft}
-use Rattle.hg_store.specs.Known.{AreAdded}
-use Rattle.pair_known.specs.Partners.{ArePartners}
-use Rattle.pair_state.specs.Growth.{IsRight, HasGrown, Clash}
+use Rattle.pair_state.specs.Blocks.{body_blob, IsAgreed}
+use Rattle.pair_state.specs.Growth.{HasGrown, Clash}
 use Rattle.pair_state.specs.Push.{HaveSame, PushesCommit, CommitPushed}
-use Rattle.pair_state.specs.Step.{body_blob, AreAsked, IsElse}
+use Rattle.pair_state.specs.Step.{AreAsked, IsElse, IsPushed}
 use Rattle.pair_state.specs.declared.state.State.{State}
-use Rattle.pair_state.proofs.BlockLemmas.{HoldMore, state-more}
-use Rattle.pair_state.proofs.CommitParts.{own, are-files, no-clash, own-in, blob-of, tree-of, HoldsAll, known-part, new-walk, new-held, new-apart, clash-collides}
-use Rattle.pair_state.proofs.GrowthLemmas.{found-in}
-use Rattle.pair_state.proofs.TreeTexts.{trees-right}
-use Rattle.pair_state.proofs.WalkGrowth.{walk-on, commits-on}
+use Rattle.pair_state.proofs.BlockLemmas.{HoldMore, HasMore, has-more, held-append, any-saved, state-more}
+use Rattle.pair_state.proofs.CommitParts.{own, blob-of, HoldsAll, new-walk, new-held, new-apart, clash-collides, of-map, all-of}
+use Rattle.pair_state.proofs.KeptLemmas.{blobs-on}
+use Rattle.pair_state.proofs.MadeCommit.{some-body, each-of_map, each-to_map, same-blobs, with_objects, file-id, parts-clash, among-all, knows-new, all, all-among, old-walks, new-walks}
+use Rattle.git_view.proofs.WalkGrowth.{commits-on}
 
-some-row : (rows : List TreeRow) (P : TreeRow → Type 0) → SomeOf rows P → (row : TreeRow) × In row rows × P row
-some-row [] P s = absurd s
-some-row (row ∷ rows) P (inl p) = (row, inl refl, p)
-some-row (row ∷ rows) P (inr s) = let r = some-row rows P s in (r.0, inr r.1, r.2)
-
-some-file : (rows : List Row) (P : Row → Type 0) → SomeOf rows P → (row : Row) × In (tree_row_of row) (map tree_row_of rows) × P row
-some-file [] P s = absurd s
-some-file (row ∷ rows) P (inl p) = (row, inl refl, p)
-some-file (row ∷ rows) P (inr s) = let r = some-file rows P s in (r.0, inr r.1, r.2)
-
--- an id that the new objects or the store have is known after they came
-knows-grown : (old new fresh : List Object) (id : Id) → ((id : Id) (o : Object) → object_at old id ≡ Some o → object_at new id ≡ Some o) → Each (IsKnown new) fresh → knows_object (fresh ++ old) id ≡ true → knows_object new id ≡ true
-knows-grown old new [] id kept added h = by (object_at old id) refl h
-  where
-    by : (o : Option Object) → object_at old id ≡ o → is_some o ≡ true → knows_object new id ≡ true
-    by None e i = absurd (true≢false (sym i))
-    by (Some o) e i = ap is_some (kept id o e)
-knows-grown old new (x ∷ fresh) id kept added h = by (bytes_eq id x.id) refl h (knows-grown old new fresh id kept added.1)
-  where
-    by : (t : Bool) → bytes_eq id x.id ≡ t → is_some (if t then Some x else object_at (fresh ++ old) id) ≡ true → (knows_object (fresh ++ old) id ≡ true → knows_object new id ≡ true) → knows_object new id ≡ true
-    by true t i later = ap (knows_object new) ((bytes_eq-Decides id x.id).0 t) ∙ ap is_some added.0
-    by false t i later = later i
-
-few-fit : (n : _) → n ≤ 64 → nat_lt 64 n ≡ false
-few-fit n h = grind (arith, h, nat_tests)
-
-module _ (s : State) (h : HgDraft) (d : GitDraft) (node : Id) (blocks : List Block) (v : ChangesetView) (p : PushesCommit s h d node blocks v) where
+module _ (s : State) (h : HgDraft) (links : List Id) (d : GitDraft) (node : Id) (blocks : List Block) (b : Block) (p : PushesCommit s h links d node blocks b) where
   abbrev c : CommitView
-  c = rule_commit blocks v
+  c = b.commit
+
+  abbrev v : ChangesetView
+  v = b.changeset
 
   abbrev pub parts : List Object
   parts = d.fresh ++ d.trees ++ own c ∷ []
 
-  view : IsCommitView c
-  view = p.ruled.view
+  abbrev view : IsCommitView c
+  view = p.ruled.made.view
 
-  -- ---- what is added
-
-  pub right-blobs : Each IsRight d.fresh
-  right-blobs = by d.fresh p.ruled.blobs
-    where
-      right : (o : Object) → SomeOf c.rows (λ row. o ≡ blob_of_row row) → IsRight o
-      right o some =
-          let r = some-row c.rows (λ row. o ≡ blob_of_row row) some in
-          subst IsRight (sym r.2) (sym (each-in _ c.rows r.0 view.rows r.1).4, refl)
-
-      by : (os : List Object) → Each (λ o. SomeOf c.rows (λ row. o ≡ blob_of_row row)) os → Each IsRight os
-      by [] a = tt
-      by (o ∷ os) a = (right o a.0, by os a.1)
-
-  trees-are : d.trees ≡ trees_of (map file_row_of c.rows)
-  trees-are = p.ruled.trees ∙ ap trees_of p.ruled.files
-
-  pub right-trees : Each IsRight d.trees
-  right-trees = subst (Each IsRight) (sym trees-are) (trees-right (map file_row_of c.rows) (are-files c view) (no-clash c view))
-
-  module _ (text : Bytes) (is : text ≡ commit_text d.commit) where
-    text-is : text ≡ commit_text c.value
-    text-is = is ∙ sym (ap commit_text p.ruled.value)
-
-    pub right-commit : content_fault commit text ≡ None
-    right-commit =
-        ap (content_fault commit) text-is
-        ∙ (λ i. if is_some (commit_fault-text (commit_text c.value) c.value (view.value, refl) i) then Some fault.ObjectShape
-        else if not (has_distinct (parent_ids-text (commit_text c.value) c.value (view.value, refl) i)) then Some fault.ParentTwice
-        else if nat_lt 64 (length (parent_ids-text (commit_text c.value) c.value (view.value, refl) i)) then Some fault.ParentLimit else None)
-        ∙ (λ i. if not (view.distinct i) then Some fault.ParentTwice else if nat_lt 64 (length (c.value).parents) then Some fault.ParentLimit else None)
-        ∙ (λ i. if few-fit (length (c.value).parents) view.few i then Some fault.ParentLimit else None)
-
-    pub id-is : (id : Id) → id ≡ object_id commit text → id ≡ commit_id c
-    unfolding commit_id
-    id-is id e = e ∙ ap (object_id commit) text-is
-
-    pub own-is : (id : Id) → id ≡ object_id commit text → record { id = id; kind = commit; content = text } ≡ own c
-    own-is id e = (λ i. record { id = (e ∙ ap (object_id commit) text-is) i; kind = commit; content = text-is i })
-
-  pub inside : (o : Object) → In o parts → In o (commit_objects c)
-  inside o i = by (in-append o (d.fresh ++ d.trees) (own c ∷ []) i)
-    where
-      fresh : In o d.fresh → In o (commit_objects c)
-      fresh j =
-          let r = some-row c.rows (λ row. o ≡ blob_of_row row) (each-in (λ o. SomeOf c.rows (λ row. o ≡ blob_of_row row)) d.fresh o p.ruled.blobs j) in
-          subst (λ (x : Object). In x (commit_objects c)) (sym r.2) (blob-of c view r.0 r.1)
-
-      made : In o d.fresh ⊎ In o d.trees → In o (commit_objects c)
-      made (inl j) = fresh j
-      made (inr j) = tree-of c view o (subst (λ (os : List Object). In o os) trees-are j)
-
-      by : In o (d.fresh ++ d.trees) ⊎ In o (own c ∷ []) → In o (commit_objects c)
-      by (inl j) = made (in-append o d.fresh d.trees j)
-      by (inr (inl q)) = subst (λ (x : Object). In x (commit_objects c)) (sym q) (own-in c view)
-      by (inr (inr j)) = absurd j
+  blobs-are : map body_blob v.rows ≡ map blob_of_row (files_among c.rows)
+  blobs-are = same-blobs v.rows (files_among c.rows) p.bodies (file-id s.known.git d c p.ruled.made)
 
   -- ---- collisions
 
-  pub partner-collides : is_some (block_of_id blocks (commit_id c)) ≡ true → IsTrue (commit_collides s.known.git blocks c)
-  partner-collides some = ap (λ (t : Bool). list_any (λ o. list_any (is_other_content o) (s.known.git ++ commit_objects c)) (commit_objects c) || t) some ∙ or_true _
+  pub saved-collides : list_any (has_id s.changesets) links ≡ true → IsTrue (commit_side_collides s.known.git blocks b)
+  saved-collides some =
+      ap (λ (t : Bool). commit_collides s.known.git blocks c || t) (sym (links-saved) ∙ some) ∙ or_true (commit_collides s.known.git blocks c)
+    where
+      links-saved : list_any (has_id s.changesets) links ≡ is_any_saved blocks b.links
+      links-saved = ap (list_any (has_id s.changesets)) p.links_are ∙ any-saved s.changesets blocks p.state.changesets b.links
 
-  pub parts-collide : Clash s.known.git parts → IsTrue (commit_collides s.known.git blocks c)
-  parts-collide k = clash-collides c s.known.git parts blocks inside k
+  by-commit : IsTrue (commit_collides s.known.git blocks c) → IsTrue (commit_side_collides s.known.git blocks b)
+  by-commit collides = ap (λ (t : Bool). t || is_any_saved blocks b.links) collides
+
+  pub partner-collides : is_some (block_of_id blocks (commit_id c)) ≡ true → IsTrue (commit_side_collides s.known.git blocks b)
+  partner-collides some = by-commit (ap (λ (t : Bool). list_any (λ o. list_any (is_other_content o) (s.known.git ++ commit_objects c)) (commit_objects c) || t) some ∙ or_true _)
+
+  pub parts-collide : Clash s.known.git parts → IsTrue (commit_side_collides s.known.git blocks b)
+  parts-collide k = by-commit (parts-clash s.known.git d c p.ruled.made blocks k)
 
   module _ (new : List Object) (grown : HasGrown s.known.git new parts) where
-    pub body-collides : SomeOf v.rows (λ x. IsElse new (body_blob x)) → IsTrue (commit_collides s.known.git blocks c)
-    unfolding rule_commit
+    pub body-collides : SomeOf v.rows (λ x. IsElse new (body_blob x)) → IsTrue (commit_side_collides s.known.git blocks b)
     body-collides some =
-        let r = some-file v.rows (λ x. IsElse new (body_blob x)) some in
-        clash-collides c s.known.git (commit_objects c) blocks (λ o i. i) (record {
-          object = body_blob r.0;
+        let r = some-body v.rows (IsElse new) some in
+        let m = of-map blob_of_row r.0 (files_among c.rows) (subst (In r.0) blobs-are r.1) in
+        by-commit (clash-collides c s.known.git (commit_objects c) blocks (λ o i. i) (record {
+          object = r.0;
           other = r.2.0;
-          is_new = blob-of c view (tree_row_of r.0) r.1;
-          is_there = by r.2.0 (in-append r.2.0 s.known.git parts (grown.only r.2.0 r.2.1));
+          is_new = subst (λ (o : Object). In o (commit_objects c)) (sym m.2) (blob-of c view m.0 m.1);
+          is_there = among-all s.known.git d c p.ruled.made new grown r.2.0 r.2.1;
           differs = r.2.2;
-        })
-      where
-        by : (o : Object) → In o s.known.git ⊎ In o parts → In o (s.known.git ++ commit_objects c)
-        by o (inl i) = in-left o s.known.git (commit_objects c) i
-        by o (inr i) = in-right o s.known.git (commit_objects c) (inside o i)
-
-    added : Each (IsKnown new) (d.fresh ++ d.trees)
-    added = Each-front (IsKnown new) (d.fresh ++ d.trees) (own c ∷ []) grown.added
+        }))
 
     pub asked : AreAsked s.known.hg new h.rows v.rows
-    unfolding rule_commit
     asked = record {
-      are = p.over.draft.rows;
+      are = p.draft.rows;
       held = p.held.files;
-      blobs = by v.rows p.ruled.all;
+      blobs = each-of_map (λ (o : Object). knows_object new o.id ≡ true) body_blob v.rows (subst (Each (λ (o : Object). knows_object new o.id ≡ true)) (sym blobs-are)
+          (each-to_map (λ (o : Object). knows_object new o.id ≡ true) blob_of_row (files_among c.rows) (all-of (λ (row : TreeRow). knows_object new row.id ≡ true) (files_among c.rows) (λ row i.
+          knows-new s.known.git d c p.ruled.made new grown row.id
+          (each-in (λ row. IsTrue (knows_object (d.fresh ++ s.known.git) row.id)) (files_among c.rows) row p.ruled.made.all i)))));
     }
-      where
-        by : (rows : List Row) → Each (λ (row : TreeRow). IsTrue (knows_object (d.fresh ++ s.known.git) row.id)) (map tree_row_of rows) → Each (λ row. knows_object new (body_blob row).id ≡ true) rows
-        by [] a = tt
-        by (row ∷ rows) a = (knows-grown s.known.git new d.fresh (tree_row_of row).id grown.kept (Each-front (IsKnown new) d.fresh d.trees added) a.0, by rows a.1)
 
     -- ---- all came
 
-    module _ (are : AreKnown new) (bodies : Each (λ x. IsKnown new (body_blob x)) v.rows) (free : block_of_id blocks (commit_id c) ≡ None) where
-      all : HoldsAll c view new
-      unfolding rule_commit
-      all = record {
-        trees = subst (Each (IsKnown new)) trees-are (Each-rest (IsKnown new) d.fresh d.trees added);
-        blobs = by v.rows bodies;
-        itself = (Each-rest (IsKnown new) (d.fresh ++ d.trees) (own c ∷ []) grown.added).0;
-      }
+    module _ (before : AreKnown s.known.git) (are : AreKnown new) (bodies : Each (λ x. IsKnown new (body_blob x)) v.rows) where
+      blobs : Each (λ row. IsKnown new (blob_of_row row)) (files_among c.rows)
+      blobs = each-of_map (IsKnown new) blob_of_row (files_among c.rows) (subst (Each (IsKnown new)) blobs-are (each-to_map (IsKnown new) body_blob v.rows bodies))
+
+      holds : HoldsAll c view new
+      holds = all s.known.git d c p.ruled.made new grown before are blobs
+
+      -- the agreed changesets and this one
+      agreed-more : (next : State) → next.known.hg ≡ s.known.hg → next.known.git ≡ new → (x : Id) → (has_id s.agreed x ≡ true) ⊎ (x ≡ node) → IsAgreed next.known.hg next.known.git x
+      agreed-more next hg git x known =
+          subst (λ (os : List Object). IsAgreed next.known.hg os x) (sym git) (subst (λ (rs : List Revision). IsAgreed rs new x) (sym hg) (by known))
         where
-          by : (rows : List Row) → Each (λ x. IsKnown new (body_blob x)) rows → Each (λ row. IsKnown new (blob_of_row row)) (map tree_row_of rows)
-          by [] a = tt
-          by (row ∷ rows) a = (a.0, by rows a.1)
+          by : (has_id s.agreed x ≡ true) ⊎ (x ≡ node) → IsAgreed s.known.hg new x
+          by (inl old) = let a = p.state.agreed x old in record { view = a.view; held = a.held; blobs = blobs-on s.known.git new grown.kept (a.view).rows a.blobs }
+          by (inr q) = subst (IsAgreed s.known.hg new) (sym q) (record { view = v; held = p.held; blobs = bodies })
 
-      same-bodies : HaveSameBodies v.rows c.rows
-      unfolding rule_commit
-      same-bodies = by v.rows
-        where
-          by : (rows : List Row) → HaveSameBodies rows (map tree_row_of rows)
-          by [] = tt
-          by (row ∷ rows) = (refl, refl, by rows)
-
-      old-walks : (bs : List Block) → Each (λ b. walk_fault s.known.git ((b.commit).value).tree_id ≡ None) bs → Each (λ (c : CommitView). walk_fault s.known.git (c.value).tree_id ≡ None) (commits_in bs)
-      old-walks [] a = tt
-      old-walks (b ∷ bs) a = (a.0, old-walks bs a.1)
-
-      new-walks : AreKnown s.known.git → (bs : List Block) → Each (λ b. walk_fault s.known.git ((b.commit).value).tree_id ≡ None) bs → Each (λ b. walk_fault new ((b.commit).value).tree_id ≡ None) bs
-      new-walks before [] a = tt
-      new-walks before (b ∷ bs) a = (walk-on s.known.git new grown.kept before ((b.commit).value).tree_id a.0, new-walks before bs a.1)
-
-      pub pushed : AreKnown s.known.git → changeset_node v ≡ node → (id : Id) → id ≡ commit_id c → (next : State) → next.known.hg ≡ s.known.hg → next.known.git ≡ new → next.known.partners ≡ s.known.partners ++ (node, id) ∷ [] → next.nodes ≡ s.nodes ++ node ∷ [] → next.ids ≡ s.ids ++ id ∷ []
-          → AreAdded next.known.hg → ArePartners next.known.partners → CommitPushed s next blocks v
-      pushed before node_is id id_is next hg git partners nodes ids added one =
+      pub pushed : changeset_node v ≡ node → block_of_id blocks (commit_id c) ≡ None → list_any (has_id s.changesets) links ≡ false → (id : Id) → id ≡ commit_id c
+          → (ids : List Id) → ((x : Id) → has_id ids x ≡ true → (has_id s.agreed x ≡ true) ⊎ (x ≡ node))
+          → (next : State) → IsPushed (with_objects s new ids) next links node id → CommitPushed s next blocks b
+      pushed node_is free apart id id_is ids agreed next is =
           let held = p.state.held.held in
-          let more : HoldMore s.known.hg new blocks (block_of_changeset blocks v) = record {
+          let more : HoldMore s.known.hg new blocks b = record {
             changesets = held.changesets;
-            changeset = subst (λ (n : Id). IsChangesetHeld s.known.hg n v) (sym node_is) p.held;
-            commits = commits-on s.known.git new grown.kept before are (map commit_id (commits_in blocks)) (commits_in blocks) (old-walks blocks held.walks) held.commits;
-            commit = new-held c view new are all p.ruled.fits;
-            walks = new-walks before blocks held.walks;
-            walk = new-walk c view new are all p.ruled.fits;
-            bodies = same-bodies;
-            plain = refl;
+            parts = held-append s.known.hg b.links (v ∷ []) (subst (λ (ns : List Id). AreChangesetsHeld s.known.hg ns b.links) p.links_are p.links_held)
+                (subst (λ (n : Id). IsChangesetHeld s.known.hg n v) (sym node_is) p.held, tt);
+            commits = commits-on s.known.git new grown.kept before are (map commit_id (commits_in blocks)) (commits_in blocks) (old-walks s.known.git blocks held.walks) held.commits;
+            commit = new-held c view new are holds p.ruled.fits.rows;
+            walks = new-walks s.known.git new grown.kept before blocks held.walks;
+            walk = new-walk c view new are holds p.ruled.fits.rows;
+            no_link = p.no_link;
           } in
+          let m = has-more (with_objects s new ids) next b links node id is p.links_are (sym node_is) id_is (λ x i. agreed-more next is.hg is.git x (agreed x (sym (ap (λ (l : List Id). has_id l x) is.agreed) ∙ i))) in
+          let has : HasMore s next b = record { partners = m.partners; blocks = m.blocks; changesets = m.changesets; commits = m.commits; added = m.added; one = m.one; agreed = m.agreed } in
           record {
-            apart = new-apart c view new are all s.known.git blocks grown.older free;
-            state = state-more s next blocks (block_of_changeset blocks v) p.state (subst (λ (rs : List Revision). HoldMore rs next.known.git blocks (block_of_changeset blocks v)) (sym hg) (subst (λ (os : List Object). HoldMore s.known.hg os blocks (block_of_changeset blocks v)) (sym git) more))
-                (partners ∙ (λ i. s.known.partners ++ (sym node_is i, id_is i) ∷ [])) (nodes ∙ (λ i. s.nodes ++ sym node_is i ∷ [])) (ids ∙ (λ i. s.ids ++ id_is i ∷ [])) added one;
-            revisions = hg;
-            objects = subst (λ (os : List Object). HaveSame os (s.known.git ++ commit_objects c)) (sym git) (there, back);
+            apart = (λ i. new-apart c view new are holds s.known.git blocks grown.older free i || (sym (ap (list_any (has_id s.changesets)) p.links_are ∙ any-saved s.changesets blocks p.state.changesets b.links) ∙ apart) i);
+            state = state-more s next blocks b p.state (subst (λ (rs : List Revision). HoldMore rs next.known.git blocks b) (sym is.hg) (subst (λ (os : List Object). HoldMore s.known.hg os blocks b) (sym is.git) more)) has;
+            tags = is.tags;
+            names = is.names;
+            revisions = is.hg;
+            objects = subst (λ (os : List Object). HaveSame os (s.known.git ++ commit_objects c)) (sym is.git)
+                (among-all s.known.git d c p.ruled.made new grown, all-among s.known.git d c p.ruled.made new grown before are blobs);
           }
-        where
-          there : (x : Object) → In x new → In x (s.known.git ++ commit_objects c)
-          there x i = by (in-append x s.known.git parts (grown.only x i))
-            where
-              by : In x s.known.git ⊎ In x parts → In x (s.known.git ++ commit_objects c)
-              by (inl j) = in-left x s.known.git (commit_objects c) j
-              by (inr j) = in-right x s.known.git (commit_objects c) (inside x j)
-
-          back : (x : Object) → In x (s.known.git ++ commit_objects c) → In x new
-          back x i = by (in-append x s.known.git (commit_objects c) i)
-            where
-              by : In x s.known.git ⊎ In x (commit_objects c) → In x new
-              by (inl j) = grown.older x j
-              by (inr j) = found-in new x.id x (known-part c view new are all x j)

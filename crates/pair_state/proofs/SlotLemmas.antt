@@ -1,127 +1,107 @@
--- No two revisions of a changeset have one group and one node, so none is another with other parents or another text.
-use Rattle.std.proofs.Common.{◌≡◌, ◌⊎◌, Bool, true, false, true≢false, ◌&&◌, ◌||◌, List, [], ◌∷◌, ◌++◌, map, refl, sym, ap, subst, ◌∙◌, inl, inr}
+-- Revisions of which none was bad as it came: none is another with other parents or another text.
+use Rattle.std.proofs.Common.{◌≡◌, ◌⊎◌, Bool, true, false, not, ◌&&◌, ◌||◌, List, [], ◌∷◌, ◌++◌, Some, refl, sym, ap, subst, ◌∙◌, inl, inr}
 use Rattle.std.specs.Prelude.{bytes_eq, if◌then◌else◌}
 use Rattle.std.specs.List.{list_any}
 use Rattle.std.proofs.lemmas.Slice.Eq.{bytes_eq-Decides}
-use Rattle.text_model.specs.Lists.{In, rises}
-use Rattle.text_model.specs.Text.{Bytes, is_below}
-use Rattle.text_model.specs.Id.{is_null}
-use Rattle.text_model.proofs.OrderLemmas.{is_below-irreflexive}
+use Rattle.text_model.specs.Lists.{In}
+use Rattle.text_model.specs.Id.{Id, is_null}
 use Rattle.text_model.proofs.TestLemmas.{both}
-use Rattle.git_model.specs.Tree.{File}
-use Rattle.git_model.specs.Unfold.{FileRow}
-use Rattle.hg_model.specs.Revision.{Revision, Changesets, Manifests, FilesAt, same_group, same_revision, knows, known_after, is_otherwise}
-use Rattle.hg_store.proofs.KeyLemmas.{same_group-is}
-use Rattle.tree_shape.proofs.Elements.{in-left, in-append}
-use Rattle.tree_shape.proofs.FileSets.{later, rises-rest}
-use Rattle.view_model.specs.View.{Row, ChangesetView, IsChangesetView, ManifestParents, NoManifest, Over, changeset_node, paths_of}
-use Rattle.view_model.specs.Dump.{own_revision, manifest_revision, file_revision, revisions_of}
+use Rattle.hg_model.proofs.RevisionLemmas.{same_group-is}
+use Rattle.hg_model.specs.Revision.{Revision, Group, Changesets, Manifests, FilesAt, same_group, same_revision, same_parents, revision_of, knows, known_after, is_otherwise}
+use Rattle.tree_shape.proofs.Elements.{in-left, in-append, each-in}
 use Rattle.pair_state.specs.Came.{AreClean}
-use Rattle.pair_state.proofs.ChangesetHeld.{same-parents, or-parts}
-use Rattle.pair_state.proofs.CommitParts.{none-all, of-map}
+use Rattle.pair_state.specs.Push.{known_with_all}
+use Rattle.pair_state.proofs.ChangesetHeld.{CameAs, all-as, either-way, or-parts}
+use Rattle.pair_state.proofs.CommitParts.{none-all}
 use Rattle.pair_state.proofs.GrowthLemmas.{none-any}
-use Rattle.pair_state.proofs.ShapeLemmas.{in-map}
 
--- ---- rows in order are known by their paths
+self : (a : Id) → bytes_eq a a ≡ true
+self a = (bytes_eq-Decides a a).1 refl
 
-abbrev as_file : Row → FileRow
-as_file row = record { path = row.path; mode = File; id = [] }
+abbrev Pair : Id → Id → Id → Id → Type 0
+Pair p q p' q' = ((p ≡ p') × (q ≡ q')) ⊎ ((p ≡ q') × (q ≡ p'))
 
-paths-same : (rows : List Row) → map (λ (r : FileRow). r.path) (map as_file rows) ≡ paths_of rows
-paths-same [] = refl
-paths-same (row ∷ rows) = ap (λ (ps : List Bytes). row.path ∷ ps) (paths-same rows)
+pair-like : (p q x y u v : Id) → Pair p q u v → Pair x y u v → Pair p q x y
+pair-like p q x y u v (inl a) (inl b) = inl (a.0 ∙ sym b.0, a.1 ∙ sym b.1)
+pair-like p q x y u v (inl a) (inr b) = inr (a.0 ∙ sym b.1, a.1 ∙ sym b.0)
+pair-like p q x y u v (inr a) (inl b) = inr (a.0 ∙ sym b.1, a.1 ∙ sym b.0)
+pair-like p q x y u v (inr a) (inr b) = inl (a.0 ∙ sym b.0, a.1 ∙ sym b.1)
 
-one-row : (rows : List Row) → rises is_below (map (λ (r : FileRow). r.path) (map as_file rows)) ≡ true → (a b : Row) → In a rows → In b rows → a.path ≡ b.path → a ≡ b
-one-row [] up a b i j e = absurd i
-one-row (x ∷ rows) up a b (inl p) (inl q) e = p ∙ sym q
-one-row (x ∷ rows) up a b (inl p) (inr j) e = absurd (true≢false (sym (later (as_file x) (map as_file rows) (as_file b) up (in-map as_file b rows j)) ∙ ap (λ (t : Bytes). is_below t b.path) (sym (ap (λ (r : Row). r.path) p) ∙ e) ∙ is_below-irreflexive b.path))
-one-row (x ∷ rows) up a b (inr i) (inl q) e = absurd (true≢false (sym (later (as_file x) (map as_file rows) (as_file a) up (in-map as_file a rows i)) ∙ ap (λ (t : Bytes). is_below t a.path) (sym (ap (λ (r : Row). r.path) q) ∙ sym e) ∙ is_below-irreflexive a.path))
-one-row (x ∷ rows) up a b (inr i) (inr j) e = one-row rows (rises-rest (as_file x) (map as_file rows) up) a b i j e
+pair-is : (p q x y : Id) → Pair p q x y → ((bytes_eq p x && bytes_eq q y) || (bytes_eq p y && bytes_eq q x)) ≡ true
+pair-is p q x y (inl a) = rw ((bytes_eq-Decides p x).1 a.0, (bytes_eq-Decides q y).1 a.1) refl
+pair-is p q x y (inr a) = rw ((bytes_eq-Decides p y).1 a.0, (bytes_eq-Decides q x).1 a.1) (or-true (bytes_eq p x && bytes_eq q y))
+  where
+    or-true : (t : Bool) → (t || true) ≡ true
+    or-true true = refl
+    or-true false = refl
 
-module _ (k : ChangesetView) (view : IsChangesetView k) where
-  abbrev files : List Revision
-  files = map (file_revision (changeset_node k)) k.rows
+-- both have the parents of one
+parents-like : (g : Group) (p q x y u v : Id) → same_parents g p q u v ≡ true → same_parents g x y u v ≡ true → same_parents g p q x y ≡ true
+parents-like Changesets p q x y u v a b =
+    let m = both (bytes_eq p u) (bytes_eq q v) a in
+    let n = both (bytes_eq x u) (bytes_eq y v) b in
+    rw ((bytes_eq-Decides p x).1 ((bytes_eq-Decides p u).0 m.0 ∙ sym ((bytes_eq-Decides x u).0 n.0)), (bytes_eq-Decides q y).1 ((bytes_eq-Decides q v).0 m.1 ∙ sym ((bytes_eq-Decides y v).0 n.1))) refl
+parents-like Manifests p q x y u v a b = pair-is p q x y (pair-like p q x y u v (either-way p q u v a) (either-way x y u v b))
+parents-like (FilesAt path) p q x y u v a b = pair-is p q x y (pair-like p q x y u v (either-way p q u v a) (either-way x y u v b))
 
-  data Slot (r : Revision) : Type 0 where
-    own_slot : r ≡ own_revision k → Slot r
-    manifest_slot : In r (manifest_revision k k.manifest) → Slot r
-    file_slot : (row : Row) → In row k.rows → r ≡ file_revision (changeset_node k) row → Slot r
+module _ (known rs : List Revision) (clean : AreClean known rs) where
+  came : (r : Revision) → In r rs → CameAs (known_with_all known rs) r
+  came r i = each-in (CameAs (known_with_all known rs)) rs r (all-as known rs clean) i
 
-  slot : (r : Revision) → In r (own_revision k ∷ manifest_revision k k.manifest ++ files) → Slot r
-  slot r (inl q) = own_slot q
-  slot r (inr i) = by (in-append r (manifest_revision k k.manifest) files i)
+  none-other : (r x : Revision) → In r rs → In x rs → is_otherwise r x ≡ false
+  none-other r x i j = by (same_revision r x) refl
     where
-      by : In r (manifest_revision k k.manifest) ⊎ In r files → Slot r
-      by (inl j) = manifest_slot j
-      by (inr j) = let m = of-map (file_revision (changeset_node k)) r k.rows j in file_slot m.0 m.1 m.2
+      a : CameAs (known_with_all known rs) r
+      a = came r i
 
-  manifest-group : (m : ManifestParents) (r : Revision) → In r (manifest_revision k m) → r.group ≡ Manifests
-  manifest-group NoManifest r i = absurd i
-  manifest-group (Over p q) r (inl e) = ap (λ (x : Revision). x.group) e
-  manifest-group (Over p q) r (inr i) = absurd i
+      b : CameAs (known_with_all known rs) x
+      b = came x j
 
-  manifest-one : (m : ManifestParents) (r x : Revision) → In r (manifest_revision k m) → In x (manifest_revision k m) → r ≡ x
-  manifest-one NoManifest r x i j = absurd i
-  manifest-one (Over p q) r x (inl e) (inl f) = e ∙ sym f
-  manifest-one (Over p q) r x (inl e) (inr j) = absurd j
-  manifest-one (Over p q) r x (inr i) j = absurd i
+      found : r.group ≡ x.group → r.node ≡ x.node → a.found ≡ b.found
+      found g n = some_is (sym a.at ∙ (λ i. revision_of (known_with_all known rs) (g i) (n i)) ∙ b.at)
+        where
+          some_is : {y z : Revision} → Some y ≡ Some z → y ≡ z
+          some_is e = cc
 
-  apart-groups : (path : Bytes) → (Changesets ≡ Manifests → ⊥) × (Changesets ≡ FilesAt path → ⊥) × (Manifests ≡ FilesAt path → ⊥)
-  apart-groups path = (λ e. cc, λ e. cc, λ e. cc)
+      like : r.group ≡ x.group → r.node ≡ x.node → (bytes_eq r.text x.text && same_parents r.group r.p r.q x.p x.q) ≡ true
+      like g n =
+          let f = found g n in
+          let m = both (bytes_eq r.text a.found.text) (same_parents r.group r.p r.q a.found.p a.found.q) a.like in
+          let o = both (bytes_eq x.text b.found.text) (same_parents x.group x.p x.q b.found.p b.found.q) b.like in
+          let text = (bytes_eq-Decides r.text x.text).1 ((bytes_eq-Decides r.text a.found.text).0 m.0 ∙ ap (λ (y : Revision). y.text) f ∙ sym ((bytes_eq-Decides x.text b.found.text).0 o.0)) in
+          let second = (λ k. same_parents (g k) x.p x.q (f k).p (f k).q) ∙ o.1 in
+          rw (text, parents-like r.group r.p r.q x.p x.q a.found.p a.found.q m.1 second) refl
 
-  path-of : (a b : Bytes) → FilesAt a ≡ FilesAt b → a ≡ b
-  path-of a b e = cc
-
-  one-slot : (r x : Revision) → Slot r → Slot x → r.group ≡ x.group → r ≡ x
-  one-slot r x (own_slot e) (own_slot f) g = e ∙ sym f
-  one-slot r x (own_slot e) (manifest_slot j) g = absurd ((apart-groups []).0 (sym (ap (λ (y : Revision). y.group) e) ∙ g ∙ manifest-group k.manifest x j))
-  one-slot r x (own_slot e) (file_slot row j f) g = absurd ((apart-groups row.path).1 (sym (ap (λ (y : Revision). y.group) e) ∙ g ∙ ap (λ (y : Revision). y.group) f))
-  one-slot r x (manifest_slot i) (own_slot f) g = absurd ((apart-groups []).0 (sym (sym (manifest-group k.manifest r i) ∙ g ∙ ap (λ (y : Revision). y.group) f)))
-  one-slot r x (manifest_slot i) (manifest_slot j) g = manifest-one k.manifest r x i j
-  one-slot r x (manifest_slot i) (file_slot row j f) g = absurd ((apart-groups row.path).2 (sym (manifest-group k.manifest r i) ∙ g ∙ ap (λ (y : Revision). y.group) f))
-  one-slot r x (file_slot row i e) (own_slot f) g = absurd ((apart-groups row.path).1 (sym (sym (ap (λ (y : Revision). y.group) e) ∙ g ∙ ap (λ (y : Revision). y.group) f)))
-  one-slot r x (file_slot row i e) (manifest_slot j) g = absurd ((apart-groups row.path).2 (sym (sym (ap (λ (y : Revision). y.group) e) ∙ g ∙ manifest-group k.manifest x j)))
-  one-slot r x (file_slot row i e) (file_slot row2 j f) g =
-      let path = path-of row.path row2.path (sym (ap (λ (y : Revision). y.group) e) ∙ g ∙ ap (λ (y : Revision). y.group) f) in
-      e ∙ ap (file_revision (changeset_node k)) (one-row k.rows (ap (rises is_below) (paths-same k.rows) ∙ view.in_order) row row2 i j path) ∙ sym f
-
-  not-itself : (r : Revision) → is_otherwise r r ≡ false
-  not-itself r = rw ((bytes_eq-Decides r.text r.text).1 refl, same-parents r.group r.p r.q) (and-false (same_revision r r))
-    where
-      and-false : (t : Bool) → (t && false) ≡ false
-      and-false true = refl
-      and-false false = refl
-
-  none-other : (r x : Revision) → Slot r → Slot x → is_otherwise r x ≡ false
-  none-other r x s t = by (same_revision r x) refl
-    where
-      by : (b : Bool) → same_revision r x ≡ b → is_otherwise r x ≡ false
+      by : (t : Bool) → same_revision r x ≡ t → is_otherwise r x ≡ false
       by false e = rw e refl
-      by true e = subst (λ (y : Revision). is_otherwise r y ≡ false) (one-slot r x s t (same_group-is r.group x.group (both (same_group r.group x.group) (bytes_eq r.node x.node) e).0)) (not-itself r)
+      by true e =
+          let parts = both (same_group r.group x.group) (bytes_eq r.node x.node) e in
+          let l = like (same_group-is r.group x.group parts.0) ((bytes_eq-Decides r.node x.node).0 parts.1) in
+          ap (λ (t : Bool). same_revision r x && not t) l ∙ and-false (same_revision r x)
+        where
+          and-false : (t : Bool) → (t && false) ≡ false
+          and-false true = refl
+          and-false false = refl
 
-  after-in : (known : List Revision) (r x : Revision) → In x known → In x (known_after known r)
-  after-in known r x i = by (knows known r.group r.node)
-    where
-      by : (t : Bool) → In x (if t then known else known ++ r ∷ [])
-      by true = i
-      by false = in-left x known (r ∷ []) i
+after-in : (known : List Revision) (r x : Revision) → In x known → In x (known_after known r)
+after-in known r x i = by (knows known r.group r.node)
+  where
+    by : (t : Bool) → In x (if t then known else known ++ r ∷ [])
+    by true = i
+    by false = in-left x known (r ∷ []) i
 
-  clean-at : (known rs : List Revision) → AreClean known rs → (r : Revision) → In r rs → (is_null r.node ≡ false) × ((x : Revision) → In x known → is_otherwise r x ≡ false)
-  clean-at known [] clean r i = absurd i
-  clean-at known (y ∷ rs) clean r (inl q) =
-      let parts = or-parts (is_null y.node) (list_any (is_otherwise y) known) clean.0 in
-      subst (λ (z : Revision). (is_null z.node ≡ false) × ((x : Revision) → In x known → is_otherwise z x ≡ false)) (sym q) (parts.0, λ x j. none-any (is_otherwise y) known x parts.1 j)
-  clean-at known (y ∷ rs) clean r (inr i) = let c = clean-at (known_after known y) rs clean.1 r i in (c.0, λ x j. c.1 x (after-in known y x j))
+clean-at : (known rs : List Revision) → AreClean known rs → (r : Revision) → In r rs → (is_null r.node ≡ false) × ((x : Revision) → In x known → is_otherwise r x ≡ false)
+clean-at known [] clean r i = absurd i
+clean-at known (y ∷ rs) clean r (inl q) =
+    let parts = or-parts (is_null y.node) (list_any (is_otherwise y) known) clean.0 in
+    subst (λ (z : Revision). (is_null z.node ≡ false) × ((x : Revision) → In x known → is_otherwise z x ≡ false)) (sym q) (parts.0, λ x j. none-any (is_otherwise y) known x parts.1 j)
+clean-at known (y ∷ rs) clean r (inr i) = let c = clean-at (known_after known y) rs clean.1 r i in (c.0, λ x j. c.1 x (after-in known y x j))
 
-  pub none-bad : (known : List Revision) → AreClean known (revisions_of k) → list_any (λ r. is_null r.node || list_any (is_otherwise r) (known ++ revisions_of k)) (revisions_of k) ≡ false
-  unfolding revisions_of
-  none-bad known clean = none-all (λ r. is_null r.node || list_any (is_otherwise r) (known ++ revs)) revs (λ r i.
-      let c = clean-at known revs clean r i in
-      rw (c.0, none-all (is_otherwise r) (known ++ revs) (λ x j. by r i c.1 x (in-append x known revs j))) refl)
-    where
-      revs : List Revision
-      revs = own_revision k ∷ manifest_revision k k.manifest ++ files
-
-      by : (r : Revision) → In r revs → ((x : Revision) → In x known → is_otherwise r x ≡ false) → (x : Revision) → In x known ⊎ In x revs → is_otherwise r x ≡ false
-      by r i clean x (inl j) = clean x j
-      by r i clean x (inr j) = none-other r x (slot r i) (slot x j)
+pub none-bad : (known rs : List Revision) → AreClean known rs → list_any (λ r. is_null r.node || list_any (is_otherwise r) (known ++ rs)) rs ≡ false
+none-bad known rs clean = none-all (λ r. is_null r.node || list_any (is_otherwise r) (known ++ rs)) rs (λ r i.
+    let c = clean-at known rs clean r i in
+    rw (c.0, none-all (is_otherwise r) (known ++ rs) (λ x j. by r i c.1 x (in-append x known rs j))) refl)
+  where
+    by : (r : Revision) → In r rs → ((x : Revision) → In x known → is_otherwise r x ≡ false) → (x : Revision) → In x known ⊎ In x rs → is_otherwise r x ≡ false
+    by r i clean_r x (inl j) = clean_r x j
+    by r i clean_r x (inr j) = none-other known rs clean r x i j

@@ -1,5 +1,5 @@
 -- The trees of files have the texts of trees.
-use Rattle.std.proofs.Common.{◌≡◌, ◌≢◌, ◌≤◌, ℕ, zero, suc, true, false, List, [], ◌∷◌, ◌++◌, length, take, drop, map, Option, Some, None, refl, sym, ap, subst, ◌∙◌, inl, inr, arith}
+use Rattle.std.proofs.Common.{◌≡◌, ◌≢◌, ◌≤◌, ℕ, zero, suc, Bool, true, false, List, [], ◌∷◌, ◌++◌, length, take, drop, map, Option, Some, None, refl, sym, ap, subst, ◌∙◌, inl, inr, arith}
 use Rattle.std.specs.Prelude.{bytes_eq, IsTrue}
 use Rattle.std.specs.List.{list_any, prefix_len}
 use Rattle.std.proofs.lemmas.List.{take-append-drop, length-drop}
@@ -11,18 +11,20 @@ use Rattle.text_model.specs.Path.{is_fit_path, is_fit_name}
 use Rattle.text_model.proofs.ByteLemmas.{IsBytes-front, IsBytes-rest}
 use Rattle.text_model.proofs.EachLemmas.{Each-append, Each-front, Each-rest}
 use Rattle.text_model.proofs.LackLemmas.{has_byte-lacks}
-use Rattle.git_model.specs.Tree.{TreeEntry, IsTree, tree_text, has_distinct}
+use Rattle.git_model.specs.Tree.{is_directory, TreeEntry, IsTree, tree_text, has_distinct}
 use Rattle.git_model.specs.Object.{Object, object_of, tree_name}
-use Rattle.git_model.specs.Unfold.{FileRow}
+use Rattle.git_model.specs.Unfold.{FileRow, by_walk, is_met_before}
 use Rattle.git_model.specs.Shape.{Leaf, leaf_of, first_names, first_clash, trees_of}
 use Rattle.git_model.proofs.TreeTextLemmas.{tree_fault-text}
 use Rattle.tree_shape.specs.Sets.{IsFileRow, IsFiles}
 use Rattle.tree_shape.specs.Shapes.{entry_of, entries_in, trees_in, trees_of_rows, Good, is_in}
-use Rattle.tree_shape.proofs.FileSets.{good-files, shorts-none}
+use Rattle.tree_shape.proofs.Elements.{each-in, each-from}
+use Rattle.tree_shape.proofs.WalkOrder.{walk-good, walk-trees}
+use Rattle.git_model.proofs.SortLemmas.{of-order}
 use Rattle.tree_shape.proofs.FitPieces.{fit-pieces, fit-name}
 use Rattle.tree_shape.proofs.IdLemmas.{IsId-object_id}
 use Rattle.tree_shape.proofs.Leaves.{NotFirst, entry_of-name, first_names-other, other}
-use Rattle.tree_shape.proofs.PutRows.{entries-dir, trees-dir, entries-file, trees-file}
+use Rattle.tree_shape.proofs.PutRows.{entries-dir, trees-dir, entries-file, trees-file, trees-empty}
 use Rattle.tree_shape.proofs.Rows.{deep, flat, is-in, in-is, Splits, file-one, dir-one, good-rest, good-front, shorter, shorter-path, shorter-good}
 use Rattle.tree_shape.proofs.Sorted.{entries-rise, trees-are}
 use Rattle.tree_shape.proofs.Turns.{prefix-all, prefix-stops, none-depth}
@@ -62,7 +64,7 @@ shorter-row name row i f =
     record {
       fit = ap is_fit_path (shorter-path name row u) ∙ pieces.second;
       bytes = subst IsBytes (sym (shorter-path name row u)) (IsBytes-rest name (47 ∷ u.0) (subst IsBytes u.1.is f.bytes)).1;
-      file = f.file;
+      empty = f.empty;
       id = f.id;
     }
 
@@ -105,16 +107,20 @@ record Part (depth : ℕ) (rows : List FileRow) : Type 0 where
   distinct : has_distinct (names (entries_in depth (leaves rows))) ≡ true
   trees : Each IsTreeOf (trees_in depth (leaves rows))
 
-file-part : (depth : ℕ) (a : FileRow) (rows : List FileRow) → Good (a ∷ rows) → IsFileRow a → cut_of 47 a.path ≡ None → Part depth rows → Part depth (a ∷ rows)
-file-part depth a rows g f e p =
+file-part : (depth : ℕ) → AreTrees depth → (a : FileRow) (rows : List FileRow) → Good (a ∷ rows) → IsFileRow a → cut_of 47 a.path ≡ None → Part depth rows → Part depth (a ∷ rows)
+file-part depth level a rows g f e p =
     let fl = flat a.path e in
     let entry : TreeEntry = record { mode = a.mode; name = a.path; id = a.id } in
     let same = entries-file depth a rows g e in
     record {
       each = subst (Each IsEntry) (sym same) ((fit-name a.path f.fit (has_byte-lacks 47 a.path fl.plain), f.bytes, f.id), p.each);
       distinct = ap (λ (es : List TreeEntry). has_distinct (names es)) same ∙ distinct-more depth a.path (leaves rows) (file-one a rows g e).others p.distinct;
-      trees = subst (Each IsTreeOf) (sym (trees-file depth a rows g e)) p.trees;
+      trees = by (is_directory a.mode) refl;
     }
+  where
+    by : (t : Bool) → is_directory a.mode ≡ t → Each IsTreeOf (trees_in depth (leaves (a ∷ rows)))
+    by false d = subst (Each IsTreeOf) (sym (trees-file depth a rows g e d)) p.trees
+    by true d = subst (Each IsTreeOf) (sym (trees-empty depth a rows g e d)) (Each-append IsTreeOf (trees_of_rows depth []) (trees_in depth (leaves rows)) (level [] tt tt) p.trees)
 
 dir-part : (depth : ℕ) → AreTrees depth → (name after : Bytes) (a : FileRow) (group rest : List FileRow) → Good (a ∷ (group ++ rest)) → Splits name a group rest → cut_of 47 a.path ≡ Some (name, after) → Each IsFileRow (a ∷ group)
     → Part depth rest → Part depth (a ∷ (group ++ rest))
@@ -138,7 +144,7 @@ part depth level zero (a ∷ rows) le g f = absurd (omega (arith, le))
 part depth level (suc fuel) (a ∷ rows) le g f = by (λ rest shorter g2 f2. part depth level fuel rest shorter g2 f2) (cut_of 47 a.path) refl
   where
     by : ((rest : List FileRow) → length rest ≤ fuel → Good rest → Each IsFileRow rest → Part depth rest) → (o : Option (Bytes × Bytes)) → cut_of 47 a.path ≡ o → Part depth (a ∷ rows)
-    by rec None e = file-part depth a rows g f.0 e (rec rows (omega (arith, le)) g.2 f.1)
+    by rec None e = file-part depth level a rows g f.0 e (rec rows (omega (arith, le)) g.2 f.1)
     by rec (Some q) e =
         let w = deep a.path q.0 q.1 e in
         let c = cut-group q.0 a rows (in-is q.0 q.1 a w.plain w.is) in
@@ -166,4 +172,5 @@ each-right (o ∷ os) h = (is-right o h.0, each-right os h.1)
 
 pub trees-right : (rows : List FileRow) → IsFiles rows → first_clash rows ≡ None → Each IsRight (trees_of rows)
 unfolding trees_of
-trees-right rows files apart = each-right (trees_of rows) (are-trees 257 rows (subst Good (shorts-none rows) (good-files rows files apart)) files.each)
+trees-right rows files apart = each-right (trees_of rows) (subst (Each IsTreeOf) (walk-trees rows files) (are-trees 257 (by_walk rows) (walk-good rows files apart)
+    (each-from IsFileRow (by_walk rows) (λ x i. each-in IsFileRow rows x files.each (of-order is_met_before x rows i)))))

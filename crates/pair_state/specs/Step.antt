@@ -1,33 +1,32 @@
 -- One pair more, and files whose bodies are asked of a store.
-use Rattle.std.specs.Prelude.{◌≡◌, true, false, Some, List, ◌++◌, ◌∷◌, [], map}
+use Rattle.std.specs.Prelude.{◌≡◌, true, List, length, ◌++◌, ◌∷◌, [], map, Some, IsTrue}
 use Rattle.text_model.specs.Lists.{Each, In}
-use Rattle.text_model.specs.Id.{Id, is_null}
+use Rattle.text_model.specs.Id.{Id, has_id}
 use Rattle.text_model.specs.Text.{Bytes}
 use Rattle.hg_model.specs.Manifest.{ManifestEntry, entry_text}
 use Rattle.hg_model.specs.Revision.{Revision}
 use Rattle.git_model.specs.Object.{Object, object_at, knows_object, is_other_content}
 use Rattle.view_model.specs.View.{Row, ChangesetView, entry_of_row}
 use Rattle.view_model.specs.Held.{IsFileHeld, IsChangesetHeld}
-use Rattle.pair_model.specs.Rule.{tree_row_of}
 use Rattle.pair_known.specs.Rows.{RowValue, row_value}
-use Rattle.pair_known.specs.Ruled.{blob_of_row}
 use Rattle.hg_store.specs.Known.{AreAdded}
 use Rattle.pair_known.specs.Partners.{ArePartners}
+use Rattle.pair_state.specs.Blocks.{value_of, body_blob}
 use Rattle.pair_state.specs.declared.state.State.{State}
 
--- the changeset and the commit stand behind the others, and the stores are as they were
-pub record IsPushed (old new : State) (node id : Id) : Type 0 where
+-- the links, the changeset and the commit stand behind the others, and all else is as it was
+pub record IsPushed (old new : State) (links : List Id) (node id : Id) : Type 0 where
   pub hg : new.known.hg ≡ old.known.hg
   pub git : new.known.git ≡ old.known.git
   pub partners : new.known.partners ≡ old.known.partners ++ (node, id) ∷ []
-  pub nodes : new.nodes ≡ old.nodes ++ node ∷ []
-  pub ids : new.ids ≡ old.ids ++ id ∷ []
+  pub blocks : map value_of new.blocks ≡ map value_of old.blocks ++ record { node = node; commit = id; links = length links } ∷ []
+  pub changesets : new.changesets ≡ old.changesets ++ (links ++ node ∷ [])
+  pub commits : new.commits ≡ old.commits ++ id ∷ []
+  pub agreed : new.agreed ≡ old.agreed
+  pub tags : new.tags ≡ old.tags
+  pub names : new.names ≡ old.names
   pub added : AreAdded new.known.hg
   pub one : ArePartners new.known.partners
-
--- the blob that a file's body is
-abbrev pub body_blob : Row → Object
-body_blob row = blob_of_row (tree_row_of row)
 
 -- the files are these, their revisions are known, and so are the ids of their blobs
 pub record AreAsked (hg : List Revision) (git : List Object) (values : List RowValue) (rows : List Row) : Type 0 where
@@ -47,6 +46,7 @@ line_of v = entry_text (record { path = v.path; node = v.node; flag = v.flag })
 abbrev pub AreBlobs : List Revision → List Object → List ManifestEntry → Type 0
 AreBlobs hg git entries = Each (λ e. (y : Row) × (e ≡ entry_of_row y) × IsFileHeld hg y × (object_at git (body_blob y).id ≡ Some (body_blob y))) entries
 
--- the files of a parent, where there is one, have their bodies in the store
-abbrev pub HasParentBlobs : List Revision → List Object → Id → Type 0
-HasParentBlobs hg git parent = is_null parent ≡ false → (entries : List ManifestEntry) → ((w : ChangesetView) → IsChangesetHeld hg parent w → map entry_of_row w.rows ≡ entries) → AreBlobs hg git entries
+-- the lines of an agreed changeset's manifest
+abbrev pub HaveBlobs : List Revision → List Object → List Id → Type 0
+HaveBlobs hg git agreed = (node : Id) → IsTrue (has_id agreed node) → (entries : List ManifestEntry)
+    → ((w : ChangesetView) → IsChangesetHeld hg node w → map entry_of_row w.rows ≡ entries) → AreBlobs hg git entries

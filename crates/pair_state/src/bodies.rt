@@ -1,53 +1,54 @@
 // The bodies of a changeset's files, beside the blobs of a store.
 ghost use Rattle.std.specs.Prelude.{◌≡◌, ◌&&◌, true, false, [], ◌∷◌, List, IfSome, bytes_eq, map};
-ghost use Rattle.text_model.specs.Id.{blob, is_null, same_kind};
+ghost use Rattle.text_model.specs.Id.{blob, has_id, same_kind};
 ghost use Rattle.bridge_text.specs.Kinds.{object_kind};
 ghost use Rattle.text_model.specs.Lists.{Each, SomeOf};
 ghost use Rattle.tree_shape.specs.Laws.{IsKnown};
 ghost use Rattle.view_model.specs.View.{ChangesetView, Row, entry_of_row};
 ghost use Rattle.view_model.specs.Held.{IsChangesetHeld};
-ghost use Rattle.pair_state.specs.Step.{body_blob, AreAsked, AreBlobs, HasParentBlobs, IsElse};
+ghost use Rattle.pair_state.specs.Blocks.{body_blob};
+ghost use Rattle.pair_state.specs.Step.{AreAsked, AreBlobs, HaveBlobs, IsElse};
 
-use bridge_text::{Id, Kind};
+use bridge_text::{Id, IdSet, Kind};
 use git_object::Objects;
 use hg_filelog::{split, splits_exactly};
 use hg_manifest::Manifest;
 use hg_store::HgStore;
 use pair_known::{Cursor, HgDraft, HgRow, HgRows, Known};
 
-// Whether the blob of each file of a changeset is its body. A file with the revision that a parent has needs no look at its
-// body: that of the parent is a blob of the store.
-pub fn have_bodies(known: &Known, h: &HgDraft) -> bool
+// Whether the blob of each file of a changeset is its body. A file with the revision that an agreed parent has needs no look at
+// its body: that of the parent is a blob of the store.
+pub fn have_bodies(known: &Known, agreed: &IdSet, h: &HgDraft) -> bool
     requires rows { (xs : List Row) × AreAsked known.now.hg known.now.git h.now.rows xs }
-    requires first { HasParentBlobs known.now.hg known.now.git h.now.p1 }
-    requires second { HasParentBlobs known.now.hg known.now.git h.now.p2 }
+    requires agreed { HaveBlobs known.now.hg known.now.git agreed.now }
     ensures yes { result ≡ true → (xs : List Row) → AreAsked known.now.hg known.now.git h.now.rows xs → Each (λ x. IsKnown known.now.git (body_blob x)) xs }
     ensures otherwise { result ≡ false → (xs : List Row) → AreAsked known.now.hg known.now.git h.now.rows xs → SomeOf xs (λ x. IsElse known.now.git (body_blob x)) }
 {
-    let first = walk_of(&known.hg, &h.p1);
-    let second = walk_of(&known.hg, &h.p2);
+    let first = walk_of(&known.hg, agreed, &h.p1);
+    let second = walk_of(&known.hg, agreed, &h.p2);
     have_blobs(known, &h.rows, first, second)
 }
 
-// A walk through the manifest of a parent; none for the null id.
-fn walk_of<'a>(hg: &'a HgStore, parent: &Id) -> Option<Cursor<'a>>
-    ensures { IfSome result (λ entries. (is_null parent.now ≡ false) × ((w : ChangesetView) → IsChangesetHeld hg.now parent.now w → map entry_of_row w.rows ≡ entries)) }
+// A walk through the manifest of a parent, where the parent is agreed.
+fn walk_of<'a>(hg: &'a HgStore, agreed: &IdSet, parent: &Id) -> Option<Cursor<'a>>
+    ensures { IfSome result (λ entries. (has_id agreed.now parent.now ≡ true)
+        × ((w : ChangesetView) → IsChangesetHeld hg.now parent.now w → map entry_of_row w.rows ≡ entries)) }
 {
+    if !agreed.contains(parent) {
+        return None;
+    }
     match manifest_of(hg, parent) {
         Some(manifest) => Some(Cursor::new(manifest)),
         None => None,
     }
 }
 
-// The manifest of a parent; none for the null id.
-fn manifest_of<'a>(hg: &'a HgStore, parent: &Id) -> Option<&'a Manifest>
-    ensures { IfSome result (λ m. (is_null parent.now ≡ false) × ((w : ChangesetView) → IsChangesetHeld hg.now parent.now w → map entry_of_row w.rows ≡ m.now)) }
+// The manifest of a changeset.
+fn manifest_of<'a>(hg: &'a HgStore, node: &Id) -> Option<&'a Manifest>
+    ensures { IfSome result (λ m. (w : ChangesetView) → IsChangesetHeld hg.now node.now w → map entry_of_row w.rows ≡ m.now) }
 {
     hg.check();
-    if parent.is_null() {
-        return None;
-    }
-    let Some((_, _, changeset)) = hg.changeset(parent) else {
+    let Some((_, _, changeset)) = hg.changeset(node) else {
         return None;
     };
     hg.manifest(&changeset.manifest)

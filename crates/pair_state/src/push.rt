@@ -1,140 +1,217 @@
 // Blocks that come behind the others.
-ghost use Rattle.std.specs.Prelude.{◌≡◌, ◌++◌, [], ◌∷◌, List, Err, None, IfOk, OnOk, IsTrue};
+ghost use Rattle.std.specs.Prelude.{◌≡◌, ◌≤◌, ◌⊎◌, ◌++◌, [], ◌∷◌, true, false, List, Err, None, IfOk, OnOk, IsTrue, length};
 ghost use Rattle.text_model.specs.Lists.{Each};
 ghost use Rattle.text_model.specs.Id as kinds;
-ghost use Rattle.text_model.specs.Id.{object_id};
-ghost use Rattle.git_model.specs.Object.{content_fault};
+ghost use Rattle.text_model.specs.Id.{has_id, object_id};
+ghost use Rattle.git_model.specs.Object.{content_fault, knows_object};
 ghost use Rattle.git_model.specs.Commit.{commit_text};
-ghost use Rattle.view_model.specs.View.{ChangesetView, CommitView};
-ghost use Rattle.pair_model.specs.Block.{Block};
-ghost use Rattle.pair_model.specs.Rule.{rule_commit};
-ghost use Rattle.pair_model.specs.Plain.{changeset_by_rule};
-ghost use Rattle.pair_model.specs.Collision.{commit_collides, changeset_collides};
+ghost use Rattle.pair_model.specs.Block as model;
+ghost use Rattle.partner_model.specs.Clash.{commit_side_collides, changeset_side_collides};
 ghost use Rattle.pair_known.specs.Partners.{git_at, hg_at};
 ghost use Rattle.pair_state.specs.Growth.{IsRight, HasGrown, Clash};
-ghost use Rattle.pair_state.specs.Push.{PushesCommit, CommitPushed, PushesChangeset, ChangesetPushed};
-ghost use Rattle.hg_model.specs.Changeset.{changeset_text};
-ghost use Rattle.hg_changeset.specs.Values.{changeset_value};
-ghost use Rattle.pair_known.specs.declared.git_draft.GitDraft.{GitDraft};
+ghost use Rattle.pair_state.specs.Push.{PushesCommit, CommitPushed, PushesChangeset, ChangesetPushed, PushesBlock, BlockPushed, block_collides};
 ghost use Rattle.pair_state.specs.Step.{IsPushed};
 ghost use Rattle.pair_state.specs.declared.fault.PushFault.TheVariants.{Collision};
 
+use crate::blocks::Block;
 use crate::bodies::have_bodies;
 use crate::fault::PushFault;
+use crate::node_list::NodeList;
 use crate::objects::{add_blobs, add_object, add_trees};
-use crate::revisions::add_changeset;
+use crate::parts::add_parts;
 use crate::state::State;
-use bridge_text::{Id, Kind, NoMemory, node_id, object_id};
-use git_object::Commit;
+use bridge_text::{Id, IdList, IdSet, Kind, NoMemory, object_id};
+use git_object::{Commit, Objects};
 use git_store::GitStore;
 use git_view::commits_are_held;
-use hg_changeset::Changeset;
 use hg_view::views_are_held;
-use pair_known::{GitDraft, HgDraft};
+use pair_known::{GitDraft, HgBlock, HgDraft};
 use std::alloc::Global;
 
 impl State {
-    /// Adds the block of a changeset that is held and stands in none, with the commit that the rule gives for it.
-    /// Collision comes exactly where an object of the commit is known with another content, or is another part of the commit,
-    /// or where the commit stands in a block. After a fault the state is given up.
-    pub fn push_commit(
-        self,
-        alloc: Global,
-        node: Id,
-        h: &HgDraft,
-        commit: GitDraft,
-    ) -> Result<State, PushFault>
-        requires block { (blocks : List Block) × (v : ChangesetView) × PushesCommit self h.now commit node blocks v }
-        ensures ok { IfOk result (λ next. (blocks : List Block) (v : ChangesetView) → PushesCommit self h.now commit node blocks v → CommitPushed self next blocks v) }
-        ensures collision { result ≡ Err Collision → (blocks : List Block) (v : ChangesetView) → PushesCommit self h.now commit node blocks v
-            → IsTrue (commit_collides self.known.git blocks (rule_commit blocks v)) }
+    /// Adds a block at the end, either side of which may be stored already. Collision comes exactly where a revision or an object
+    /// of the block is known otherwise or is another part of it, where its changeset, a link or its commit stands in a block, or
+    /// where the commit is new and a body of the changeset has the id of a blob with another content. After a fault the state is
+    /// given up.
+    pub fn push(self, block: &HgBlock, commit: GitDraft) -> Result<State, PushFault>
+        requires block { (blocks : List model.Block) × (b : model.Block) × PushesBlock self block.now commit blocks b }
+        ensures ok { IfOk result (λ next. (blocks : List model.Block) (b : model.Block) → PushesBlock self block.now commit blocks b → BlockPushed self next blocks b) }
+        ensures collision { result ≡ Err Collision → (blocks : List model.Block) (b : model.Block) → PushesBlock self block.now commit blocks b
+            → IsTrue (block_collides self.known.hg self.known.git blocks b) }
     {
         let mut state = self;
-        state.put_commit(alloc, node, h, commit)?;
+        state.put(block, commit)?;
         Ok(state)
     }
 
-    /// Adds the block of a commit that is held and stands in none, with the changeset that the rule gives for it.
-    /// Collision comes exactly where a revision of the changeset is null or known with another text or other parents, or is
-    /// another part of the changeset, or where the changeset stands in a block. After a fault the state is given up.
-    pub fn push_changeset(
+    /// Adds the block of a changeset that is stored and stands in none, with its commit and the links of that commit.
+    /// Collision comes exactly where an object of the commit is known with another content, or is another part of the commit,
+    /// or where the commit or a link stands in a block. After a fault the state is given up.
+    pub fn push_commit(
         self,
-        alloc: Global,
-        id: Id,
-        c: &GitDraft,
-        changeset: HgDraft,
+        node: Id,
+        h: &HgDraft,
+        links: &IdList,
+        commit: GitDraft,
     ) -> Result<State, PushFault>
-        requires block { (blocks : List Block) × (v : CommitView) × PushesChangeset self c.now changeset id blocks v }
-        ensures ok { IfOk result (λ next. (blocks : List Block) (v : CommitView) → PushesChangeset self c.now changeset id blocks v → ChangesetPushed self next blocks v) }
-        ensures collision { result ≡ Err Collision → (blocks : List Block) (v : CommitView) → PushesChangeset self c.now changeset id blocks v
-            → IsTrue (changeset_collides self.known.hg blocks (changeset_by_rule blocks v)) }
+        requires block { (blocks : List model.Block) × (b : model.Block) × PushesCommit self h.now links.now commit node blocks b }
+        ensures ok { IfOk result (λ next. (blocks : List model.Block) (b : model.Block) → PushesCommit self h.now links.now commit node blocks b
+            → CommitPushed self next blocks b) }
+        ensures collision { result ≡ Err Collision → (blocks : List model.Block) (b : model.Block) → PushesCommit self h.now links.now commit node blocks b
+            → IsTrue (commit_side_collides self.known.git blocks b) }
     {
         let mut state = self;
-        state.put_changeset(alloc, id, &changeset)?;
+        state.put_commit(node, h, links, commit)?;
         Ok(state)
+    }
+
+    /// Adds the block of a commit that is stored and stands in none, with its links and its changeset. Collision comes exactly
+    /// where a revision of these is null or known with another text or other parents, or is another part of the block, or where
+    /// one of the changesets stands in a block. After a fault the state is given up.
+    pub fn push_changeset(self, id: Id, block: &HgBlock) -> Result<State, PushFault>
+        requires block { (blocks : List model.Block) × (b : model.Block) × PushesChangeset self block.now id blocks b }
+        ensures ok { IfOk result (λ next. (blocks : List model.Block) (b : model.Block) → PushesChangeset self block.now id blocks b → ChangesetPushed self next blocks b) }
+        ensures collision { result ≡ Err Collision → (blocks : List model.Block) (b : model.Block) → PushesChangeset self block.now id blocks b
+            → IsTrue (changeset_side_collides self.known.hg blocks b) }
+    {
+        let mut state = self;
+        state.put_changeset(id, block)?;
+        Ok(state)
+    }
+
+    // The same on a state that is kept.
+    fn put(&mut self, block: &HgBlock, commit: GitDraft) -> Result<(), PushFault>
+        requires block { (blocks : List model.Block) × (b : model.Block) × PushesBlock self.old block.now commit blocks b }
+        ensures ok { OnOk result ((blocks : List model.Block) (b : model.Block) → PushesBlock self.old block.now commit blocks b → BlockPushed self.old self.new blocks b) }
+        ensures collision { result ≡ Err Collision → (blocks : List model.Block) (b : model.Block) → PushesBlock self.old block.now commit blocks b
+            → IsTrue (block_collides self.old.known.hg self.old.known.git blocks b) }
+    {
+        self.known.git.check();
+        let text = text_of_commit(self.alloc(), &commit.commit)?;
+        let id = object_id(Kind::Commit, &text);
+        if self.known.partners.hg_of(&id).is_some() {
+            return Err(PushFault::Collision);
+        }
+        let stored = is_stored(&self.known.git, &id);
+        let nodes = add_parts(self.alloc(), &mut self.known.hg, &self.changesets, block)?;
+        add_commit(&mut self.known.git, commit, id, text)?;
+        self.known.git.check();
+        let agreed = have_bodies(&self.known, &self.agreed, &block.last);
+        check_bodies(agreed, stored)?;
+        put_where(&mut self.agreed, nodes.last, agreed)?;
+        self.insert(nodes.links.as_slice(), nodes.last, id)?;
+        Ok(())
     }
 
     // The same on a state that is kept.
     fn put_commit(
         &mut self,
-        alloc: Global,
         node: Id,
         h: &HgDraft,
+        links: &IdList,
         commit: GitDraft,
     ) -> Result<(), PushFault>
-        requires block { (blocks : List Block) × (v : ChangesetView) × PushesCommit self.old h.now commit node blocks v }
-        ensures ok { OnOk result ((blocks : List Block) (v : ChangesetView) → PushesCommit self.old h.now commit node blocks v → CommitPushed self.old self.new blocks v) }
-        ensures collision { result ≡ Err Collision → (blocks : List Block) (v : ChangesetView) → PushesCommit self.old h.now commit node blocks v
-            → IsTrue (commit_collides self.old.known.git blocks (rule_commit blocks v)) }
+        requires block { (blocks : List model.Block) × (b : model.Block) × PushesCommit self.old h.now links.now commit node blocks b }
+        ensures ok { OnOk result ((blocks : List model.Block) (b : model.Block) → PushesCommit self.old h.now links.now commit node blocks b
+            → CommitPushed self.old self.new blocks b) }
+        ensures collision { result ≡ Err Collision → (blocks : List model.Block) (b : model.Block) → PushesCommit self.old h.now links.now commit node blocks b
+            → IsTrue (commit_side_collides self.old.known.git blocks b) }
     {
         views_are_held(&self.known.hg, &node);
         self.known.git.check();
-        let text = text_of_commit(alloc, &commit.commit)?;
+        if self.changesets.contains_any(links.as_slice()) {
+            return Err(PushFault::Collision);
+        }
+        let text = text_of_commit(self.alloc(), &commit.commit)?;
         let id = object_id(Kind::Commit, &text);
         if self.known.partners.hg_of(&id).is_some() {
             return Err(PushFault::Collision);
         }
         add_commit(&mut self.known.git, commit, id, text)?;
         self.known.git.check();
-        if !have_bodies(&self.known, h) {
+        if !have_bodies(&self.known, &self.agreed, h) {
             return Err(PushFault::Collision);
         }
-        self.push(node, id)?;
+        self.agreed.insert(node)?;
+        self.insert(links.as_slice(), node, id)?;
         Ok(())
     }
 
     // The same on a state that is kept.
-    fn put_changeset(&mut self, alloc: Global, id: Id, changeset: &HgDraft) -> Result<(), PushFault>
-        requires block { (c : GitDraft) × (blocks : List Block) × (v : CommitView) × PushesChangeset self.old c changeset.now id blocks v }
-        ensures ok { OnOk result ((c : GitDraft) (blocks : List Block) (v : CommitView) → PushesChangeset self.old c changeset.now id blocks v → ChangesetPushed self.old self.new blocks v) }
-        ensures collision { result ≡ Err Collision → (c : GitDraft) (blocks : List Block) (v : CommitView) → PushesChangeset self.old c changeset.now id blocks v
-            → IsTrue (changeset_collides self.old.known.hg blocks (changeset_by_rule blocks v)) }
+    fn put_changeset(&mut self, id: Id, block: &HgBlock) -> Result<(), PushFault>
+        requires block { (blocks : List model.Block) × (b : model.Block) × PushesChangeset self.old block.now id blocks b }
+        ensures ok { OnOk result ((blocks : List model.Block) (b : model.Block) → PushesChangeset self.old block.now id blocks b → ChangesetPushed self.old self.new blocks b) }
+        ensures collision { result ≡ Err Collision → (blocks : List model.Block) (b : model.Block) → PushesChangeset self.old block.now id blocks b
+            → IsTrue (changeset_side_collides self.old.known.hg blocks b) }
     {
         commits_are_held(&self.known.git, &id);
-        self.known.git.check();
-        let text = text_of_changeset(alloc, &changeset.changeset)?;
-        let node = node_id(&changeset.p1, &changeset.p2, &text);
-        if self.known.partners.git_of(&node).is_some() {
-            return Err(PushFault::Collision);
-        }
-        add_changeset(alloc, &mut self.known.hg, changeset, node, text)?;
-        self.push(node, id)?;
+        let nodes = add_parts(self.alloc(), &mut self.known.hg, &self.changesets, block)?;
+        self.insert(nodes.links.as_slice(), nodes.last, id)?;
         Ok(())
     }
 
     // Makes a changeset and a commit partners, of which none has one, and puts them behind the others.
-    fn push(&mut self, node: Id, id: Id) -> Result<(), NoMemory>
+    fn insert(&mut self, links: &[Id], node: Id, id: Id) -> Result<(), NoMemory>
+        requires few { length links.now ≤ 62 }
         requires node_is_free { git_at self.old.known.partners node ≡ None }
         requires id_is_free { hg_at self.old.known.partners id ≡ None }
-        ensures { OnOk result (IsPushed self.old self.new node id) }
+        ensures { OnOk result (IsPushed self.old self.new links.now node id) }
     {
         self.known.partners.add(node, id)?;
-        self.nodes.push(node)?;
-        self.ids.push(id)?;
+        let count = links.len() as u8;
+        self.blocks.push(Block {
+            node,
+            commit: id,
+            links: count,
+        })?;
+        push_all(&mut self.changesets, links)?;
+        self.changesets.push(node)?;
+        self.commits.push(id)?;
         self.known.hg.check();
         self.known.partners.check();
         Ok(())
     }
+}
+
+// The bodies of a new commit's changeset must be its blobs.
+fn check_bodies(agreed: bool, stored: bool) -> Result<(), PushFault>
+    ensures ok { OnOk result ((agreed ≡ true) ⊎ (stored ≡ true)) }
+    ensures collision { result ≡ Err Collision → (agreed ≡ false) × (stored ≡ false) }
+{
+    if agreed {
+        return Ok(());
+    }
+    if stored {
+        return Ok(());
+    }
+    Err(PushFault::Collision)
+}
+
+// Whether an object with this id is stored.
+fn is_stored(git: &GitStore, id: &Id) -> bool
+    ensures { result ≡ knows_object git.now id.now }
+{
+    git.content(id).is_some()
+}
+
+// Puts a node in where it is asked.
+fn put_where(set: &mut IdSet, node: Id, asked: bool) -> Result<(), NoMemory>
+    ensures { OnOk result ((x : kinds.Id) → has_id set.new x ≡ true → (has_id set.old x ≡ true) ⊎ ((asked ≡ true) × (x ≡ node))) }
+{
+    if asked {
+        set.insert(node)?;
+    }
+    Ok(())
+}
+
+// Puts nodes at the end, one after the other.
+fn push_all(list: &mut NodeList, nodes: &[Id]) -> Result<(), NoMemory>
+    ensures { OnOk result (list.new ≡ list.old ++ nodes.now) }
+{
+    for node in nodes {
+        list.push(*node)?;
+    }
+    Ok(())
 }
 
 fn text_of_commit(alloc: Global, commit: &Commit) -> Result<Vec<u8>, NoMemory>
@@ -142,14 +219,6 @@ fn text_of_commit(alloc: Global, commit: &Commit) -> Result<Vec<u8>, NoMemory>
 {
     let mut text = Vec::new(alloc);
     commit.write_into(&mut text)?;
-    Ok(text)
-}
-
-fn text_of_changeset(alloc: Global, changeset: &Changeset) -> Result<Vec<u8>, NoMemory>
-    ensures { IfOk result (λ text. text.items ≡ changeset_text (changeset_value changeset.now)) }
-{
-    let mut text = Vec::new(alloc);
-    changeset.write_into(&mut text)?;
     Ok(text)
 }
 

@@ -60,9 +60,10 @@ pub fn add_changeset(
     node: Id,
     text: Vec<u8>,
 ) -> Result<(), PushFault>
-    requires asked { (k : ChangesetView) × IsAsked hg.old d.now node text.items k }
-    ensures ok { OnOk result ((k : ChangesetView) → IsAsked hg.old d.now node text.items k → HaveCome hg.old hg.new (revisions_of k)) }
-    ensures collision { result ≡ Err Collision → (k : ChangesetView) → IsAsked hg.old d.now node text.items k → HasBad hg.old (revisions_of k) }
+    requires asked { (base : List Revision) × (k : ChangesetView) × IsAsked base hg.old d.now node text.items k }
+    ensures ok { OnOk result ((base : List Revision) (k : ChangesetView) → IsAsked base hg.old d.now node text.items k → HaveCome hg.old hg.new (revisions_of k)) }
+    ensures collision { result ≡ Err Collision → (base : List Revision) (k : ChangesetView) → IsAsked base hg.old d.now node text.items k
+        → HasBad hg.old (revisions_of k) }
 {
     let own = Addition {
         group: Group::Changesets,

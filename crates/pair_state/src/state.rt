@@ -2,29 +2,43 @@ ghost use Rattle.std.specs.Prelude.{◌≡◌, [], ◌==◌, length};
 ghost use Rattle.pair_known.specs.Partners.{git_at, hg_at};
 ghost use Rattle.pair_state.specs.Blocks.{IsStateOf};
 
-use bridge_text::{Id, IdList};
+use crate::blocks::Blocks;
+use crate::names::Names;
+use crate::node_list::NodeList;
+use bridge_text::{Id, IdList, IdSet};
 use git_store::GitStore;
 use hg_store::HgStore;
 use pair_known::{Known, Partners};
 use std::alloc::Global;
 
-/// What both sides hold, and the pairs of their history in its order.
+/// What both sides hold, the pairs of their history in its order, and the tags and names that are kept.
 #[derive(Drop)]
 pub struct State {
     /// Mercurial's revisions, Git's objects and the partners of changesets and commits.
     pub known: Known,
-    /// The nodes of the changesets, in the order of the pairs.
-    pub nodes: IdList,
-    /// The ids of the commits, in the same order.
-    pub ids: IdList,
+    /// The pairs, in the order of the history.
+    pub blocks: Blocks,
+    /// The nodes of the changesets in the same order, links just before their changeset.
+    pub changesets: NodeList,
+    /// The ids of the commits, in the order of the pairs.
+    pub commits: IdList,
+    /// The ids of the kept tags, in the order in which they came.
+    pub tags: IdList,
+    /// The names of commits and kept tags.
+    pub names: Names,
+    /// The nodes of changesets whose bodies were compared with the blobs of their commits.
+    pub agreed: IdSet,
+    alloc: Global,
 }
 
 impl State {
-    /// A state without revisions, objects and pairs.
+    /// A state without revisions, objects, pairs, tags and names.
     pub fn empty(alloc: Global) -> State
         ensures state { IsStateOf result [] }
         ensures revisions { result.known.hg ≡ [] }
         ensures objects { result.known.git ≡ [] }
+        ensures tags { result.tags ≡ [] }
+        ensures names { result.names ≡ [] }
     {
         State {
             known: Known {
@@ -32,9 +46,19 @@ impl State {
                 git: GitStore::new(alloc),
                 partners: Partners::new(alloc),
             },
-            nodes: IdList::new(alloc),
-            ids: IdList::new(alloc),
+            blocks: Blocks::new(alloc),
+            changesets: NodeList::new(alloc),
+            commits: IdList::new(alloc),
+            tags: IdList::new(alloc),
+            names: Names::new(alloc),
+            agreed: IdSet::new(alloc),
+            alloc,
         }
+    }
+
+    /// The allocator from which the state takes its memory.
+    pub fn alloc(&self) -> Global {
+        self.alloc
     }
 
     /// The commit whose partner is the changeset with this node; `None` exactly where it has none.
@@ -53,15 +77,15 @@ impl State {
 
     /// How many pairs there are.
     pub fn len(&self) -> usize
-        ensures { result ≡ length self.now.nodes }
+        ensures { result ≡ length self.now.blocks }
     {
-        self.nodes.len()
+        self.blocks.len()
     }
 
     /// Whether there are no pairs.
     pub fn is_empty(&self) -> bool
-        ensures { result ≡ (length self.now.nodes == 0) }
+        ensures { result ≡ (length self.now.blocks == 0) }
     {
-        self.nodes.is_empty()
+        self.blocks.is_empty()
     }
 }

@@ -4,6 +4,7 @@ use Rattle.std.specs.Prelude.{slice_get}
 use Rattle.std.proofs.lemmas.List.{take-append-drop}
 use Rattle.std.proofs.lemmas.List.Elements.{filter-append}
 use Rattle.text_model.specs.Fault.{Refusal}
+use Rattle.text_model.proofs.Elements.{drop_next, map_append, take_push}
 use Rattle.hg_model.specs.Revision.{Group, Changesets, Manifests, FilesAt, Revision, known_after}
 use Rattle.hg_model.specs.Reading.{Arrival}
 use Rattle.git_model.specs.Object.{Object}
@@ -13,7 +14,6 @@ use Rattle.hg_bundle.specs.declared.arrival.RevKind.TheVariants as kind
 use Rattle.hg_bundle.specs.declared.arrival.Arrival as listed
 use Rattle.hg_bundle.specs.Arrivals.{arrival_of, kind_of}
 use Rattle.hg_dump.proofs.HeldLemmas.{node-is}
-use Rattle.hg_dump.proofs.ListLemmas.{map-append, take-push, drop-next}
 use Rattle.view_model.specs.Dump.{objects_in}
 use Rattle.pair_model.specs.Block.{Block, node_of, commits_in}
 use Rattle.history_model.specs.Pull.{BringBlocks, ChangesetRefused, IsChangesetRefusal, all_known, changesets_among, revisions_among, is_changesets, is_saved}
@@ -23,8 +23,8 @@ use Rattle.pair_state.specs.Push.{HaveSame}
 use Rattle.pull_outcome.specs.declared.refused.PullFault.{PullFault}
 use Rattle.pull_outcome.specs.declared.refused.PullFault.TheVariants.{Refused, Read, Memory}
 use Rattle.pull_outcome.specs.Refused.{IsRefusedBy}
-use Rattle.pull_outcome.specs.Names.{fault_name}
-use Rattle.pull_outcome.specs.Tight.{state_value}
+use Rattle.bridge_text.specs.Refusals.{refusal_value}
+use Rattle.pull_outcome.specs.AllBlocks.{state_value}
 use Rattle.pull_bundle.specs.Takes.{AreSaved, Comes, Takes, TakesArrivals, IsRefusedArrival, Starts}
 use Rattle.pull_bundle.proofs.Known.{all_known-append, grown, are_saved-more, are_saved-after, saved-more, saved-last}
 use Rattle.pull_bundle.proofs.Blocks.{brings-none, brings-append, brings-same, objects_in-more, same-more, same-then, refused-same}
@@ -66,6 +66,8 @@ takes-at s next blocks rs rs' e t = record {
   state = t.state;
   revisions = t.revisions;
   objects = t.objects;
+  tags = t.tags;
+  names = t.names;
 }
 
 abbrev takes-none : (s : State) (blocks : List Block) → IsStateOf s blocks → Takes s s blocks []
@@ -75,6 +77,8 @@ takes-none s blocks state = record {
   state = subst (IsStateOf s) (sym (append-nil blocks)) state;
   revisions = refl;
   objects = subst (HaveSame s.known.git) (sym (append-nil s.known.git)) ((λ x i. i), (λ x i. i));
+  tags = refl;
+  names = refl;
 }
 
 pub none-taken : (s : State) (base : List Revision) (blocks : List Block) → IsStateOf s blocks → AreSaved blocks base → TakesArrivals s s base blocks []
@@ -86,21 +90,20 @@ other-taken s before blocks a other comes = record {
   saved = are_saved-after (blocks ++ []) before a.revision (are_saved-more blocks [] before comes.saved) (λ g. absurd (true≢false (sym (ap is_changesets g) ∙ other)));
 }
 
-module _ (s : State) (added : AreAdded s.known.hg) where
-  brings-saves : (objects : List Object) (blocks : List Block) (r : Revision) (new : List Block) → BringBlocks s.known.hg objects blocks (r ∷ []) new → is_saved (blocks ++ new) r.node ≡ true
-  unfolding BringBlocks
-  brings-saves objects blocks r new (inl h) = saved-more blocks new r.node h.0
-  brings-saves objects blocks r new (inr (free, b, rest, is, gives, later)) =
-      let node : node_of b ≡ r.node = ap node_of gives.block ∙ node-is s.known.hg added r.node gives.view gives.is_held in
-      let one : new ≡ b ∷ [] = is ∙ ap (λ (l : List Block). b ∷ l) later in
-      ap (λ (l : List Block). is_saved (blocks ++ l) r.node) one ∙ saved-last blocks b r.node node
+brings-saves : (s : State) → AreAdded s.known.hg → (objects : List Object) (blocks : List Block) (r : Revision) (new : List Block) → BringBlocks s.known.hg objects blocks (r ∷ []) new → is_saved (blocks ++ new) r.node ≡ true
+unfolding BringBlocks
+brings-saves s added objects blocks r new (inl h) = saved-more blocks new r.node h.0
+brings-saves s added objects blocks r new (inr (free, b, rest, is, gives, later)) =
+    let node : node_of b ≡ r.node = ap node_of gives.block ∙ node-is s.known.hg added r.node gives.view gives.is_held in
+    let one : new ≡ b ∷ [] = is ∙ ap (λ (l : List Block). b ∷ l) later in
+    ap (λ (l : List Block). is_saved (blocks ++ l) r.node) one ∙ saved-last blocks b r.node node
 
-  pub changeset-taken : (next : State) (before : List Revision) (blocks : List Block) (a : Arrival) → is_changesets (a.revision).group ≡ true → Comes s blocks before a.revision → Takes s next blocks (a.revision ∷ [])
-      → TakesArrivals s next before blocks (a ∷ [])
-  changeset-taken next before blocks a one comes t = record {
-    takes = takes-at s next blocks (a.revision ∷ []) (revisions_among (changesets_among (a ∷ []))) (sym (ap revisions_among (among-one a [] one))) t;
-    saved = are_saved-after (blocks ++ t.new) before a.revision (are_saved-more blocks t.new before comes.saved) (λ g. brings-saves s.known.git blocks a.revision t.new t.brings);
-  }
+pub changeset-taken : (s next : State) (before : List Revision) (blocks : List Block) (a : Arrival) → is_changesets (a.revision).group ≡ true → Comes s blocks before a.revision → Takes s next blocks (a.revision ∷ [])
+    → TakesArrivals s next before blocks (a ∷ [])
+changeset-taken s next before blocks a one comes t = record {
+  takes = takes-at s next blocks (a.revision ∷ []) (revisions_among (changesets_among (a ∷ []))) (sym (ap revisions_among (among-one a [] one))) t;
+  saved = are_saved-after (blocks ++ t.new) before a.revision (are_saved-more blocks t.new before comes.saved) (λ g. brings-saves s comes.state.held.added s.known.git blocks a.revision t.new t.brings);
+}
 
 -- ---- one entry behind others
 
@@ -121,11 +124,11 @@ takes-objects start mid next blocks rs rs' t u =
 
 among-more : (came more : List Arrival) → revisions_among (changesets_among came) ++ revisions_among (changesets_among more) ≡ revisions_among (changesets_among (came ++ more))
 among-more came more =
-    sym (map-append (λ a. a.revision) (changesets_among came) (changesets_among more))
+    sym (map_append (λ a. a.revision) (changesets_among came) (changesets_among more))
     ∙ sym (ap revisions_among (filter-append (λ a. is_changesets (a.revision).group) came more))
 
 known-more : (base : List Revision) (came : List Arrival) (a : Arrival) → known_after (all_known base (revisions_among came)) a.revision ≡ all_known base (revisions_among (came ++ a ∷ []))
-known-more base came a = sym (ap (all_known base) (map-append (λ x. x.revision) came (a ∷ [])) ∙ all_known-append base (revisions_among came) (a.revision ∷ []))
+known-more base came a = sym (ap (all_known base) (map_append (λ x. x.revision) came (a ∷ [])) ∙ all_known-append base (revisions_among came) (a.revision ∷ []))
 
 pub arrivals-append : (start mid next : State) (base : List Revision) (blocks : List Block) (came : List Arrival) (a : Arrival) (t : TakesArrivals start mid base blocks came)
     → TakesArrivals mid next (all_known base (revisions_among came)) (blocks ++ (t.takes).new) (a ∷ []) → TakesArrivals start next base blocks (came ++ a ∷ [])
@@ -137,6 +140,8 @@ arrivals-append start mid next base blocks came a t u = record {
     state = subst (IsStateOf next) (append_assoc blocks (t.takes).new (u.takes).new) (u.takes).state;
     revisions = (u.takes).revisions ∙ (t.takes).revisions;
     objects = takes-objects start mid next blocks (revisions_among (changesets_among came)) (revisions_among (changesets_among (a ∷ []))) t.takes u.takes;
+    tags = (u.takes).tags ∙ (t.takes).tags;
+    names = (u.takes).names ∙ (t.takes).names;
   };
   saved = subst (λ (l : List Block). AreSaved l (all_known base (revisions_among (came ++ a ∷ [])))) (append_assoc blocks (t.takes).new (u.takes).new)
       (subst (AreSaved ((blocks ++ (t.takes).new) ++ (u.takes).new)) (known-more base came a) u.saved);
@@ -158,7 +163,7 @@ entry-at (a ∷ came) zero list h = record { entry = a; at = refl; is = some_is 
 entry-at (a ∷ came) (suc i) list h = let r = entry-at came i list h in record { entry = r.entry; at = r.at; is = r.is }
 
 parted : (came : List Arrival) (i : ℕ) (a : Arrival) → slice_get came i ≡ Some a → came ≡ take i came ++ a ∷ drop (i + 1) came
-parted came i a at = sym (take-append-drop i came) ∙ ap (λ (l : List Arrival). take i came ++ l) (drop-next came i a at)
+parted came i a at = sym (take-append-drop i came) ∙ ap (λ (l : List Arrival). take i came ++ l) (drop_next came i a at)
 
 module _ (start mid : State) (base : List Revision) (blocks : List Block) (list : List listed.Arrival) (came : List Arrival) (starts : Starts start base blocks list came) (i : ℕ) (a : Arrival) (at : slice_get came i ≡ Some a) (t : TakesArrivals start mid base blocks (take i came)) where
   pub comes-next : Comes mid (blocks ++ (t.takes).new) (all_known base (revisions_among (take i came))) a.revision
@@ -172,12 +177,12 @@ module _ (start mid : State) (base : List Revision) (blocks : List Block) (list 
         later = later.0;
         store =
             (t.takes).revisions ∙ starts.store ∙ ap (λ (l : List Arrival). all_known base (revisions_among l)) (parted came i a at)
-            ∙ ap (all_known base) (map-append (λ x. x.revision) (take i came) (a ∷ drop (i + 1) came))
+            ∙ ap (all_known base) (map_append (λ x. x.revision) (take i came) (a ∷ drop (i + 1) came))
             ∙ all_known-append base (revisions_among (take i came)) (a.revision ∷ rest) ∙ later.1;
       }
 
   pub taken-next : (next : State) → TakesArrivals mid next (all_known base (revisions_among (take i came))) (blocks ++ (t.takes).new) (a ∷ []) → TakesArrivals start next base blocks (take (i + 1) came)
-  taken-next next u = subst (TakesArrivals start next base blocks) (sym (take-push came i a at)) (arrivals-append start mid next base blocks (take i came) a t u)
+  taken-next next u = subst (TakesArrivals start next base blocks) (sym (take_push came i a at)) (arrivals-append start mid next base blocks (take i came) a t u)
 
   refusal-next : (why : Refusal) → IsRefusedArrival mid (blocks ++ (t.takes).new) a why → IsChangesetRefusal start.known.hg (state_value start blocks) (changesets_among came) why
   refusal-next why x = record {
@@ -197,6 +202,6 @@ module _ (start mid : State) (base : List Revision) (blocks : List Block) (list 
   }
 
   pub refused-next : (e : PullFault) → IsRefusedBy (IsRefusedArrival mid (blocks ++ (t.takes).new) a) e → IsRefusedBy (IsChangesetRefusal start.known.hg (state_value start blocks) (changesets_among came)) e
-  refused-next (Refused why id place) h = refusal-next (record { name = fault_name why; id = id; place = place }) h
+  refused-next (Refused why) h = refusal-next (refusal_value why) h
   refused-next Read h = tt
   refused-next Memory h = tt

@@ -5,11 +5,11 @@ use Rattle.std.specs.List.{list_any}
 use Rattle.text_model.specs.Lists.{In}
 use Rattle.text_model.specs.Fault.{FaultName}
 use Rattle.text_model.proofs.TestLemmas.{or_true}
+use Rattle.text_model.proofs.Elements.{flat_map_append, map_append}
 use Rattle.hg_model.specs.Revision.{Revision}
 use Rattle.git_model.specs.Object.{Object, is_other_content}
 use Rattle.view_model.specs.View.{ChangesetView, CommitView, commit_objects, commit_id}
 use Rattle.view_model.specs.Dump.{objects_in}
-use Rattle.hg_dump.proofs.ListLemmas.{flat_map-append, map-append}
 use Rattle.pair_model.specs.Block.{Block, block_of_id, commits_in}
 use Rattle.pair_model.specs.Collision.{commit_collides}
 use Rattle.history_model.specs.Pull.{BringBlocks, GivesBlock, ViewRefused, ChangesetRefused, is_saved}
@@ -127,7 +127,7 @@ unfolding BringBlocks
 brings-one known objects blocks r b free gives = inr (free, b, [], refl, gives, refl)
 
 pub objects_in-more : (new more : List Block) → objects_in (commits_in (new ++ more)) ≡ objects_in (commits_in new) ++ objects_in (commits_in more)
-objects_in-more new more = ap objects_in (map-append (λ b. b.commit) new more) ∙ flat_map-append commit_objects (commits_in new) (commits_in more)
+objects_in-more new more = ap objects_in (map_append (λ b. b.commit) new more) ∙ flat_map_append commit_objects (commits_in new) (commits_in more)
 
 pub brings-append : (known : List Revision) (objects : List Object) (blocks : List Block) (rs rs' : List Revision) (new new' : List Block) → BringBlocks known objects blocks rs new
     → BringBlocks known (objects ++ objects_in (commits_in new)) (blocks ++ new) rs' new' → BringBlocks known objects blocks (rs ++ rs') (new ++ new')

@@ -67,7 +67,7 @@ module _ (known more : List Revision) where
   manifest-more node NoManifest rows h = h
   manifest-more node (Over p q) rows h = record { revision = h.revision; is_held = revision-more known more Manifests node h.revision h.is_held; parents = h.parents; text = h.text }
 
-  changeset-more : (node : Id) (h : ChangesetView) → IsChangesetHeld known node h → IsChangesetHeld (known ++ more) node h
+  pub changeset-more : (node : Id) (h : ChangesetView) → IsChangesetHeld known node h → IsChangesetHeld (known ++ more) node h
   changeset-more node h held = record {
     revision = held.revision;
     is_held = revision-more known more Changesets node held.revision held.is_held;

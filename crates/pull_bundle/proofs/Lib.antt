@@ -1,7 +1,6 @@
 pub mod ClashRows
 pub mod Lacks
 pub mod Rules
-pub mod Links
 pub mod Known
 pub mod Blocks
 pub mod TakeLemmas

@@ -1,13 +1,13 @@
 -- What a pull comes to, by what its parts say.
 use Rattle.std.proofs.Common.{◌≡◌, ◌≤◌, ℕ, inl, inr, List, [], ◌∷◌, ◌++◌, length, take, drop, map, Option, Some, None, Ok, refl, sym, ap, subst, ◌∙◌, arith, length-append}
 use Rattle.std.specs.Prelude.{IfSome}
-use Rattle.std.specs.Global.{Vec}
 use Rattle.std.specs.List.{find}
 use Rattle.std.proofs.lemmas.List.{length-map}
 use Rattle.text_model.specs.Lists.{Each}
 use Rattle.text_model.specs.Text.{Bytes}
 use Rattle.text_model.specs.Id.{Id}
 use Rattle.text_model.specs.Fault.{Refusal}
+use Rattle.text_model.proofs.Elements.{map_append, take_front, drop_front}
 use Rattle.hg_model.specs.Revision.{Revision}
 use Rattle.hg_model.specs.Reading.{Arrival, bundle_reading}
 use Rattle.git_model.specs.Object.{Object}
@@ -15,39 +15,39 @@ use Rattle.git_model.specs.Unfold.{walk_fault}
 use Rattle.hg_bundle.specs.declared.arrival.Arrival as listed
 use Rattle.hg_bundle.specs.Arrivals.{arrival_of}
 use Rattle.git_dump.specs.Commits.{HasWalk, AreWalkableCommits}
-use Rattle.hg_dump.proofs.ListLemmas.{map-append}
 use Rattle.view_model.specs.View.{CommitView, commit_id}
 use Rattle.view_model.specs.Held.{AreCommitsHeld}
 use Rattle.view_model.specs.Dump.{git_increment, objects_in}
-use Rattle.pair_model.specs.Block.{Block, id_of, node_of, commits_in}
+use Rattle.pair_model.specs.Block.{Block, id_of, commits_in}
 use Rattle.history_model.specs.Pull.{BringBlocks, ChangesetRefused, IsChangesetRefusal, known_with, changesets_among, revisions_among, is_orphan}
 use Rattle.pair_state.specs.declared.state.State.{State}
-use Rattle.pair_state.specs.Blocks.{IsStateOf}
+use Rattle.pair_state.specs.Blocks.{IsStateOf, value_of, block_value}
 use Rattle.pull_outcome.specs.declared.refused.PullFault.{PullFault}
 use Rattle.pull_outcome.specs.declared.refused.PullFault.TheVariants.{Refused, Read, Memory}
+use Rattle.pull_outcome.specs.declared.pulled.Pulled.{Pulled}
 use Rattle.pull_outcome.specs.Refused.{IsRefusedBy, FaultCause}
-use Rattle.pull_outcome.specs.Names.{fault_name}
-use Rattle.pull_outcome.specs.Pulls.{PulledHg, RefusesHg}
-use Rattle.pull_outcome.specs.Tight.{IsTight, state_value}
+use Rattle.bridge_text.specs.Refusals.{refusal_value}
+use Rattle.pull_outcome.specs.Pulls.{GoesOnHg, PulledHg, RefusesHg}
+use Rattle.pull_outcome.specs.AllBlocks.{HasAllBlocks, state_value}
 use Rattle.pull_bundle.specs.Faults.{IsNoRead}
 use Rattle.pull_bundle.specs.Takes.{AreSaved, HasRead, Starts, TakesArrivals}
 use Rattle.pull_bundle.specs.Orphans.{IsFirstOrphan}
 
 -- ---- faults
 
-pub memory-refused : (o : Option Bytes) (s : State) → IfSome o (λ bytes. (blocks : List Block) → IsTight s blocks → RefusesHg s blocks bytes Memory)
+pub memory-refused : (o : Option Bytes) (s : State) → IfSome o (λ bytes. (blocks : List Block) → HasAllBlocks s blocks → RefusesHg s blocks bytes Memory)
 memory-refused None s = tt
-memory-refused (Some bytes) s = λ blocks tight. tt
+memory-refused (Some bytes) s = λ blocks has. tt
 
 pub no-read_cause : (before now : ℕ) (e : PullFault) → IsNoRead e → now ≡ before → FaultCause before now e
-no-read_cause before now (Refused why id at) h same = same
+no-read_cause before now (Refused why) h same = same
 no-read_cause before now Read h same = absurd h
 no-read_cause before now Memory h same = same
 
 -- ---- after the reading
 
-pub starts-read : (s read : State) (list : List listed.Arrival) (came : List Arrival) (blocks : List Block) → IsTight s blocks → HasRead s read list came → Starts read s.known.hg blocks list came
-starts-read s read list came blocks tight r = record { are = r.are; state = r.state blocks tight.state; saved = tight.saved; store = r.store }
+pub starts-read : (s read : State) (list : List listed.Arrival) (came : List Arrival) (blocks : List Block) → HasAllBlocks s blocks → HasRead s read list came → Starts read s.known.hg blocks list came
+starts-read s read list came blocks has r = record { are = r.are; state = r.state blocks has.state; saved = has.saved; store = r.store }
 
 abbrev pub Told : Option Bytes → State → State → List listed.Arrival → Type 0
 Told o s read list = IfSome o (λ bytes. (came : List Arrival) × (bundle_reading s.known.hg bytes ≡ Ok came) × HasRead s read list came)
@@ -83,21 +83,21 @@ refusal-told s read list came r blocks why x = record {
   is = x.is;
 }
 
-pub take-refused : (o : Option Bytes) (s read : State) (list : List listed.Arrival) (e : PullFault) → Told o s read list → TakeDue read list e → IfSome o (λ bytes. (blocks : List Block) → IsTight s blocks → RefusesHg s blocks bytes e)
+pub take-refused : (o : Option Bytes) (s read : State) (list : List listed.Arrival) (e : PullFault) → Told o s read list → TakeDue read list e → IfSome o (λ bytes. (blocks : List Block) → HasAllBlocks s blocks → RefusesHg s blocks bytes e)
 take-refused None s read list e told due = tt
-take-refused (Some bytes) s read list Memory told due = λ blocks tight. tt
-take-refused (Some bytes) s read list Read told due = λ blocks tight. tt
-take-refused (Some bytes) s read list (Refused why id at) told due = λ blocks tight.
-    inr (told.0, told.1, inl (refusal-told s read list told.0 told.2 blocks (record { name = fault_name why; id = id; place = at }) (due s.known.hg blocks told.0 (starts-read s read list told.0 blocks tight told.2))))
+take-refused (Some bytes) s read list Memory told due = λ blocks has. tt
+take-refused (Some bytes) s read list Read told due = λ blocks has. tt
+take-refused (Some bytes) s read list (Refused why) told due = λ blocks has.
+    inr (told.0, told.1, inl (refusal-told s read list told.0 told.2 blocks (refusal_value why) (due s.known.hg blocks told.0 (starts-read s read list told.0 blocks has told.2))))
 
 pub orphan-refused : (o : Option Bytes) (s read next : State) (list : List listed.Arrival) (e : PullFault) → Told o s read list → Taken read next list → OrphanDue next list e
-    → IfSome o (λ bytes. (blocks : List Block) → IsTight s blocks → RefusesHg s blocks bytes e)
+    → IfSome o (λ bytes. (blocks : List Block) → HasAllBlocks s blocks → RefusesHg s blocks bytes e)
 orphan-refused None s read next list e told taken due = tt
-orphan-refused (Some bytes) s read next list Memory told taken due = λ blocks tight. tt
-orphan-refused (Some bytes) s read next list Read told taken due = λ blocks tight. tt
-orphan-refused (Some bytes) s read next list (Refused why id at) told taken due = λ blocks tight.
+orphan-refused (Some bytes) s read next list Memory told taken due = λ blocks has. tt
+orphan-refused (Some bytes) s read next list Read told taken due = λ blocks has. tt
+orphan-refused (Some bytes) s read next list (Refused why) told taken due = λ blocks has.
     let came = told.0 in
-    let t = taken s.known.hg blocks came (starts-read s read list came blocks tight told.2) in
+    let t = taken s.known.hg blocks came (starts-read s read list came blocks has told.2) in
     let x = due (blocks ++ (t.takes).new) came (t.takes).state told.2.are in
     inr (came, told.1, inr ((t.takes).new, brings-told s read list came told.2 blocks (revisions_among (changesets_among came)) (t.takes).new (t.takes).brings, x.orphan, x.first, x.is))
 
@@ -111,67 +111,88 @@ walks-are : (known : List Object) (blocks : List Block) → Each (λ b. walk_fau
 walks-are known [] h = tt
 walks-are known (b ∷ blocks) h = (h.0, walks-are known blocks h.1)
 
-pub walkable : (s : State) (blocks : List Block) → IsStateOf s blocks → AreWalkableCommits s.known.git s.ids (commits_in blocks)
+pub walkable : (s : State) (blocks : List Block) → IsStateOf s blocks → AreWalkableCommits s.known.git s.commits (commits_in blocks)
 walkable s blocks state = (
-  subst (λ (l : List Id). AreCommitsHeld s.known.git l (commits_in blocks)) (ids-are blocks ∙ sym state.ids) state.held.held.commits,
+  subst (λ (l : List Id). AreCommitsHeld s.known.git l (commits_in blocks)) (ids-are blocks ∙ sym state.commits) state.held.held.commits,
   walks-are s.known.git blocks state.held.held.walks,
 )
 
-count-is : (s : State) (blocks : List Block) → IsStateOf s blocks → length s.nodes ≡ length blocks
-count-is s blocks state = ap length state.nodes ∙ length-map blocks node_of
+count-is : (s : State) (blocks : List Block) → IsStateOf s blocks → length s.blocks ≡ length blocks
+count-is s blocks state = sym (length-map s.blocks value_of) ∙ ap length state.blocks_are ∙ length-map blocks block_value
 
-pub count-within : (s next : State) (blocks new : List Block) (n : ℕ) → n ≡ length s.nodes → IsStateOf s blocks → IsStateOf next (blocks ++ new) → n ≤ length next.ids
+pub count-within : (s next : State) (blocks new : List Block) (n : ℕ) → n ≡ length s.blocks → IsStateOf s blocks → IsStateOf next (blocks ++ new)
+    → n ≤ length next.commits
 count-within s next blocks new n is state after =
     let mine = count-is s blocks state in
-    let all = ap length after.ids ∙ length-map (blocks ++ new) id_of in
+    let all = ap length after.commits ∙ length-map (blocks ++ new) id_of in
     omega (arith, is, mine, all, length-append blocks new)
-
-take-front : {X : Type 0} (xs ys : List X) → take (length xs) (xs ++ ys) ≡ xs
-take-front [] ys = refl
-take-front (x ∷ xs) ys = ap (λ (l : List _). x ∷ l) (take-front xs ys)
-
-drop-front : {X : Type 0} (xs ys : List X) → drop (length xs) (xs ++ ys) ≡ ys
-drop-front [] ys = refl
-drop-front (x ∷ xs) ys = drop-front xs ys
 
 written : (blocks new : List Block) (n : ℕ) → n ≡ length blocks → git_increment (take n (commits_in (blocks ++ new))) (drop n (commits_in (blocks ++ new))) ≡ git_increment (commits_in blocks) (commits_in new)
 written blocks new n is =
     let count : n ≡ length (commits_in blocks) = is ∙ sym (length-map blocks (λ b. b.commit)) in
-    let split = map-append (λ (b : Block). b.commit) blocks new in
+    let split = map_append (λ (b : Block). b.commit) blocks new in
     (λ i. git_increment (take (count i) (split i)) (drop (count i) (split i)))
-    ∙ (λ i. git_increment (take-front (commits_in blocks) (commits_in new) i) (drop-front (commits_in blocks) (commits_in new) i))
+    ∙ (λ i. git_increment (take_front (commits_in blocks) (commits_in new) i) (drop_front (commits_in blocks) (commits_in new) i))
 
 -- ---- a pull that is accepted
 
-abbrev pub Written : State → ℕ → Vec ℕ → Type 0
-Written next n made = (cs : List CommitView) → AreWalkableCommits next.known.git next.ids cs → made.items ≡ git_increment (take n cs) (drop n cs)
+abbrev pub Written : State → ℕ → Bytes → Type 0
+Written next n made = (cs : List CommitView) → AreWalkableCommits next.known.git next.commits cs → made ≡ git_increment (take n cs) (drop n cs)
 
 abbrev pub NoOrphan : State → List listed.Arrival → Type 0
 NoOrphan next list = (blocks : List Block) (came : List Arrival) → IsStateOf next blocks → list ≡ map arrival_of came → find (is_orphan blocks) came ≡ None
 
-pub pulled : (o : Option Bytes) (s read next : State) (list : List listed.Arrival) (n : ℕ) (made : Vec ℕ) → n ≡ length s.nodes → Told o s read list → Taken read next list → NoOrphan next list → Written next n made
-    → IfSome o (λ bytes. (blocks : List Block) → IsTight s blocks → PulledHg s blocks bytes (record { state = next; first_new = n; made = made }))
-pulled None s read next list n made count told taken none write = tt
-pulled (Some bytes) s read next list n made count told taken none write = λ blocks tight.
-    let came = told.0 in
-    let r = told.2 in
-    let t = taken s.known.hg blocks came (starts-read s read list came blocks tight r) in
-    let new = (t.takes).new in
-    let first = count ∙ count-is s blocks tight.state in
-    record {
+module _ (s read next : State) (list : List listed.Arrival) (n : ℕ) (made : Bytes) (count : n ≡ length s.blocks) (taken : Taken read next list)
+    (write : Written next n made) where
+  abbrev outcome : Pulled
+  outcome = record { state = next; first_new = n; made = made }
+
+  module _ (came : List Arrival) (r : HasRead s read list came) (blocks : List Block) (has : HasAllBlocks s blocks) where
+    took : TakesArrivals read next s.known.hg blocks came
+    took = taken s.known.hg blocks came (starts-read s read list came blocks has r)
+
+    first : n ≡ length blocks
+    first = count ∙ count-is s blocks has.state
+
+    after : HasAllBlocks next (blocks ++ took.takes.new)
+    after = record {
+      state = took.takes.state;
+      saved = subst (AreSaved (blocks ++ took.takes.new)) (sym (took.takes.revisions ∙ r.store)) took.saved;
+    }
+
+    writes : made ≡ git_increment (commits_in blocks) (commits_in took.takes.new)
+    writes = write (commits_in (blocks ++ took.takes.new)) (walkable next (blocks ++ took.takes.new) took.takes.state) ∙ written blocks took.takes.new n first
+
+    goes-on : GoesOnHg s blocks outcome
+    goes-on = record {
+      new = took.takes.new;
+      next = after;
+      first_new = first;
+      made = writes;
+      tags = took.takes.tags ∙ r.tags;
+      names = took.takes.names ∙ r.names;
+    }
+
+    pulled-by : (bytes : Bytes) → bundle_reading s.known.hg bytes ≡ Ok came → NoOrphan next list → PulledHg s blocks bytes outcome
+    pulled-by bytes reads none = record {
       makes = record {
         arrivals = came;
-        reads = told.1;
-        new = new;
+        reads = reads;
+        new = took.takes.new;
         brings = record {
-          brings = brings-told s read list came r blocks (revisions_among (changesets_among came)) new (t.takes).brings;
-          no_orphan = none (blocks ++ new) came (t.takes).state r.are;
+          brings = brings-told s read list came r blocks (revisions_among (changesets_among came)) took.takes.new took.takes.brings;
+          no_orphan = none (blocks ++ took.takes.new) came took.takes.state r.are;
         };
-        is = write (commits_in (blocks ++ new)) (walkable next (blocks ++ new) (t.takes).state) ∙ written blocks new n first;
+        is = writes;
       };
-      next = record {
-        state = (t.takes).state;
-        saved = subst (AreSaved (blocks ++ new)) (sym ((t.takes).revisions ∙ r.store)) t.saved;
-      };
+      next = after;
       first_new = first;
     }
+
+  pub next-goes-on : (came : List Arrival) → HasRead s read list came → (blocks : List Block) → HasAllBlocks s blocks → GoesOnHg s blocks outcome
+  next-goes-on came r blocks has = goes-on came r blocks has
+
+  pub pulled : (o : Option Bytes) → Told o s read list → NoOrphan next list
+      → IfSome o (λ bytes. (blocks : List Block) → HasAllBlocks s blocks → PulledHg s blocks bytes outcome)
+  pulled None told none = tt
+  pulled (Some bytes) told none = λ blocks has. pulled-by told.0 told.2 blocks has bytes told.1 none

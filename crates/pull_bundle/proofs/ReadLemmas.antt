@@ -1,56 +1,106 @@
 -- What the reading of a bundle leaves of a state.
-use Rattle.std.proofs.Common.{◌≡◌, List, Option, Some, None, Ok, refl, sym, subst, ◌∙◌, map}
-use Rattle.std.specs.Prelude.{IfSome}
+use Rattle.std.proofs.Common.{◌≡◌, ◌++◌, ℕ, List, Option, Some, None, Ok, Err, refl, sym, ap, subst, ◌∙◌, map}
+use Rattle.std.specs.Prelude.{IfSome, IsTrue, Result}
 use Rattle.text_model.specs.Text.{Bytes}
+use Rattle.text_model.specs.Id.{Id, has_id}
+use Rattle.text_model.specs.Fault.{Refusal}
+use Rattle.text_model.proofs.Options.{some_is, none_some}
+use Rattle.bridge_text.specs.Refusals.{refusal_value}
 use Rattle.hg_model.specs.Revision.{Revision}
 use Rattle.hg_model.specs.Reading.{Arrival, bundle_reading}
 use Rattle.hg_bundle.specs.declared.arrival.Arrival as listed
-use Rattle.hg_bundle.specs.Arrivals.{Reads, arrival_of, known_after_all, revisions_of}
+use Rattle.hg_bundle.specs.declared.fault.BundleFault.{BundleFault}
+use Rattle.hg_bundle.specs.declared.fault.BundleFault.TheVariants as bundle
+use Rattle.hg_bundle.specs.Faults as read
+use Rattle.hg_bundle.specs.Arrivals.{Reads, refused, arrival_of, known_after_all, revisions_of}
 use Rattle.hg_store.specs.Known.{AreAdded}
 use Rattle.view_model.specs.View.{changeset_node}
 use Rattle.view_model.specs.Held.{AreChangesetsHeld}
 use Rattle.pair_model.specs.Block.{Block, changesets_in}
+use Rattle.history_model.specs.Pull.{all_known}
+use Rattle.pair_known.specs.declared.known.Known.{Known}
+use Rattle.pair_known.specs.Blocks.{IsHistoryHeld}
 use Rattle.pair_state.specs.declared.state.State.{State}
-use Rattle.pair_state.specs.Blocks.{IsStateOf}
+use Rattle.pair_state.specs.Blocks.{IsAgreed, IsStateOf, value_of}
+use Rattle.pull_outcome.specs.Refused.{IsRefusedBy, FaultCause, bundle_refused}
 use Rattle.pull_bundle.specs.Takes.{HasRead}
-use Rattle.pull_bundle.proofs.Known.{known-is, grown, changesets-more}
+use Rattle.pull_bundle.proofs.Known.{known-is, grown, changeset-more, changesets-more}
 
-abbrev pub with_store : State → List Revision → State
-with_store s hg = record { known = record { hg = hg; git = s.known.git; partners = s.known.partners }; nodes = s.nodes; ids = s.ids }
+-- the next state has another store of revisions, and all else as it was
+pub record HasStore (s next : State) (hg : List Revision) : Type 0 where
+  pub known : next.known ≡ record { hg = hg; git = s.known.git; partners = s.known.partners }
+  pub blocks : next.blocks ≡ s.blocks
+  pub changesets : next.changesets ≡ s.changesets
+  pub commits : next.commits ≡ s.commits
+  pub tags : next.tags ≡ s.tags
+  pub names : next.names ≡ s.names
+  pub agreed : next.agreed ≡ s.agreed
 
-state-more : (s : State) (hg rs : List Revision) (blocks : List Block) → hg ≡ known_after_all s.known.hg rs → AreAdded hg → IsStateOf s blocks → IsStateOf (with_store s hg) blocks
-state-more s hg rs blocks is added state =
-    let more = grown s.known.hg rs in
-    let whole = is ∙ known-is s.known.hg rs ∙ more.1 in
-    let held = state.held.held in
-    record {
-      held = record {
-        held = record {
-          changesets = subst (λ (l : List Revision). AreChangesetsHeld l (map changeset_node (changesets_in blocks)) (changesets_in blocks)) (sym whole)
-              (changesets-more s.known.hg more.0 (map changeset_node (changesets_in blocks)) (changesets_in blocks) held.changesets);
-          commits = held.commits;
-          walks = held.walks;
-          bodies = held.bodies;
-          partners = held.partners;
-        };
-        plain = state.held.plain;
-        added = added;
-        partners = state.held.partners;
-      };
-      nodes = state.nodes;
-      ids = state.ids;
-    }
+module _ (s next : State) (hg rs : List Revision) (has : HasStore s next hg) (is : hg ≡ known_after_all s.known.hg rs) (added : AreAdded hg) where
+  abbrev more : List Revision
+  more = (grown s.known.hg rs).0
 
-pub has-read : (s : State) (hg : List Revision) (list : List listed.Arrival) (came : List Arrival) → list ≡ map arrival_of came → hg ≡ known_after_all s.known.hg (revisions_of came) → AreAdded hg → HasRead s (with_store s hg) list came
-has-read s hg list came are store added = record {
-  are = are;
-  store = store ∙ known-is s.known.hg (revisions_of came);
-  git = refl;
-  state = λ blocks state. state-more s hg (revisions_of came) blocks store added state;
-  count = refl;
-}
+  whole : hg ≡ s.known.hg ++ more
+  whole = is ∙ known-is s.known.hg rs ∙ (grown s.known.hg rs).1
 
-pub told : (o : Option Bytes) (s : State) (hg : List Revision) (list : List listed.Arrival) → AreAdded hg → IfSome o (λ bytes. Reads s.known.hg bytes (Ok (hg, list)))
-    → IfSome o (λ bytes. (came : List Arrival) × (bundle_reading s.known.hg bytes ≡ Ok came) × HasRead s (with_store s hg) list came)
-told None s hg list added h = h
-told (Some bytes) s hg list added h = (h.0, h.1, has-read s hg list h.0 h.2 h.3 added)
+  agreed-more : (node : Id) → IsAgreed s.known.hg s.known.git node → IsAgreed next.known.hg next.known.git node
+  agreed-more node a =
+      subst (λ (k : Known). IsAgreed k.hg k.git node) (sym has.known)
+      (subst (λ (l : List Revision). IsAgreed l s.known.git node) (sym whole)
+      (record { view = a.view; held = changeset-more s.known.hg more node a.view a.held; blobs = a.blobs }))
+
+  state-more : (blocks : List Block) → IsStateOf s blocks → IsStateOf next blocks
+  state-more blocks state =
+      let held = state.held.held in
+      record {
+        held = subst (λ (k : Known). IsHistoryHeld k blocks) (sym has.known) (record {
+          held = record {
+            changesets = subst (λ (l : List Revision). AreChangesetsHeld l (map changeset_node (changesets_in blocks)) (changesets_in blocks)) (sym whole)
+                (changesets-more s.known.hg more (map changeset_node (changesets_in blocks)) (changesets_in blocks) held.changesets);
+            commits = held.commits;
+            walks = held.walks;
+            partners = held.partners;
+          };
+          no_links = state.held.no_links;
+          added = added;
+          partners = state.held.partners;
+        });
+        blocks_are = ap (map value_of) has.blocks ∙ state.blocks_are;
+        changesets = has.changesets ∙ state.changesets;
+        commits = has.commits ∙ state.commits;
+        agreed = λ node in_it. agreed-more node (state.agreed node (subst (λ (l : List Id). IsTrue (has_id l node)) has.agreed in_it));
+      }
+
+  pub has-read : (list : List listed.Arrival) (came : List Arrival) → list ≡ map arrival_of came → rs ≡ revisions_of came → HasRead s next list came
+  has-read list came are revisions = record {
+    are = are;
+    store = ap (λ (k : Known). k.hg) has.known ∙ is ∙ known-is s.known.hg rs ∙ ap (all_known s.known.hg) revisions;
+    git = ap (λ (k : Known). k.git) has.known;
+    state = state-more;
+    blocks = has.blocks;
+    tags = has.tags;
+    names = has.names;
+  }
+
+pub told : (o : Option Bytes) (s next : State) (hg : List Revision) (list : List listed.Arrival) → HasStore s next hg → AreAdded hg → IfSome o (λ bytes. Reads s.known.hg bytes (Ok (hg, list)))
+    → IfSome o (λ bytes. (came : List Arrival) × (bundle_reading s.known.hg bytes ≡ Ok came) × HasRead s next list came)
+told None s next hg list has added h = h
+told (Some bytes) s next hg list has added h = (h.0, h.1, has-read s next hg (revisions_of h.0) has h.3 added list h.0 h.2 refl)
+
+-- ---- why it isn't read
+
+is-refused : (r : Result (List Arrival) Refusal) (why : Refusal) → refused r ≡ Some why → r ≡ Err why
+is-refused (Ok came) why h = absurd (none_some h)
+is-refused (Err found) why h = ap Err (some_is h)
+
+pub fault-refused : (o : Option Bytes) (known : List Revision) (fault : BundleFault) → IfSome o (λ bytes. Reads known bytes (Err fault))
+    → IfSome o (λ bytes. IsRefusedBy (λ why. bundle_reading known bytes ≡ Err why) (bundle_refused fault))
+fault-refused None known fault h = tt
+fault-refused (Some bytes) known (bundle.Refused why) h = is-refused (bundle_reading known bytes) (refusal_value why) h
+fault-refused (Some bytes) known bundle.Read h = tt
+fault-refused (Some bytes) known bundle.Memory h = tt
+
+pub fault-cause : (before now : ℕ) (fault : BundleFault) → read.FaultCause before now fault → FaultCause before now (bundle_refused fault)
+fault-cause before now (bundle.Refused why) h = h
+fault-cause before now bundle.Read h = h
+fault-cause before now bundle.Memory h = h

@@ -16,10 +16,10 @@ value-paths (row ∷ rows) = ap (λ (l : List Bytes). row.path ∷ l) (value-pat
 
 module _ (k : Known) (blocks : List Block) (d : HgDraft) (v : ChangesetView) (over : IsChangesetOver k blocks d v) where
   pub paths-are : (rows : List RowValue) → rows ≡ d.rows → map (λ r. r.path) rows ≡ paths_of v.rows
-  paths-are rows is = ap (map (λ (r : RowValue). r.path)) (is ∙ over.draft.rows) ∙ value-paths v.rows
+  paths-are rows is = ap (map (λ (r : RowValue). r.path)) (is ∙ over.inside.draft.rows) ∙ value-paths v.rows
 
   pub link-is : is_link (changeset_value d.changeset) d.p1 d.p2 ≡ is_link_view v
-  link-is = sym (λ i. is_link (over.draft.fields i) (over.draft.parents.0 i) (over.draft.parents.1 i))
+  link-is = sym (λ i. is_link (over.inside.draft.fields i) (over.inside.draft.parents.0 i) (over.inside.draft.parents.1 i))
 
 pub clash : (b : Bool) → b ≡ true → b ≡ false → ⊥
 clash b t f = true≢false (sym t ∙ f)

@@ -1,26 +1,32 @@
 -- One changeset: why it is refused, and the block that it gets.
-use Rattle.std.proofs.Common.{◌≡◌, inl, inr, Bool, true, false, List, [], ◌∷◌, ◌++◌, map, Option, Some, None, refl, sym, ap, subst, ◌∙◌, append-nil}
+use Rattle.std.proofs.Common.{◌≡◌, inl, inr, Bool, true, false, List, [], ◌∷◌, ◌++◌, map, Option, Some, refl, sym, ap, subst, ◌∙◌, append-nil, arith}
 use Rattle.std.specs.Prelude.{Result, Ok, Err, IfOk, IfErr, is_some, IsTrue, bytes_eq}
-use Rattle.text_model.specs.Lists.{Each}
+use Rattle.text_model.specs.Lists.{Each, rises}
+use Rattle.text_model.specs.Text.{Bytes, is_below}
 use Rattle.text_model.specs.Id.{Id}
 use Rattle.text_model.specs.Fault.{FaultName}
 use Rattle.text_model.specs.Fault as fault
+use Rattle.text_model.proofs.Options.{some_is, none_is, or_false}
 use Rattle.hg_model.specs.Revision.{Revision, Changesets, revision_of}
 use Rattle.git_model.specs.Object.{Object}
-use Rattle.hg_store.specs.Known.{AreAdded}
-use Rattle.view_model.specs.View.{ChangesetView, IsChangesetView, commit_objects}
-use Rattle.view_model.specs.Held.{IsChangesetHeld}
+use Rattle.git_model.specs.Residue.{ResidueItem}
+use Rattle.git_model.proofs.SortLemmas.{rises-ascends}
+use Rattle.view_model.specs.View.{Row, TreeRow, ChangesetView, IsChangesetView, HaveSameBodies, HasBodiesOf, commit_objects}
+use Rattle.view_model.specs.Held.{IsChangesetHeld, AreChangesetsHeld}
 use Rattle.pair_model.specs.Block.{Block, node_of, id_of, block_of_node, not_null}
-use Rattle.pair_model.specs.Rule.{rule_commit}
+use Rattle.pair_model.specs.Rule.{rule_commit, tree_row_of, tree_row_with, carried_to}
 use Rattle.pair_model.specs.Plain.{block_of_changeset}
 use Rattle.pair_model.specs.Collision.{commit_collides}
+use Rattle.partner_model.specs.Clash.{commit_side_collides}
 use Rattle.history_model.specs.Pull.{ChangesetRefused, ViewRefused, is_saved}
-use Rattle.pull_outcome.specs.Names.{fault_name}
+use Rattle.bridge_text.specs.Refusals.{fault_name}
 use Rattle.pair_known.specs.declared.hg_draft.HgDraft.{HgDraft}
 use Rattle.pair_known.specs.Drafts.{IsHgDraft}
 use Rattle.pair_known.specs.Over.{IsChangesetOver}
 use Rattle.pair_known.specs.Partners.{git_at}
 use Rattle.pair_known.specs.declared.git_draft.GitDraft.{GitDraft}
+use Rattle.commit_rule.proofs.FileLemmas.{all-blobs, same-paths}
+use Rattle.commit_rule.proofs.Handed.{files-with}
 use Rattle.pair_state.specs.declared.state.State.{State}
 use Rattle.pair_state.specs.Blocks.{IsStateOf}
 use Rattle.pair_state.specs.Push.{HaveSame, CommitPushed, PushesCommit}
@@ -36,12 +42,19 @@ pub fault-map : (P Q : FaultName → Type 0) → ((name : FaultName) → P name 
 fault-map P Q g (Refused why) h = g (fault_name why) h
 fault-map P Q g Memory h = tt
 
-some_is : {X : Type 0} {x y : X} → Some x ≡ Some y → x ≡ y
-some_is e = cc
+-- ---- the files of the rule's commit
 
-none_of : {X : Type 0} (o : Option X) → is_some o ≡ false → o ≡ None
-none_of None h = refl
-none_of (Some x) h = absurd cc
+with-bodies : (items : List ResidueItem) (rows : List Row) → HaveSameBodies rows (map (tree_row_with items) (map tree_row_of rows))
+with-bodies items [] = tt
+with-bodies items (row ∷ rows) = (refl, refl, with-bodies items rows)
+
+ruled-bodies : (blocks : List Block) (v : ChangesetView) → IsChangesetView v → HasBodiesOf v.rows (rule_commit blocks v).rows
+unfolding rule_commit
+ruled-bodies blocks v view =
+    let up =
+    rises-ascends (λ (row : TreeRow). row.path) (map tree_row_of v.rows)
+    (subst (λ (paths : List Bytes). IsTrue (rises is_below paths)) (sym (same-paths v.rows)) view.in_order) in
+    subst (HaveSameBodies v.rows) (sym (files-with (carried_to blocks v) (map tree_row_of v.rows) up (all-blobs v.rows))) (with-bodies (carried_to blocks v) v.rows)
 
 module _ (s : State) (node : Id) (blocks : List Block) (r : Revision) (is : r.node ≡ node) (new : IsNew s blocks r) where
   at : revision_of s.known.hg Changesets node ≡ Some r
@@ -78,7 +91,8 @@ module _ (s : State) (node : Id) (blocks : List Block) (r : Revision) (is : r.no
     rule-refused name (inr (na, inr (nb, inr (nc, inl d)))) = refused-by name (inr (na, inr (nb, inr (nc, inl d))))
     rule-refused name (inr (na, inr (nb, inr (nc, inr d)))) = absurd d.1
 
-    pub collision-refused : (d : GitDraft) → IsRuled s.known.git d blocks v → IsTrue (commit_collides s.known.git blocks (rule_commit blocks v)) → IsRefusedNew s blocks r fault.Collision
+    pub collision-refused : (d : GitDraft) → IsRuled s.known.git d blocks v → IsTrue (commit_side_collides s.known.git blocks (block_of_changeset blocks v))
+        → IsRefusedNew s blocks r fault.Collision
     collision-refused d ruled collides =
         refused-by fault.Collision (inr (
           (λ t. clash t ruled.no_clash),
@@ -88,7 +102,7 @@ module _ (s : State) (node : Id) (blocks : List Block) (r : Revision) (is : r.no
               (λ k. k ruled.ruled.fits),
               inr (
                 (λ k. k ruled.plain),
-                inl (collides, refl),
+                inl (sym (or_false (commit_collides s.known.git blocks (rule_commit blocks v))) ∙ collides, refl),
               ),
             ),
           ),
@@ -99,30 +113,47 @@ module _ (s : State) (node : Id) (blocks : List Block) (r : Revision) (is : r.no
 
     pub over-it : (d : HgDraft) → IsHgDraft s.known.hg d v → IsChangesetView v → IsChangesetOver s.known blocks d v
     over-it d draft view = record {
-      history = new.state.held;
-      draft = draft;
-      view = view;
+      inside = record { history = new.state.held; draft = draft; view = view };
       parents = subst (λ (ids : List Id). Each (λ p. IsTrue (is_some (block_of_node blocks p))) (not_null ids)) ids new.parents;
     }
       where
         ids : r.p ∷ r.q ∷ [] ≡ v.p ∷ v.q ∷ []
         ids = sym (λ i. (held.parents.0 ∙ ap (λ (x : Revision). x.p) same) i ∷ (held.parents.1 ∙ ap (λ (x : Revision). x.q) same) i ∷ [])
 
-    pub pushes : (h : HgDraft) (d : GitDraft) → IsChangesetOver s.known blocks h v → IsRuled s.known.git d blocks v → PushesCommit s h d node blocks v
-    pushes h d over ruled = record { state = new.state; over = over; held = held; free = ap (block_of_node blocks) (sym is) ∙ new.free; ruled = ruled.ruled }
+    pub pushes : (h : HgDraft) (links : List Id) (d : GitDraft) → links ≡ [] → IsChangesetOver s.known blocks h v → IsRuled s.known.git d blocks v
+        → PushesCommit s h links d node blocks (block_of_changeset blocks v)
+    pushes h links d none over ruled = record {
+      state = new.state;
+      draft = over.inside.draft;
+      held = held;
+      links_held = subst (λ (ids : List Id). AreChangesetsHeld s.known.hg ids []) (sym none) tt;
+      links_are = none;
+      few = omega arith;
+      no_link = ruled.plain.no_link;
+      free = ap (block_of_node blocks) (sym is) ∙ new.free;
+      ruled = ruled.ruled;
+      bodies = ruled-bodies blocks v over.inside.view;
+    }
 
-    pub gets-block : (next : State) (d : GitDraft) → IsRuled s.known.git d blocks v → CommitPushed s next blocks v → GetsBlock s next blocks r
+    pub gets-block : (next : State) (d : GitDraft) → IsRuled s.known.git d blocks v → CommitPushed s next blocks (block_of_changeset blocks v) → GetsBlock s next blocks r
     gets-block next d ruled pushed = record {
       block = block_of_changeset blocks v;
       gives = record {
         view = v;
         is_held = held-here;
-        passes = record { no_clash = ruled.no_clash; fits = ruled.ruled.fits; plain = ruled.plain; apart = pushed.apart };
+        passes = record {
+          no_clash = ruled.no_clash;
+          fits = ruled.ruled.fits;
+          plain = ruled.plain;
+          apart = sym (or_false (commit_collides s.known.git blocks (rule_commit blocks v))) ∙ pushed.apart;
+        };
         block = refl;
       };
       state = pushed.state;
       revisions = pushed.revisions;
       objects = subst (λ (l : List Object). HaveSame next.known.git (s.known.git ++ l)) (sym (append-nil (commit_objects (rule_commit blocks v)))) pushed.objects;
+      tags = pushed.tags;
+      names = pushed.names;
     }
 
 -- ---- what faults say
@@ -168,6 +199,8 @@ takes-saved s blocks r state saved = record {
   state = subst (IsStateOf s) (sym (append-nil blocks)) state;
   revisions = refl;
   objects = subst (HaveSame s.known.git) (sym (append-nil s.known.git)) ((λ x i. i), (λ x i. i));
+  tags = refl;
+  names = refl;
 }
 
 pub takes-new : (s next : State) (blocks : List Block) (r : Revision) → is_saved blocks r.node ≡ false → GetsBlock s next blocks r → Takes s next blocks (r ∷ [])
@@ -177,12 +210,14 @@ takes-new s next blocks r free got = record {
   state = got.state;
   revisions = got.revisions;
   objects = got.objects;
+  tags = got.tags;
+  names = got.names;
 }
 
-pub is-new : (s : State) (blocks : List Block) (before : List Revision) (r : Revision) → AreAdded s.known.hg → Comes s blocks before r → r.group ≡ Changesets → is_saved blocks r.node ≡ false → IsNew s blocks r
-is-new s blocks before r added comes group free =
-    let came = came-new blocks s.known.hg before comes.later r added comes.saved comes.store group free in
-    record { state = comes.state; free = none_of (block_of_node blocks r.node) free; is_held = came.is_held; parents = came.parents }
+pub is-new : (s : State) (blocks : List Block) (before : List Revision) (r : Revision) → Comes s blocks before r → r.group ≡ Changesets → is_saved blocks r.node ≡ false → IsNew s blocks r
+is-new s blocks before r comes group free =
+    let came = came-new blocks s.known.hg before comes.later r comes.state.held.added comes.saved comes.store group free in
+    record { state = comes.state; free = none_is (block_of_node blocks r.node) free; is_held = came.is_held; parents = came.parents }
 
 pub ok-map : {T E : Type 0} (P Q : T → Type 0) → ((t : T) → P t → Q t) → (o : Result T E) → IfOk o P → IfOk o Q
 ok-map P Q f (Ok t) h = f t h
@@ -192,7 +227,7 @@ pub err-map : {T E : Type 0} (P Q : E → Type 0) → ((e : E) → P e → Q e) 
 err-map P Q f (Ok t) h = h
 err-map P Q f (Err e) h = f e h
 
-module _ (s : State) (node : Id) (added : AreAdded s.known.hg) (free : (blocks : List Block) (r : Revision) → IsStateOf s blocks → r.node ≡ node → is_saved blocks r.node ≡ false) where
+module _ (s : State) (node : Id) (free : (blocks : List Block) (r : Revision) → IsStateOf s blocks → r.node ≡ node → is_saved blocks r.node ≡ false) where
   abbrev GetsDue : State → Type 0
   GetsDue next = (blocks : List Block) (r : Revision) → r.node ≡ node → IsNew s blocks r → GetsBlock s next blocks r
 
@@ -201,8 +236,8 @@ module _ (s : State) (node : Id) (added : AreAdded s.known.hg) (free : (blocks :
 
   pub all-taken : (o : Result State TakeFault) → IfOk o GetsDue → IfOk o TakesDue
   all-taken o h = ok-map GetsDue TakesDue (λ next f blocks before r is group comes.
-      takes-new s next blocks r (free blocks r comes.state is) (f blocks r is (is-new s blocks before r added comes group (free blocks r comes.state is)))) o h
+      takes-new s next blocks r (free blocks r comes.state is) (f blocks r is (is-new s blocks before r comes group (free blocks r comes.state is)))) o h
 
   pub all-refused : (o : Result State TakeFault) → IfErr o (IsTakeFault (NewDue s node)) → IfErr o (IsTakeFault (ComesDue s node))
   all-refused o h = err-map (IsTakeFault (NewDue s node)) (IsTakeFault (ComesDue s node)) (λ e k. fault-map (NewDue s node) (ComesDue s node) (λ name f blocks before r is group comes.
-      f blocks r is (is-new s blocks before r added comes group (free blocks r comes.state is))) e k) o h
+      f blocks r is (is-new s blocks before r comes group (free blocks r comes.state is))) e k) o h

@@ -11,7 +11,7 @@ use Rattle.pair_model.specs.Rule.{rule_commit}
 use Rattle.history_model.specs.Pull.{Unless, Nothing, LacksManifest, LacksFile}
 use Rattle.pull_outcome.specs.declared.refused.PullFault.{PullFault}
 use Rattle.pull_outcome.specs.declared.refused.PullFault.TheVariants as pull
-use Rattle.pull_outcome.specs.Names.{fault_name}
+use Rattle.bridge_text.specs.Refusals.{fault_name}
 use Rattle.pull_bundle.specs.declared.fault.TakeFault.{TakeFault}
 use Rattle.pull_bundle.specs.declared.fault.TakeFault.TheVariants.{Refused, Memory}
 
@@ -22,7 +22,7 @@ IsTakeFault Due Memory = ⊤
 
 -- no read has failed
 abbrev pub IsNoRead : PullFault → Type 0
-IsNoRead (pull.Refused why id at) = ⊤
+IsNoRead (pull.Refused why) = ⊤
 IsNoRead pull.Read = ⊥
 IsNoRead pull.Memory = ⊤
 

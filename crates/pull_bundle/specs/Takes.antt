@@ -50,6 +50,8 @@ pub record GetsBlock (s next : State) (blocks : List Block) (r : Revision) : Typ
   pub state : IsStateOf next (blocks ++ block ∷ [])
   pub revisions : next.known.hg ≡ s.known.hg
   pub objects : HaveSame next.known.git (s.known.git ++ objects_in (commits_in (block ∷ [])))
+  pub tags : next.tags ≡ s.tags
+  pub names : next.names ≡ s.names
 
 -- these changesets have their blocks, behind the others
 pub record Takes (s next : State) (blocks : List Block) (rs : List Revision) : Type 0 where
@@ -58,6 +60,8 @@ pub record Takes (s next : State) (blocks : List Block) (rs : List Revision) : T
   pub state : IsStateOf next (blocks ++ new)
   pub revisions : next.known.hg ≡ s.known.hg
   pub objects : HaveSame next.known.git (s.known.git ++ objects_in (commits_in new))
+  pub tags : next.tags ≡ s.tags
+  pub names : next.names ≡ s.names
 
 -- a changeset in no block is refused by this name
 pub record IsRefusedNew (s : State) (blocks : List Block) (r : Revision) (name : FaultName) : Type 0 where
@@ -93,4 +97,6 @@ pub record HasRead (s next : State) (list : List listed.Arrival) (came : List Ar
   pub store : next.known.hg ≡ all_known s.known.hg (revisions_among came)
   pub git : next.known.git ≡ s.known.git
   pub state : (blocks : List Block) → IsStateOf s blocks → IsStateOf next blocks
-  pub count : next.nodes ≡ s.nodes
+  pub blocks : next.blocks ≡ s.blocks
+  pub tags : next.tags ≡ s.tags
+  pub names : next.names ≡ s.names

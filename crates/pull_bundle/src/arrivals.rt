@@ -6,7 +6,7 @@ ghost use Rattle.hg_bundle.specs.Arrivals.{arrival_of};
 ghost use Rattle.pair_model.specs.Block.{Block};
 ghost use Rattle.history_model.specs.Pull.{IsChangesetRefusal, changesets_among, is_changesets};
 ghost use Rattle.pull_outcome.specs.Refused.{IsRefusedBy};
-ghost use Rattle.pull_outcome.specs.Tight.{state_value};
+ghost use Rattle.pull_outcome.specs.AllBlocks.{state_value};
 ghost use Rattle.pull_bundle.specs.Faults.{IsNoRead};
 ghost use Rattle.pull_bundle.specs.Takes.{Comes, TakesArrivals, IsRefusedArrival, Starts};
 
@@ -14,7 +14,7 @@ use crate::fault::TakeFault;
 use crate::take::take_changeset;
 use hg_bundle::{Arrival, Arrivals, RevKind};
 use pair_state::State;
-use pull_outcome::PullFault;
+use pull_outcome::{PullFault, Refusal};
 use std::alloc::Global;
 
 /// Gives each changeset of a bundle its block that stands in none, in their order. It is refused exactly at the first that the model refuses.
@@ -45,14 +45,13 @@ fn take_arrival(alloc: Global, state: State, arrival: &Arrival) -> Result<State,
     if !is_changeset(arrival) {
         return Ok(state);
     }
-    state.known.hg.check();
     match take_changeset(alloc, state, &arrival.node) {
         Ok(next) => Ok(next),
-        Err(TakeFault::Refused(fault)) => Err(PullFault::Refused {
+        Err(TakeFault::Refused(fault)) => Err(PullFault::Refused(Refusal {
             fault,
             id: arrival.node,
-            at: arrival.at,
-        }),
+            place: arrival.at,
+        })),
         Err(TakeFault::Memory) => Err(PullFault::Memory),
     }
 }

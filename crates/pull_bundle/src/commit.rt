@@ -8,10 +8,9 @@ ghost use Rattle.pull_bundle.specs.Takes.{IsRuled};
 
 use crate::clash::has_clash;
 use crate::fault::TakeFault;
-use crate::link::is_link;
 use commit_rule::rule_commit;
 use pair_known::{GitDraft, HgDraft, Known, PairFault};
-use plain_rule::is_plain_changeset;
+use plain_rule::{is_link, is_plain_changeset};
 use pull_outcome::Fault;
 use std::alloc::Global;
 

@@ -11,7 +11,7 @@ use crate::fault::TakeFault;
 use bridge_text::Id;
 use hg_store::ViewFault;
 use hg_view::views_are_held;
-use pair_known::{DraftFault, HgDraft, Known, draft_of_changeset};
+use pair_known::{DraftFault, HgDraft, Known, read_changeset_draft};
 use pull_outcome::Fault;
 use std::alloc::Global;
 
@@ -25,7 +25,7 @@ pub fn draft_of(alloc: Global, known: &Known, node: &Id) -> Result<HgDraft, Take
     ensures refused { IfErr result (IsTakeFault (λ name. (r : Revision) → revision_of known.now.hg Changesets node.now ≡ Some r → ViewLacks known.now.hg r name)) }
 {
     views_are_held(&known.hg, node);
-    match draft_of_changeset(alloc, known, node) {
+    match read_changeset_draft(alloc, known, node) {
         Ok(draft) => Ok(draft),
         Err(DraftFault::Unknown(ViewFault::ManifestUnknown)) => {
             Err(TakeFault::Refused(Fault::ManifestUnknown))

@@ -6,13 +6,9 @@ mod clash;
 mod commit;
 mod draft;
 mod fault;
-mod link;
 mod orphan;
 mod pull;
 mod read;
 mod take;
 
 pub use pull::pull_hg;
-
-#[cfg(test)]
-mod tests;

@@ -16,7 +16,7 @@ use hg_bundle::{Arrival, Arrivals, RevKind};
 use hg_dump::Refers;
 use hg_store::Group;
 use pair_state::State;
-use pull_outcome::{Fault, PullFault};
+use pull_outcome::{Fault, PullFault, Refusal};
 use std::alloc::Global;
 
 /// Passes where each new manifest and file revision of a bundle belongs to a changeset of the state. Orphan comes exactly at the first that belongs to none.
@@ -27,15 +27,19 @@ pub fn check_orphans(alloc: Global, state: &State, arrivals: &Arrivals) -> Resul
         → IsRefusedBy (IsFirstOrphan blocks came) fault) }
     ensures no_read { IfErr result IsNoRead }
 {
-    let refers = Refers::of(alloc, &state.known.hg, state.nodes.as_slice())?;
+    let refers = Refers::of(
+        alloc,
+        &state.known.hg,
+        state.changesets.as_list().as_slice(),
+    )?;
     for place in 0..arrivals.len() {
         let arrival = arrivals.at(place);
         if is_orphan(&refers, arrival) {
-            return Err(PullFault::Refused {
+            return Err(PullFault::Refused(Refusal {
                 fault: Fault::Orphan,
                 id: arrival.node,
-                at: arrival.at,
-            });
+                place: arrival.at,
+            }));
         }
     }
     Ok(())

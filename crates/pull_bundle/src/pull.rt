@@ -1,17 +1,18 @@
-ghost use Rattle.std.specs.Prelude.{List, IfSome, IfOk, IfErr, OnOk};
+ghost use Rattle.std.specs.Prelude.{◌≡◌, List, IfSome, IfOk, IfErr, OnOk};
 ghost use Rattle.std.specs.Io.KnownBytes.{IsAtEnd};
 ghost use Rattle.pair_model.specs.Block.{Block};
-ghost use Rattle.pull_outcome.specs.Pulls.{PulledHg, RefusesHg};
+ghost use Rattle.pull_outcome.specs.Pulls.{GoesOnHg, PulledHg, RefusesHg};
 ghost use Rattle.pull_outcome.specs.Refused.{AnswerCause};
-ghost use Rattle.pull_outcome.specs.Tight.{IsTight};
+ghost use Rattle.pull_outcome.specs.AllBlocks.{HasAllBlocks};
 
 use crate::arrivals::take_all;
 use crate::orphan::check_orphans;
 use crate::read::read_bundle;
-use bridge_io::Source;
+use bridge_io::{Source, Steps};
+use bridge_text::Bytes;
 use pair_state::State;
 use pull_outcome::{PullFault, Pulled};
-use std::alloc::Global;
+use std::sync::ledger::Ledger;
 
 /// Takes a bundle HG10UN into a state, and makes the stream of the commits of its new changesets.
 ///
@@ -19,21 +20,30 @@ use std::alloc::Global;
 /// their order, each over the blocks before it: ManifestUnknown, FileUnknown, PathClash, NotPlain of a link, PairLimit, NotPlain, Collision.
 /// Then Orphan, at the first new manifest or file revision to which no changeset refers. Read comes exactly where the source's count
 /// of faults rose.
-pub fn pull_hg<S: Source>(alloc: Global, state: State, src: &mut S) -> Result<Pulled, PullFault>
-    requires state { (blocks : List Block) × IsTight state blocks }
-    ensures pulled { IfOk result (λ pulled. IfSome (S.left src.old) (λ bytes. (blocks : List Block) → IsTight state blocks → PulledHg state blocks bytes pulled)) }
-    ensures refused { IfErr result (λ fault. IfSome (S.left src.old) (λ bytes. (blocks : List Block) → IsTight state blocks → RefusesHg state blocks bytes fault)) }
+pub fn pull_hg<S: Source, L: Ledger>(
+    state: State,
+    src: &mut S,
+    steps: &mut Steps<L>,
+) -> Result<Pulled, PullFault>
+    requires state { (blocks : List Block) × HasAllBlocks state blocks }
+    ensures next { IfOk result (λ pulled. (blocks : List Block) → HasAllBlocks state blocks → GoesOnHg state blocks pulled) }
+    ensures pulled { IfOk result (λ pulled. IfSome (S.left src.old) (λ bytes.
+        (blocks : List Block) → HasAllBlocks state blocks → PulledHg state blocks bytes pulled)) }
+    ensures refused { IfErr result (λ fault. IfSome (S.left src.old) (λ bytes.
+        (blocks : List Block) → HasAllBlocks state blocks → RefusesHg state blocks bytes fault)) }
     ensures end { OnOk result (IsAtEnd (S.left src.new)) }
     ensures cause { AnswerCause (S.faults src.old) (S.faults src.new) result }
+    ensures steps { steps.new ≡ steps.old }
 {
+    let alloc = state.alloc();
     let first_new = state.len();
-    let (state, arrivals) = read_bundle(alloc, state, src)?;
+    let (state, arrivals) = read_bundle(state, src)?;
     let state = take_all(alloc, state, &arrivals)?;
     check_orphans(alloc, &state, &arrivals)?;
-    let made = git_dump::write(alloc, &state.known.git, &state.ids, first_new)?;
+    let made = git_dump::write(alloc, &state.known.git, &state.commits, first_new)?;
     Ok(Pulled {
         state,
         first_new,
-        made,
+        made: Bytes::keep(made),
     })
 }

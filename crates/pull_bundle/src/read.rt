@@ -8,27 +8,23 @@ ghost use Rattle.pull_bundle.specs.Takes.{HasRead};
 
 use bridge_io::Source;
 use hg_bundle::{Arrivals, read_into};
-use pair_known::Known;
+use hg_store::HgStore;
 use pair_state::State;
 use pull_outcome::PullFault;
-use std::alloc::Global;
 
 /// Reads a bundle to the end of its source into the store of a state.
-pub fn read_bundle<S: Source>(
-    alloc: Global,
-    state: State,
-    src: &mut S,
-) -> Result<(State, Arrivals), PullFault>
+pub fn read_bundle<S: Source>(state: State, src: &mut S) -> Result<(State, Arrivals), PullFault>
     ensures read { IfOk result (λ read. (came : List model.Arrival) × HasRead state read.0 read.1 came) }
     ensures told { IfOk result (λ read. IfSome (S.left src.old) (λ bytes. (came : List model.Arrival) × (bundle_reading state.known.hg bytes ≡ Ok came) × HasRead state read.0 read.1 came)) }
     ensures refused { IfErr result (λ fault. IfSome (S.left src.old) (λ bytes. IsRefusedBy (λ why. bundle_reading state.known.hg bytes ≡ Err why) fault)) }
     ensures end { OnOk result (IsAtEnd (S.left src.new)) }
     ensures cause { AnswerCause (S.faults src.old) (S.faults src.new) result }
 {
-    let State { known, nodes, ids } = state;
-    let Known { hg, git, partners } = known;
-    let (hg, arrivals) = read_into(alloc, src, hg)?;
-    hg.check();
-    let known = Known { hg, git, partners };
-    Ok((State { known, nodes, ids }, arrivals))
+    let alloc = state.alloc();
+    let mut state = state;
+    let store = std::mem::replace(&mut state.known.hg, HgStore::new(alloc));
+    let (store, arrivals) = read_into(alloc, src, store)?;
+    store.check();
+    state.known.hg = store;
+    Ok((state, arrivals))
 }

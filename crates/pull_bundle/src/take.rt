@@ -8,7 +8,7 @@ ghost use Rattle.pull_bundle.specs.Takes.{Comes, IsNew, GetsBlock, Takes, IsRefu
 use crate::commit::ruled_commit;
 use crate::draft::draft_of;
 use crate::fault::TakeFault;
-use bridge_text::Id;
+use bridge_text::{Id, IdList};
 use hg_view::views_are_held;
 use pair_state::{PushFault, State};
 use pull_outcome::Fault;
@@ -22,7 +22,6 @@ pub fn take_changeset(alloc: Global, state: State, node: &Id) -> Result<State, T
     ensures refused { IfErr result (IsTakeFault (λ name. (blocks : List Block) (before : List Revision) (r : Revision) → r.node ≡ node.now → r.group ≡ Changesets → Comes state blocks before r
         → IsRefusedNew state blocks r name)) }
 {
-    state.known.hg.check();
     if state.git_of(node).is_some() {
         return Ok(state);
     }
@@ -36,11 +35,10 @@ fn take_new(alloc: Global, state: State, node: &Id) -> Result<State, TakeFault>
     ensures refused { IfErr result (IsTakeFault (λ name. (blocks : List Block) (r : Revision) → r.node ≡ node.now → IsNew state blocks r
         → IsRefusedNew state blocks r name)) }
 {
-    state.known.hg.check();
     views_are_held(&state.known.hg, node);
     let draft = draft_of(alloc, &state.known, node)?;
     let commit = ruled_commit(alloc, &state.known, &draft)?;
-    match state.push_commit(alloc, *node, &draft, commit) {
+    match state.push_commit(*node, &draft, &IdList::new(alloc), commit) {
         Ok(next) => Ok(next),
         Err(PushFault::Collision) => Err(TakeFault::Refused(Fault::Collision)),
         Err(PushFault::Memory) => Err(TakeFault::Memory),

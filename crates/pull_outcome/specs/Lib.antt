@@ -1,4 +1,3 @@
-pub mod Names
 pub mod Refused
-pub mod Tight
+pub mod AllBlocks
 pub mod Pulls

@@ -1,10 +1,9 @@
 //! What a pull comes to: the next state with what is written, or why the input is refused.
 #![tactic(auto)]
 
-mod fault;
 mod pulled;
 mod refused;
 
-pub use fault::Fault;
+pub use bridge_text::{Fault, Refusal};
 pub use pulled::Pulled;
 pub use refused::PullFault;

@@ -1,3 +1,4 @@
+use bridge_text::Bytes;
 use pair_state::State;
 
 /// What an accepted pull comes to.
@@ -8,5 +9,5 @@ pub struct Pulled {
     /// How many blocks there were before.
     pub first_new: usize,
     /// What the new blocks bring to the other side: a stream of objects, or a bundle.
-    pub made: Vec<u8>,
+    pub made: Bytes,
 }

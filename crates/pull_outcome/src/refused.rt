@@ -3,23 +3,15 @@ ghost use Rattle.std.specs.Prelude.{◌≡◌};
 ghost use Rattle.pull_outcome.specs.Refused.{bundle_refused, stream_refused};
 ghost use Rattle.pull_outcome.specs.declared.refused.PullFault.TheVariants.{Memory};
 
-use crate::fault::Fault;
-use bridge_text::{Id, NoMemory};
-use git_stream::StreamFault;
+use bridge_text::{NoMemory, Refusal};
+use git_batch::StreamFault;
 use hg_bundle::BundleFault;
 
 /// Why a pull fails. The state that it was to change is given up.
 #[derive(Clone, Copy, Debug, PartialEq, Eq)]
 pub enum PullFault {
-    /// The input is refused.
-    Refused {
-        /// The first fault.
-        fault: Fault,
-        /// The changeset, revision or object of which it is refused; null where it is none's.
-        id: Id,
-        /// The place of that in the input, an offset in bytes.
-        at: u64,
-    },
+    /// The input is refused: the first fault, the changeset, revision or object of which it is refused, and its offset.
+    Refused(Refusal),
     /// The input could not be read: its count of faults rose.
     Read,
     /// Memory ran out.
@@ -39,11 +31,7 @@ impl From<BundleFault> for PullFault {
 
     fn from(fault: BundleFault) -> PullFault {
         match fault {
-            BundleFault::Bad { why, id, at } => PullFault::Refused {
-                fault: Fault::from(why),
-                id,
-                at,
-            },
+            BundleFault::Refused(why) => PullFault::Refused(why),
             BundleFault::Read => PullFault::Read,
             BundleFault::Memory => PullFault::Memory,
         }
@@ -55,11 +43,7 @@ impl From<StreamFault> for PullFault {
 
     fn from(fault: StreamFault) -> PullFault {
         match fault {
-            StreamFault::Bad { why, id, at } => PullFault::Refused {
-                fault: Fault::from(why),
-                id,
-                at,
-            },
+            StreamFault::Refused(why) => PullFault::Refused(why),
             StreamFault::Read => PullFault::Read,
             StreamFault::Memory => PullFault::Memory,
         }

@@ -7,7 +7,7 @@ use Rattle.text_model.specs.Fault as fault
 use Rattle.git_model.specs.Commit.{Commit}
 use Rattle.git_model.specs.Object.{Object}
 use Rattle.git_model.specs.Unfold.{WalkFault, walk_fault}
-use Rattle.git_model.proofs.OptionLemmas.{none_some, some_is}
+use Rattle.text_model.proofs.Options.{none_some, some_is}
 use Rattle.git_store.specs.Known.{IsCommitAt}
 use Rattle.git_view.proofs.Held.{commit-at}
 use Rattle.tree_shape.specs.declared.fault.TreeFault.{TreeFault}
@@ -33,8 +33,8 @@ pub record CommitLaws (known : List Object) (id : Id) : Type 0 where
 -- ---- a walk that is refused
 
 named : (why : Option WalkFault) (name : FaultName) → option_map (λ (w : WalkFault). w.name) why ≡ Some name → IsSomeAnd why (λ w. w.name ≡ name)
-named None name h = absurd (none_some name h)
-named (Some w) name h = some_is w.name name h
+named None name h = absurd (none_some {x = name} h)
+named (Some w) name h = some_is {x = w.name} {y = name} h
 
 module _ (known : List Object) (id : Id) (v : Commit) (at : IsCommitAt known id v) where
   walk-named : (name : FaultName) → option_map (λ (w : WalkFault). w.name) (walk_fault known v.tree_id) ≡ Some name → WalkRefused known id name
@@ -49,7 +49,6 @@ module _ (known : List Object) (id : Id) (v : Commit) (at : IsCommitAt known id 
 
   walk-refused : (e : TreeFault) → IsTreeFault (walk_fault known v.tree_id) e → IsNameDue (WalkRefused known id) (tree_refused e)
   walk-refused (tree.ObjectUnknown x) is = walk-named fault.ObjectUnknown (ap (option_map (λ (w : WalkFault). w.name)) is)
-  walk-refused (tree.EmptySubtree x) is = walk-named fault.EmptySubtree (ap (option_map (λ (w : WalkFault). w.name)) is)
   walk-refused tree.PathUnfit is = walk-named fault.PathUnfit is
   walk-refused tree.Limit is = walk-named fault.PairLimit is
   walk-refused tree.Memory is = tt
@@ -57,7 +56,6 @@ module _ (known : List Object) (id : Id) (v : Commit) (at : IsCommitAt known id 
 module _ (s : State) (id : Id) (blocks : List Block) where
   due : (e : TreeFault) → IsNameDue (WalkRefused s.known.git id) (tree_refused e) → IsNameDue (CommitRefused s.known.hg s.known.git blocks id) (tree_refused e)
   due (tree.ObjectUnknown x) is = inl is
-  due (tree.EmptySubtree x) is = inl is
   due tree.PathUnfit is = inl is
   due tree.Limit is = inl is
   due tree.Memory is = tt
@@ -84,11 +82,11 @@ module _ (s : State) (id : Id) (blocks : List Block) where
             held = h.1;
             walks = on;
             id_is = laws.node h.0 h.1;
+            few = subst (λ (v : Commit). length v.parents ≤ 2) (sym h.2) few;
             over = record {
               history = takes.state.held;
               draft = draft h.0 h.1;
               view = laws.is_view h.0 h.1 on;
-              few = subst (λ (v : Commit). length v.parents ≤ 2) (sym h.2) few;
               parents = takes.parents (h.0).value (held-at s.known.git id h.0 h.1);
             };
           },

@@ -1,4 +1,3 @@
-pub mod WalkGrowth
 pub mod Growth
 pub mod Blocks
 pub mod Orders

@@ -1,8 +1,8 @@
 -- The commits of a stream, one after the other.
-use Rattle.std.proofs.Common.{◌≡◌, ◌<◌, ◌+◌, ◌||◌, ◌++◌, ℕ, zero, suc, Bool, true, List, [], ◌∷◌, length, take, drop, get_or, map, Some, None, refl, sym, ap, subst, ◌∙◌, arith, append_assoc, append-nil}
+use Rattle.std.proofs.Common.{◌≡◌, ◌<◌, ◌+◌, ◌||◌, ◌++◌, ℕ, Bool, true, List, [], ◌∷◌, length, take, drop, get_or, map, Some, None, refl, sym, ap, subst, ◌∙◌, append_assoc, append-nil}
 use Rattle.std.specs.Prelude.{slice_get, is_some, IsTrue, if◌then◌else◌}
 use Rattle.std.specs.List.{list_all}
-use Rattle.std.proofs.lemmas.List.{take_more, take-append-drop, map-append}
+use Rattle.std.proofs.lemmas.List.{take-append-drop, map-append}
 use Rattle.std.proofs.lemmas.Option.{slice_get-get_or}
 use Rattle.std.proofs.lemmas.List.Concat.{flat_map-append}
 use Rattle.text_model.specs.Lists.{Each}
@@ -15,11 +15,9 @@ use Rattle.git_model.proofs.CommitLemmas.{parent_ids-text}
 use Rattle.git_model.specs.Object.{Object}
 use Rattle.git_model.specs.Order.{Ancestry, has}
 use Rattle.git_model.specs.Stream.{Placed}
-use Rattle.git_model.proofs.OptionLemmas.{some_is}
 use Rattle.git_store.specs.Known.{content_of, content_at, IsCommitAt}
-use Rattle.git_stream.specs.declared.arrival.ObjectArrival.{ObjectArrival}
+use Rattle.git_batch.specs.declared.arrival.ObjectArrival.{ObjectArrival}
 use Rattle.tree_shape.specs.Laws.{IsKnown}
-use Rattle.tree_shape.proofs.Elements.{each-in}
 use Rattle.view_model.specs.View.{ChangesetView}
 use Rattle.view_model.specs.Dump.{revisions_of, revisions_in}
 use Rattle.pair_model.specs.Block.{Block, id_of, block_of_id, changesets_in}
@@ -27,13 +25,15 @@ use Rattle.pair_state.specs.declared.state.State.{State}
 use Rattle.pair_state.specs.Blocks.{IsStateOf}
 use Rattle.pull_outcome.specs.declared.refused.PullFault.{PullFault}
 use Rattle.history_model.specs.Pull as model
-use Rattle.history_model.specs.Pull.{all_known, CommitGives, CommitsBring, CommitRefused, IsCommitRefusal, objects_with, ancestries, saved_ids, place_of}
+use Rattle.history_model.specs.Pull.{all_known, CommitGives, CommitsBring, CommitRefused, IsCommitRefusal, objects_with, saved_ids, place_of}
 use Rattle.pull_stream.specs.declared.fault.TakeFault.{TakeFault}
 use Rattle.pull_stream.specs.declared.fault.TakeFault.TheVariants.{Refused, Memory}
 use Rattle.pull_stream.specs.Faults.{IsNameDue, IsJudgement, placed_fault}
 use Rattle.pull_stream.specs.Ready.{IsInOrder, place_among}
 use Rattle.pull_stream.specs.Taken.{TakesCommit, CommitTaken, CommitsTaken}
-use Rattle.pull_stream.proofs.Blocks.{has-block, none-there, has-append}
+use Rattle.text_model.proofs.Elements.{each_in, drop_next, take_push}
+use Rattle.text_model.proofs.Options.{some_is, none_is}
+use Rattle.pull_stream.proofs.Blocks.{has-block, has-append}
 use Rattle.pull_stream.proofs.Orders.{same-place, has-place, Next, next-is}
 
 -- ---- what blocks bring
@@ -87,6 +87,14 @@ brings-first : (known : List Revision) (objects : List Object) (blocks : List Bl
 unfolding CommitsBring
 brings-first known objects blocks id ids b rest g more = (b, rest, refl, g, more)
 
+-- blocks of commits of at most two parents have no links
+pub none-linked : (known : List Revision) (objects : List Object) (blocks : List Block) (ids : List Id) (new : List Block) → CommitsBring known objects blocks ids new → Each (λ b. b.links ≡ []) new
+none-linked known objects blocks [] new h = subst (Each (λ b. b.links ≡ [])) (sym (brings-nothing known objects blocks new h)) tt
+none-linked known objects blocks (id ∷ ids) new h =
+    let f = first known objects blocks id ids new h in
+    subst (Each (λ b. b.links ≡ [])) (sym f.is)
+    (no_links f.b f.gives, none-linked (all_known known (revisions_of (f.b).changeset)) objects (blocks ++ f.b ∷ []) ids f.rest f.more)
+
 -- one more is brought
 pub brings-push : (known : List Revision) (objects : List Object) (blocks : List Block) (ids : List Id) (new : List Block) (id : Id) (b : Block) → CommitsBring known objects blocks ids new
     → CommitGives (all_known known (revisions_in (changesets_in new))) objects (blocks ++ new) id b → CommitsBring known objects blocks (ids ++ id ∷ []) (new ++ b ∷ [])
@@ -106,19 +114,12 @@ brings-push known objects blocks (x ∷ ids) new id b h g =
 
 -- ---- one turn
 
-drop-at : (ids : List Id) (k : ℕ) (id : Id) → slice_get ids k ≡ Some id → drop k ids ≡ id ∷ drop (k + 1) ids
-drop-at [] k id h = absurd cc
-drop-at (x ∷ ids) zero id h = ap (λ (y : Id). y ∷ ids) (some_is x id h)
-drop-at (x ∷ ids) (suc k) id h =
-    let one : suc (k + 1) ≡ suc k + 1 = omega arith in
-    drop-at ids k id h ∙ ap (λ (n : ℕ). id ∷ drop n (x ∷ ids)) one
-
 pub at-place : (ids items : List Id) (i : ℕ) (id : Id) → items ≡ ids → i < length items → id ≡ get_or items i id → (i < length ids) × (slice_get ids i ≡ Some id)
 at-place ids items i id same below is =
     (subst (λ (l : List Id). i < length l) same below, ap (λ (l : List Id). slice_get l i) (sym same) ∙ slice_get-get_or items i id below ∙ ap (λ (x : Id). Some x) (sym is))
 
-pub take-at : (ids : List Id) (i : ℕ) (id : Id) → i < length ids → slice_get ids i ≡ Some id → take i ids ++ id ∷ [] ≡ take (i + 1) ids
-take-at ids i id below at = ap (λ (x : Id). take i ids ++ x ∷ []) (some_is id (get_or ids i id) (sym at ∙ slice_get-get_or ids i id below)) ∙ sym (take_more ids i id below)
+pub take-at : (ids : List Id) (i : ℕ) (id : Id) → slice_get ids i ≡ Some id → take i ids ++ id ∷ [] ≡ take (i + 1) ids
+take-at ids i id at = sym (take_push ids i id at)
 
 pub taken-none : (s : State) (m : model.State) → IsStateOf s m.blocks → CommitsTaken s s m.blocks [] []
 taken-none s m state = record {
@@ -127,6 +128,8 @@ taken-none s m state = record {
   state = subst (IsStateOf s) (sym (append-nil m.blocks)) state;
   revisions = refl;
   objects = refl;
+  tags = refl;
+  names = refl;
 }
 
 pub taken-push : (s next after : State) (blocks : List Block) (ids : List Id) (new : List Block) (id : Id) (b : Block) → CommitsTaken s next blocks ids new → CommitTaken next after id (blocks ++ new) b
@@ -141,6 +144,8 @@ taken-push s next after blocks ids new id b so_far one =
           ∙ sym (known-append s.known.hg (revisions_in (changesets_in new)) (revisions_of b.changeset))
           ∙ ap (all_known s.known.hg) (sym (last-revisions new b (no_links b gives)));
       objects = one.objects ∙ so_far.objects;
+      tags = one.tags ∙ so_far.tags;
+      names = one.names ∙ so_far.names;
     }
 
 -- ---- the commit at a place of the order
@@ -158,13 +163,13 @@ module _ (s : State) (arrivals : List ObjectArrival) (ordered : List Id) (m : mo
   its-content : content_at commit s.known.git id ≡ Some object.content
   its-content =
       ap (content_at commit s.known.git) id-is
-      ∙ ap (content_of commit) (each-in (λ (p : Placed). IsKnown s.known.git p.object) came next.of.placed (o.ready).held next.of.among)
+      ∙ ap (content_of commit) (each_in (λ (p : Placed). IsKnown s.known.git p.object) came next.of.placed (o.ready).held next.of.among)
       ∙ ap (λ (t : Bool). if t then Some object.content else None) next.of.kind
 
   -- the parents of the commit
   its-parents : (v : Commit) → IsCommitAt s.known.git id v → v.parents ≡ next.parents
   its-parents v is =
-      let same : is.content ≡ object.content = some_is is.content object.content (sym is.held ∙ its-content) in
+      let same : is.content ≡ object.content = some_is {x = is.content} {y = object.content} (sym is.held ∙ its-content) in
       sym (parent_ids-text is.content v is.is) ∙ ap parent_ids same ∙ sym (ap (λ (a : Ancestry). a.parents) next.of.is)
 
   pub its-place : (at : ℕ) × (place_of came id ≡ Some at)
@@ -197,7 +202,7 @@ module _ (s : State) (arrivals : List ObjectArrival) (ordered : List Id) (m : mo
       held = ap (λ (os : List Object). content_at commit os id) taken.objects ∙ its-content;
       parents = λ v is.
           subst (Each (λ p. IsTrue (is_some (block_of_id (m.blocks ++ new) p)))) (sym (its-parents v (subst (λ (os : List Object). IsCommitAt os id v) taken.objects is))) (all-stand next.parents next.all);
-      free = none-there (block_of_id (m.blocks ++ new) id) (stands id ∙ (λ j. next.unsaved j || next.unplaced j));
+      free = none_is (block_of_id (m.blocks ++ new) id) (stands id ∙ (λ j. next.unsaved j || next.unplaced j));
     }
 
     -- ---- a refusal
@@ -207,7 +212,7 @@ module _ (s : State) (arrivals : List ObjectArrival) (ordered : List Id) (m : mo
       before = take i ordered;
       refused = id;
       after = drop (i + 1) ordered;
-      split = sym (take-append-drop i ordered) ∙ ap (λ (l : List Id). take i ordered ++ l) (drop-at ordered i id at);
+      split = sym (take-append-drop i ordered) ∙ ap (λ (l : List Id). take i ordered ++ l) (drop_next ordered i id at);
       new = new;
       brings = subst (λ (k : List Revision). CommitsBring k (objects_with m came) m.blocks (take i ordered) new) (o.ready).revisions (subst (λ (os : List Object). CommitsBring s.known.hg os m.blocks (take i ordered) new) (o.ready).objects taken.brings);
       name = name;

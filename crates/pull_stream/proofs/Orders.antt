@@ -9,12 +9,12 @@ use Rattle.text_model.proofs.TestLemmas.{both}
 use Rattle.git_model.specs.Object.{Object}
 use Rattle.git_model.specs.Stream.{Placed}
 use Rattle.git_model.specs.Order.{Ancestry, has, is_waiting, is_ready, next_ready, IsPlacement, IsOrder, IsStuckAt}
-use Rattle.git_model.proofs.OptionLemmas.{none_some, some_is}
+use Rattle.text_model.proofs.Options.{none_some, some_is, not_true}
 use Rattle.git_store.specs.Known.{content_of}
-use Rattle.git_order.specs.Ancestry as order
-use Rattle.git_order.specs.Ancestry.{ancestry_at, parents_in}
-use Rattle.git_order.proofs.FindLemmas.{find-passes, find-among}
-use Rattle.git_stream.specs.Arrivals.{kind_of, arrival_of}
+use Rattle.git_store.specs.Ancestry as order
+use Rattle.git_store.specs.Ancestry.{ancestry_at, parents_in}
+use Rattle.git_store.proofs.FindLemmas.{find-passes, find-among}
+use Rattle.git_batch.specs.Arrivals.{kind_of, arrival_of}
 use Rattle.bridge_text.specs.Kinds.{object_kind}
 use Rattle.tree_shape.specs.Laws.{IsKnown}
 use Rattle.tree_shape.proofs.Elements.{of-filter}
@@ -121,21 +121,17 @@ pub record Next (came : List Placed) (saved before : List Id) (id : Id) : Type 0
 pub next-is : (came : List Placed) (saved before : List Id) (id : Id) → Some id ≡ option_map (λ (c : Ancestry). c.id) (next_ready (ancestries came) saved before) → Next came saved before id
 next-is came saved before id h = by (next_ready (ancestries came) saved before) refl h
   where
-    not-true : (b : Bool) → not b ≡ true → b ≡ false
-    not-true false e = refl
-    not-true true e = absurd (true≢false (sym e))
-
     found : (c : Ancestry) → next_ready (ancestries came) saved before ≡ Some c → id ≡ c.id → Next came saved before id
     found c e same =
         let passes = both (is_waiting saved before c) (list_all (λ p. has saved p || has before p) c.parents) (find-passes (is_ready saved before) (ancestries came) c e) in
         let waits = both (not (has saved c.id)) (not (has before c.id)) passes.0 in record {
           parents = c.parents;
           of = subst (CommitOf came) (λ i. record { id = sym same i; parents = c.parents }) (commit-of came c (find-among (is_ready saved before) (ancestries came) c e));
-          unsaved = ap (has saved) same ∙ not-true (has saved c.id) waits.0;
-          unplaced = ap (has before) same ∙ not-true (has before c.id) waits.1;
+          unsaved = ap (has saved) same ∙ not_true (has saved c.id) waits.0;
+          unplaced = ap (has before) same ∙ not_true (has before c.id) waits.1;
           all = passes.1;
         }
 
     by : (o : Option Ancestry) → next_ready (ancestries came) saved before ≡ o → Some id ≡ option_map (λ (c : Ancestry). c.id) o → Next came saved before id
-    by None e i = absurd (none_some id (sym i))
-    by (Some c) e i = found c e (some_is id c.id i)
+    by None e i = absurd (none_some {x = id} (sym i))
+    by (Some c) e i = found c e (some_is {x = id} {y = c.id} i)

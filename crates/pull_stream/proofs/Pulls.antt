@@ -1,5 +1,5 @@
 -- What a pull comes to, of its parts.
-use Rattle.std.proofs.Common.{◌≡◌, ◌≤◌, ◌++◌, ℕ, suc, Bool, true, false, List, [], ◌∷◌, length, take, drop, map, Option, Some, None, Ok, Err, inl, inr, refl, sym, ap, subst, ◌∙◌, arith, bytes_eq}
+use Rattle.std.proofs.Common.{◌≡◌, ◌≤◌, ◌++◌, ℕ, Bool, true, false, List, [], ◌∷◌, length, take, drop, map, Option, Some, None, Ok, Err, inl, inr, refl, sym, ap, subst, ◌∙◌, arith, bytes_eq}
 use Rattle.std.specs.Prelude.{IfSome, is_some, IsTrue, if◌then◌else◌}
 use Rattle.std.specs.List.{find}
 use Rattle.std.proofs.lemmas.List.{length-map, length-append}
@@ -9,52 +9,52 @@ use Rattle.text_model.specs.Lists.{Each, In}
 use Rattle.text_model.specs.Text.{Bytes}
 use Rattle.text_model.specs.Id.{Id}
 use Rattle.text_model.specs.Fault.{Refusal}
-use Rattle.text_model.proofs.EachLemmas.{Each-append, Each-rest, Each-weaker}
+use Rattle.text_model.proofs.EachLemmas.{Each-append, Each-weaker}
+use Rattle.text_model.proofs.Elements.{in_right, take_front, drop_front}
 use Rattle.hg_model.specs.Revision.{Changesets, Revision, knows, known_after}
 use Rattle.git_model.specs.Object.{Object}
 use Rattle.git_model.specs.Stream.{Placed, stream_reading}
-use Rattle.git_stream.specs.declared.arrival.ObjectArrival.{ObjectArrival}
-use Rattle.tree_shape.proofs.Elements.{in-right}
+use Rattle.git_batch.specs.declared.arrival.ObjectArrival.{ObjectArrival}
 use Rattle.view_model.specs.View.{ChangesetView, ManifestParents, NoManifest, Over, Row, changeset_node}
 use Rattle.view_model.specs.Held.{AreChangesetsHeld}
 use Rattle.view_model.specs.Dump.{own_revision, manifest_revision, file_revision, revisions_of, revisions_in, hg_increment}
 use Rattle.pair_model.specs.Block.{Block, node_of, changesets_in}
 use Rattle.pair_state.specs.declared.state.State.{State}
-use Rattle.pair_state.specs.Blocks.{IsStateOf}
+use Rattle.pair_state.specs.Blocks.{IsStateOf, value_of, block_value}
 use Rattle.pull_outcome.specs.declared.pulled.Pulled.{Pulled}
 use Rattle.pull_outcome.specs.declared.refused.PullFault.{PullFault}
 use Rattle.pull_outcome.specs.declared.refused.PullFault.TheVariants as pull
-use Rattle.pull_outcome.specs.Pulls.{PulledGit, RefusesGit}
+use Rattle.pull_outcome.specs.Pulls.{PulledGit, GoesOnGit, RefusesGit}
 use Rattle.pull_outcome.specs.Refused.{IsRefusedBy, FaultCause}
-use Rattle.pull_outcome.specs.Tight.{IsTight, state_value}
+use Rattle.pull_outcome.specs.AllBlocks.{HasAllBlocks, state_value}
 use Rattle.history_model.specs.Pull.{all_known, is_saved, objects_with, CommitsBring, IsCommitRefusal, PullGitRefuses}
 use Rattle.pull_stream.specs.Faults.{IsJudgement}
 use Rattle.pull_stream.specs.Ready.{IsInOrder, LacksParent}
 use Rattle.pull_stream.specs.Taken.{CommitsTaken}
-use Rattle.pull_stream.proofs.Loop.{first-revisions}
+use Rattle.pull_stream.proofs.Loop.{first-revisions, none-linked}
 
 -- ---- refusals
 
-pub all-tight : (s : State) (o : Option Bytes) (Q : List Block → Bytes → Type 0) → ((blocks : List Block) → IsTight s blocks → IfSome o (Q blocks)) → IfSome o (λ bytes. (blocks : List Block) → IsTight s blocks → Q blocks bytes)
-all-tight s None Q h = tt
-all-tight s (Some bytes) Q h = h
+pub over-all : (s : State) (o : Option Bytes) (Q : List Block → Bytes → Type 0) → ((blocks : List Block) → HasAllBlocks s blocks → IfSome o (Q blocks)) → IfSome o (λ bytes. (blocks : List Block) → HasAllBlocks s blocks → Q blocks bytes)
+over-all s None Q h = tt
+over-all s (Some bytes) Q h = h
 
 pub some-map : (o : Option Bytes) (P Q : Bytes → Type 0) → ((bytes : Bytes) → P bytes → Q bytes) → IfSome o P → IfSome o Q
 some-map None P Q f h = tt
 some-map (Some bytes) P Q f h = f bytes h
 
 pub judged-cause : (Due : Refusal → Type 0) (e : PullFault) (before now : ℕ) → now ≡ before → IsJudgement Due e → FaultCause before now e
-judged-cause Due (pull.Refused why id at) before now same due = same
+judged-cause Due (pull.Refused why) before now same due = same
 judged-cause Due pull.Read before now same due = absurd due
 judged-cause Due pull.Memory before now same due = same
 
 judged : (Due Later : Refusal → Type 0) → ((why : Refusal) → Due why → Later why) → (e : PullFault) → IsJudgement Due e → IsRefusedBy Later e
-judged Due Later f (pull.Refused why id at) due = f _ due
+judged Due Later f (pull.Refused why) due = f _ due
 judged Due Later f pull.Read due = absurd due
 judged Due Later f pull.Memory due = tt
 
 refused-later : (Due Later : Refusal → Type 0) → ((why : Refusal) → Due why → Later why) → (e : PullFault) → IsRefusedBy Due e → IsRefusedBy Later e
-refused-later Due Later f (pull.Refused why id at) due = f _ due
+refused-later Due Later f (pull.Refused why) due = f _ due
 refused-later Due Later f pull.Read due = tt
 refused-later Due Later f pull.Memory due = tt
 
@@ -71,49 +71,23 @@ module _ (s : State) (blocks : List Block) where
     commit-refused next arrivals ordered o bytes e h reads =
         judged (IsCommitRefusal (state_value s blocks) came ordered) (PullGitRefuses (state_value s blocks) bytes) (λ why is. inr (came, reads, inr (ordered, o.order, is))) e h
 
--- ---- plain blocks
+-- ---- the changesets of the new blocks
 
-abbrev pub ArePlain : List Block → Type 0
-ArePlain blocks = Each (λ b. b.links ≡ []) blocks
+many : (s : State) (blocks : List Block) (n : ℕ) → IsStateOf s blocks → n ≡ length s.changesets → n ≡ length (changesets_in blocks)
+many s blocks n state is = is ∙ ap length state.changesets ∙ length-map (changesets_in blocks) changeset_node
 
-first-changeset : (b : Block) (blocks : List Block) → b.links ≡ [] → changesets_in (b ∷ blocks) ≡ b.changeset ∷ changesets_in blocks
-first-changeset b blocks none = ap (λ (l : List ChangesetView). (l ++ b.changeset ∷ []) ++ changesets_in blocks) none
-
-pub nodes-are : (blocks : List Block) → ArePlain blocks → map changeset_node (changesets_in blocks) ≡ map node_of blocks
-nodes-are [] plain = refl
-nodes-are (b ∷ blocks) plain = ap (map changeset_node) (first-changeset b blocks plain.0) ∙ ap (λ (l : List Id). node_of b ∷ l) (nodes-are blocks plain.1)
-
-changesets-count : (blocks : List Block) → ArePlain blocks → length (changesets_in blocks) ≡ length blocks
-changesets-count [] plain = refl
-changesets-count (b ∷ blocks) plain = ap length (first-changeset b blocks plain.0) ∙ ap (λ (n : ℕ). suc n) (changesets-count blocks plain.1)
-
-take-front : {X : Type 0} (xs ys : List X) → take (length xs) (xs ++ ys) ≡ xs
-take-front [] ys = refl
-take-front (x ∷ xs) ys = ap (λ l. x ∷ l) (take-front xs ys)
-
-drop-front : {X : Type 0} (xs ys : List X) → drop (length xs) (xs ++ ys) ≡ ys
-drop-front [] ys = refl
-drop-front (x ∷ xs) ys = drop-front xs ys
-
-pub plain-front : (blocks new : List Block) → ArePlain (blocks ++ new) → ArePlain blocks
-plain-front [] new plain = tt
-plain-front (b ∷ blocks) new plain = (plain.0, plain-front blocks new plain.1)
+split : (blocks new : List Block) → changesets_in (blocks ++ new) ≡ changesets_in blocks ++ changesets_in new
+split blocks new = flat_map-append (λ (b : Block). b.links ++ b.changeset ∷ []) blocks new
 
 -- the changesets of the first blocks, and of those behind them
-module _ (blocks new : List Block) (plain : ArePlain (blocks ++ new)) (n : ℕ) (is : n ≡ length blocks) where
-  split : changesets_in (blocks ++ new) ≡ changesets_in blocks ++ changesets_in new
-  split = flat_map-append (λ (b : Block). b.links ++ b.changeset ∷ []) blocks new
+module _ (blocks new : List Block) (n : ℕ) (is : n ≡ length (changesets_in blocks)) where
+  old-ones : take n (changesets_in (blocks ++ new)) ≡ changesets_in blocks
+  old-ones = (λ i. take (is i) (split blocks new i)) ∙ take_front (changesets_in blocks) (changesets_in new)
 
-  many : n ≡ length (changesets_in blocks)
-  many = is ∙ sym (changesets-count blocks (plain-front blocks new plain))
+  new-ones : drop n (changesets_in (blocks ++ new)) ≡ changesets_in new
+  new-ones = (λ i. drop (is i) (split blocks new i)) ∙ drop_front (changesets_in blocks) (changesets_in new)
 
-  pub old-ones : take n (changesets_in (blocks ++ new)) ≡ changesets_in blocks
-  old-ones = (λ i. take (many i) (split i)) ∙ take-front (changesets_in blocks) (changesets_in new)
-
-  pub new-ones : drop n (changesets_in (blocks ++ new)) ≡ changesets_in new
-  new-ones = (λ i. drop (many i) (split i)) ∙ drop-front (changesets_in blocks) (changesets_in new)
-
--- ---- the state stays tight
+-- ---- each known changeset has its block
 
 abbrev IsSaved : List Block → Revision → Type 0
 IsSaved blocks r = r.group ≡ Changesets → IsTrue (is_saved blocks r.node)
@@ -151,7 +125,7 @@ module _ (all : List Block) where
       Each-append (IsSaved all) (own_revision b.changeset ∷ manifest_revision b.changeset (b.changeset).manifest) (map (file_revision (changeset_node b.changeset)) (b.changeset).rows)
       ((λ e. saved-in all b i), manifests-saved b.changeset (b.changeset).manifest) (files-saved (changeset_node b.changeset) (b.changeset).rows)
 
-  blocks-saved : (new : List Block) → ArePlain new → ((b : Block) → In b new → In b all) → Each (IsSaved all) (revisions_in (changesets_in new))
+  blocks-saved : (new : List Block) → Each (λ b. b.links ≡ []) new → ((b : Block) → In b new → In b all) → Each (IsSaved all) (revisions_in (changesets_in new))
   blocks-saved [] plain within = tt
   blocks-saved (b ∷ new) plain within =
       subst (Each (IsSaved all)) (sym (first-revisions b new plain.0))
@@ -168,46 +142,70 @@ module _ (all : List Block) where
   known-saved known [] old more = old
   known-saved known (r ∷ rs) old more = known-saved (known_after known r) rs (after-saved known r old more.0) more.1
 
-pub stays-tight : (known : List Revision) (blocks new : List Block) → ArePlain (blocks ++ new) → Each (IsSaved blocks) known → Each (IsSaved (blocks ++ new)) (all_known known (revisions_in (changesets_in new)))
-stays-tight known blocks new plain old =
-    known-saved (blocks ++ new) known (revisions_in (changesets_in new)) (Each-weaker (IsSaved blocks) (IsSaved (blocks ++ new)) (λ r h e. saved-more blocks new r.node (h e)) known old)
-    (blocks-saved (blocks ++ new) new (Each-rest (λ (b : Block). b.links ≡ []) blocks new plain) (λ b i. in-right b blocks new i))
+all-saved : (known : List Revision) (blocks new : List Block) → Each (λ b. b.links ≡ []) new → Each (IsSaved blocks) known
+    → Each (IsSaved (blocks ++ new)) (all_known known (revisions_in (changesets_in new)))
+all-saved known blocks new plain old =
+    known-saved (blocks ++ new) known (revisions_in (changesets_in new))
+    (Each-weaker (IsSaved blocks) (IsSaved (blocks ++ new)) (λ r h e. saved-more blocks new r.node (h e)) known old)
+    (blocks-saved (blocks ++ new) new plain (λ b i. in_right b blocks new i))
 
 -- ---- what is written
 
-pub held-nodes : (s : State) (blocks : List Block) → IsStateOf s blocks → AreChangesetsHeld s.known.hg s.nodes (changesets_in blocks)
-held-nodes s blocks state =
-    subst (λ (ids : List Id). AreChangesetsHeld s.known.hg ids (changesets_in blocks)) (nodes-are blocks (state.held).plain ∙ sym state.nodes) ((state.held).held).changesets
+pub held-nodes : (s : State) (blocks : List Block) → IsStateOf s blocks → AreChangesetsHeld s.known.hg s.changesets (changesets_in blocks)
+held-nodes s blocks state = subst (λ (ids : List Id). AreChangesetsHeld s.known.hg ids (changesets_in blocks)) (sym state.changesets) ((state.held).held).changesets
 
-pub count-is : (s : State) (blocks : List Block) (n : ℕ) → IsStateOf s blocks → n ≡ length s.nodes → n ≡ length blocks
-count-is s blocks n state is = is ∙ ap length state.nodes ∙ length-map blocks node_of
+pub count-is : (s : State) (blocks : List Block) (n : ℕ) → IsStateOf s blocks → n ≡ length s.blocks → n ≡ length blocks
+count-is s blocks n state is = is ∙ sym (length-map s.blocks value_of) ∙ ap length state.blocks_are ∙ length-map blocks block_value
 
-pub count-within : (s : State) (blocks new : List Block) (n : ℕ) → IsStateOf s (blocks ++ new) → n ≡ length blocks → n ≤ length s.nodes
-count-within s blocks new n state is = omega (arith, is, ap length state.nodes, length-map (blocks ++ new) node_of, length-append blocks new)
+pub count-within : (s next : State) (blocks new : List Block) (n : ℕ) → IsStateOf s blocks → IsStateOf next (blocks ++ new) → n ≡ length s.changesets → n ≤ length next.changesets
+count-within s next blocks new n state later is =
+    omega (arith, many s blocks n state is, ap length later.changesets, length-map (changesets_in (blocks ++ new)) changeset_node, ap length (split blocks new), length-append (changesets_in blocks) (changesets_in new))
 
-module _ (s : State) (blocks : List Block) (tight : IsTight s blocks) (mid : State) (arrivals : List ObjectArrival) (ordered : List Id) (came : List Placed) (o : IsInOrder mid arrivals ordered (state_value s blocks) came) where
-  pub accepted : (p : Pulled) (new : List Block) → CommitsTaken mid p.state blocks ordered new → p.first_new ≡ length blocks
-      → (p.made).items ≡ hg_increment (p.state).known.hg (take p.first_new (changesets_in (blocks ++ new))) (drop p.first_new (changesets_in (blocks ++ new)))
-      → (bytes : Bytes) → stream_reading s.known.git bytes ≡ Ok came → PulledGit s blocks bytes p
-  accepted p new taken count made bytes reads =
-      let plain : ArePlain (blocks ++ new) = ((taken.state).held).plain in
-      let known : (p.state).known.hg ≡ all_known s.known.hg (revisions_in (changesets_in new)) = taken.revisions ∙ ap (λ (k : List Revision). all_known k (revisions_in (changesets_in new))) (o.ready).revisions in record {
-        makes = record {
-          came = came;
-          reads = reads;
-          new = new;
-          brings = record {
-            ordered = ordered;
-            order = o.order;
-            brings =
-                subst (λ (k : List Revision). CommitsBring k (objects_with (state_value s blocks) came) blocks ordered new) (o.ready).revisions
-                (subst (λ (os : List Object). CommitsBring mid.known.hg os blocks ordered new) (o.ready).objects taken.brings);
-          };
-          is = made ∙ (λ i. hg_increment (known i) (old-ones blocks new plain p.first_new count i) (new-ones blocks new plain p.first_new count i));
+module _ (s : State) (blocks : List Block) (all : HasAllBlocks s blocks) (mid : State) (arrivals : List ObjectArrival) (ordered : List Id) (came : List Placed)
+    (o : IsInOrder mid arrivals ordered (state_value s blocks) came) (p : Pulled) (new : List Block) (taken : CommitsTaken mid p.state blocks ordered new) where
+  known-is : (p.state).known.hg ≡ all_known s.known.hg (revisions_in (changesets_in new))
+  known-is = taken.revisions ∙ ap (λ (k : List Revision). all_known k (revisions_in (changesets_in new))) (o.ready).revisions
+
+  next-all : HasAllBlocks p.state (blocks ++ new)
+  next-all = record {
+    state = taken.state;
+    saved =
+        subst (Each (IsSaved (blocks ++ new))) (sym known-is)
+        (all-saved s.known.hg blocks new (none-linked mid.known.hg mid.known.git blocks ordered new taken.brings) all.saved);
+  }
+
+  module _ (count : p.first_new ≡ length blocks) (n : ℕ) (saved : n ≡ length s.changesets)
+      (made : p.made ≡ hg_increment (p.state).known.hg (take n (changesets_in (blocks ++ new))) (drop n (changesets_in (blocks ++ new)))) where
+    made-is : p.made ≡ hg_increment (all_known s.known.hg (revisions_in (changesets_in new))) (changesets_in blocks) (changesets_in new)
+    made-is =
+        let old = many s blocks n all.state saved in
+        made ∙ (λ i. hg_increment (known-is i) (old-ones blocks new n old i) (new-ones blocks new n old i))
+
+    pub goes-on : mid.tags ≡ s.tags → mid.names ≡ s.names → GoesOnGit s blocks p
+    goes-on tags names = record {
+      new = new;
+      next = next-all;
+      first_new = count;
+      made = made-is;
+      tags = taken.tags ∙ tags;
+      names = taken.names ∙ names;
+    }
+
+    pub accepted : (bytes : Bytes) → stream_reading s.known.git bytes ≡ Ok came → PulledGit s blocks bytes p
+    accepted bytes reads = record {
+      makes = record {
+        came = came;
+        reads = reads;
+        new = new;
+        brings = record {
+          ordered = ordered;
+          order = o.order;
+          brings =
+              subst (λ (k : List Revision). CommitsBring k (objects_with (state_value s blocks) came) blocks ordered new) (o.ready).revisions
+              (subst (λ (os : List Object). CommitsBring mid.known.hg os blocks ordered new) (o.ready).objects taken.brings);
         };
-        next = record {
-          state = taken.state;
-          saved = subst (Each (IsSaved (blocks ++ new))) (sym known) (stays-tight s.known.hg blocks new plain tight.saved);
-        };
-        first_new = count;
-      }
+        is = made-is;
+      };
+      next = next-all;
+      first_new = count;
+    }

@@ -8,8 +8,8 @@ use Rattle.pair_known.specs.declared.fault.PairFault.{PairFault}
 use Rattle.pair_known.specs.declared.fault.PairFault.TheVariants as pair
 use Rattle.pair_state.specs.declared.fault.PushFault.{PushFault}
 use Rattle.pair_state.specs.declared.fault.PushFault.TheVariants as push
-use Rattle.pull_outcome.specs.Names.{fault_name}
-use Rattle.pull_outcome.specs.declared.fault.Fault.TheVariants as name
+use Rattle.bridge_text.specs.Refusals.{fault_name, refusal_value}
+use Rattle.bridge_text.specs.declared.fault.Fault.TheVariants as name
 use Rattle.pull_outcome.specs.declared.refused.PullFault.{PullFault}
 use Rattle.pull_outcome.specs.declared.refused.PullFault.TheVariants as pull
 use Rattle.pull_stream.specs.declared.fault.TakeFault.{TakeFault}
@@ -17,7 +17,6 @@ use Rattle.pull_stream.specs.declared.fault.TakeFault.TheVariants.{Refused, Memo
 
 abbrev pub tree_refused : TreeFault → TakeFault
 tree_refused (tree.ObjectUnknown id) = Refused name.ObjectUnknown
-tree_refused (tree.EmptySubtree id) = Refused name.EmptySubtree
 tree_refused tree.PathUnfit = Refused name.PathUnfit
 tree_refused tree.Limit = Refused name.PairLimit
 tree_refused tree.Memory = Memory
@@ -37,11 +36,11 @@ IsNameDue Due Memory = ⊤
 
 -- the refusal is one that is due, and no input was read; of memory nothing is told
 abbrev pub IsJudgement : (Refusal → Type 0) → PullFault → Type 0
-IsJudgement Due (pull.Refused why id at) = Due (record { name = fault_name why; id = id; place = at })
+IsJudgement Due (pull.Refused why) = Due (refusal_value why)
 IsJudgement Due pull.Read = ⊥
 IsJudgement Due pull.Memory = ⊤
 
 -- the fault of the commit with this id, which came at this place
 abbrev pub placed_fault : Id → ℕ → TakeFault → PullFault
-placed_fault id at (Refused why) = pull.Refused why id at
+placed_fault id at (Refused why) = pull.Refused (record { fault = why; id = id; place = at })
 placed_fault id at Memory = pull.Memory

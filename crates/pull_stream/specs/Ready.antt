@@ -7,12 +7,12 @@ use Rattle.text_model.specs.Fault.{Refusal, refusal}
 use Rattle.text_model.specs.Fault as fault
 use Rattle.git_model.specs.Order.{IsOrder, IsStuckAt}
 use Rattle.git_model.specs.Stream.{Placed}
-use Rattle.git_stream.specs.declared.arrival.ObjectArrival.{ObjectArrival}
-use Rattle.git_stream.specs.Arrivals.{arrival_of, is_of}
+use Rattle.git_batch.specs.declared.arrival.ObjectArrival.{ObjectArrival}
+use Rattle.git_batch.specs.Arrivals.{arrival_of, is_of}
 use Rattle.tree_shape.specs.Laws.{IsKnown}
-use Rattle.git_order.specs.declared.fault.OrderFault.{OrderFault}
-use Rattle.git_order.specs.declared.fault.OrderFault.TheVariants as order
-use Rattle.pull_outcome.specs.declared.fault.Fault.TheVariants as name
+use Rattle.git_store.specs.declared.order.fault.OrderFault.{OrderFault}
+use Rattle.git_store.specs.declared.order.fault.OrderFault.TheVariants as order
+use Rattle.bridge_text.specs.declared.fault.Fault.TheVariants as name
 use Rattle.pull_outcome.specs.declared.refused.PullFault.{PullFault}
 use Rattle.pull_outcome.specs.declared.refused.PullFault.TheVariants as pull
 use Rattle.history_model.specs.Pull as model
@@ -53,5 +53,5 @@ HasPlace arrivals order.Memory = ⊤
 
 -- its refusal, with that place
 abbrev pub IsOrderRefusal : List ObjectArrival → OrderFault → PullFault → Type 0
-IsOrderRefusal arrivals (order.ParentUnknown id) refused = (at : ℕ) → place_among arrivals id ≡ Some at → refused ≡ pull.Refused name.ParentUnknown id at
+IsOrderRefusal arrivals (order.ParentUnknown id) refused = (at : ℕ) → place_among arrivals id ≡ Some at → refused ≡ pull.Refused (record { fault = name.ParentUnknown; id = id; place = at })
 IsOrderRefusal arrivals order.Memory refused = refused ≡ pull.Memory

@@ -1,5 +1,5 @@
 -- Commits that are taken into a state, one after the other.
-use Rattle.std.specs.Prelude.{◌≡◌, None, Some, List, [], ◌∷◌, ◌++◌, map, is_some, IsTrue}
+use Rattle.std.specs.Prelude.{◌≡◌, ◌≤◌, None, Some, List, [], ◌∷◌, ◌++◌, length, map, is_some, IsTrue}
 use Rattle.text_model.specs.Lists.{Each}
 use Rattle.text_model.specs.Text.{Bytes}
 use Rattle.text_model.specs.Id.{Id, commit}
@@ -35,6 +35,7 @@ pub record IsDraftFor (s : State) (id : Id) (blocks : List Block) (d : GitDraft)
   pub held : IsCommitHeld s.known.git id v
   pub walks : walk_fault s.known.git (v.value).tree_id ≡ None
   pub id_is : commit_id v ≡ id
+  pub few : length (v.value).parents ≤ 2
   pub over : IsCommitOver s.known blocks d v
 
 -- the draft is that of the changeset that the rule gives, and the rule gives the commit back
@@ -55,6 +56,8 @@ pub record CommitTaken (s next : State) (id : Id) (blocks : List Block) (b : Blo
   pub state : IsStateOf next (blocks ++ b ∷ [])
   pub revisions : next.known.hg ≡ all_known s.known.hg (revisions_of b.changeset)
   pub objects : next.known.git ≡ s.known.git
+  pub tags : next.tags ≡ s.tags
+  pub names : next.names ≡ s.names
 
 -- the same of commits one after the other
 pub record CommitsTaken (s next : State) (blocks : List Block) (ids : List Id) (new : List Block) : Type 0 where
@@ -63,3 +66,5 @@ pub record CommitsTaken (s next : State) (blocks : List Block) (ids : List Id) (
   pub state : IsStateOf next (blocks ++ new)
   pub revisions : next.known.hg ≡ all_known s.known.hg (revisions_in (changesets_in new))
   pub objects : next.known.git ≡ s.known.git
+  pub tags : next.tags ≡ s.tags
+  pub names : next.names ≡ s.names

@@ -12,14 +12,12 @@ use crate::fault::TakeFault;
 use crate::place::first_place;
 use crate::take::take_commit;
 use bridge_text::{Id, IdList};
-use git_stream::ObjectArrivals;
+use git_batch::ObjectArrivals;
 use pair_state::State;
-use pull_outcome::PullFault;
-use std::alloc::Global;
+use pull_outcome::{PullFault, Refusal};
 
 /// Takes the commits of a stream in their order, each over the blocks before it. The fault is that of the first that is refused.
 pub fn take_commits(
-    alloc: Global,
     state: State,
     came: &ObjectArrivals,
     ordered: &IdList,
@@ -32,7 +30,7 @@ pub fn take_commits(
 {
     let mut next = state;
     for id in ordered.as_slice() {
-        next = match take_commit(alloc, next, id) {
+        next = match take_commit(next, id) {
             Ok(taken) => taken,
             Err(fault) => return Err(refused_at(came, id, fault)),
         };
@@ -46,11 +44,11 @@ fn refused_at(came: &ObjectArrivals, id: &Id, fault: TakeFault) -> PullFault
     ensures { (at : ℕ) → place_among came.now id.now ≡ Some at → result ≡ placed_fault id.now at fault }
 {
     match fault {
-        TakeFault::Refused(fault) => PullFault::Refused {
+        TakeFault::Refused(fault) => PullFault::Refused(Refusal {
             fault,
             id: *id,
-            at: first_place(came, id).unwrap(),
-        },
+            place: first_place(came, id).unwrap(),
+        }),
         TakeFault::Memory => PullFault::Memory,
     }
 }

@@ -32,7 +32,6 @@ impl From<TreeFault> for TakeFault {
     fn from(fault: TreeFault) -> TakeFault {
         match fault {
             TreeFault::ObjectUnknown(_) => TakeFault::Refused(Fault::ObjectUnknown),
-            TreeFault::EmptySubtree(_) => TakeFault::Refused(Fault::EmptySubtree),
             TreeFault::PathUnfit => TakeFault::Refused(Fault::PathUnfit),
             TreeFault::Limit => TakeFault::Refused(Fault::PairLimit),
             TreeFault::Memory => TakeFault::Memory,

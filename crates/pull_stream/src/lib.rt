@@ -10,6 +10,3 @@ mod pull;
 mod take;
 
 pub use pull::pull_git;
-
-#[cfg(test)]
-mod tests;

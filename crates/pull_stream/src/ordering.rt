@@ -4,35 +4,31 @@ ghost use Rattle.text_model.specs.Id.{has_id};
 ghost use Rattle.text_model.specs.Id as text;
 ghost use Rattle.git_model.specs.Stream.{Placed};
 ghost use Rattle.git_model.specs.Order.{IsOrder};
-ghost use Rattle.git_order.specs.Ancestry.{ancestries as rows};
-ghost use Rattle.git_order.specs.Faults.{IsOrderFault};
+ghost use Rattle.git_store.specs.Ancestry.{ancestries as rows};
+ghost use Rattle.git_store.specs.OrderFaults.{IsOrderFault};
 ghost use Rattle.history_model.specs.Pull as model;
 ghost use Rattle.pull_stream.specs.Faults.{IsJudgement};
 ghost use Rattle.pull_stream.specs.Ready.{IsReady, IsInOrder, LacksParent, HasPlace, IsOrderRefusal, commits_among};
 
 use crate::place::first_place;
 use bridge_text::{Id, IdList, IdSet, Kind, NoMemory};
-use git_order::OrderFault;
-use git_store::GitStore;
-use git_stream::ObjectArrivals;
+use git_batch::ObjectArrivals;
+use git_store::{GitStore, OrderFault};
 use pair_state::State;
-use pull_outcome::{Fault, PullFault};
+use pull_outcome::{Fault, PullFault, Refusal};
 use std::alloc::Global;
 
 /// The order in which the new commits of a stream are taken. ParentUnknown comes exactly where one of them is never reached.
-pub fn order_commits(
-    alloc: Global,
-    state: &State,
-    came: &ObjectArrivals,
-) -> Result<IdList, PullFault>
+pub fn order_commits(state: &State, came: &ObjectArrivals) -> Result<IdList, PullFault>
     requires ready { (m : model.State) × (placed : List Placed) × IsReady state.now came.now m placed }
     ensures order { IfOk result (λ ordered. (m : model.State) (placed : List Placed) → IsReady state.now came.now m placed
         → IsInOrder state.now came.now ordered m placed) }
     ensures stuck { IfErr result (λ fault. (m : model.State) (placed : List Placed) → IsReady state.now came.now m placed
         → IsJudgement (LacksParent m placed) fault) }
 {
+    let alloc = state.alloc();
     let commits = commit_ids(alloc, came)?;
-    match order_over(alloc, &state.known.git, &commits, &state.ids) {
+    match order_over(alloc, &state.known.git, &commits, &state.commits) {
         Ok(ordered) => Ok(ordered),
         Err(fault) => Err(refusal_of(came, fault)),
     }
@@ -49,7 +45,7 @@ fn order_over(
     ensures fault { IfErr result (IsOrderFault (rows store.now commits.now) ids.now) }
 {
     let saved = set_of(alloc, ids)?;
-    git_order::order(alloc, store, commits, &saved)
+    store.order(commits, &saved)
 }
 
 // The refusal of a commit that came and whose parents lack.
@@ -58,11 +54,11 @@ fn refusal_of(came: &ObjectArrivals, fault: OrderFault) -> PullFault
     ensures { IsOrderRefusal came.now fault result }
 {
     match fault {
-        OrderFault::ParentUnknown(id) => PullFault::Refused {
+        OrderFault::ParentUnknown(id) => PullFault::Refused(Refusal {
             fault: Fault::ParentUnknown,
             id,
-            at: first_place(came, &id).unwrap(),
-        },
+            place: first_place(came, &id).unwrap(),
+        }),
         OrderFault::Memory => PullFault::Memory,
     }
 }

@@ -1,7 +1,8 @@
 use Rattle.std.proofs.Common.{sym, subst, ◌∙◌}
 use Rattle.std.specs.Prelude.{IfSome}
 use Rattle.tree_shape.specs.Laws.{IsKnown}
-use Rattle.pair_state.specs.Step.{body_blob, AreBlobs, IsElse}
+use Rattle.pair_state.specs.Blocks.{body_blob}
+use Rattle.pair_state.specs.Step.{AreBlobs, IsElse}
 use Rattle.pair_state.proofs.BodyLemmas.{asked-at, each-more, some-at, value-at}
 use Rattle.pair_state.proofs.bodies.have_blobs.Goals as goal
 

@@ -2,7 +2,8 @@ use Rattle.std.proofs.Common.{◌≡◌, List, take}
 use Rattle.text_model.specs.Lists.{Each}
 use Rattle.tree_shape.specs.Laws.{IsKnown}
 use Rattle.view_model.specs.View.{Row}
-use Rattle.pair_state.specs.Step.{body_blob, AreAsked}
+use Rattle.pair_state.specs.Blocks.{body_blob}
+use Rattle.pair_state.specs.Step.{AreAsked}
 use Rattle.pair_state.proofs.bodies.have_blobs.Given as goal
 
 -- the files so far have their bodies, and the parents' files are as they were

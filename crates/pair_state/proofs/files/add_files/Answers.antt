@@ -53,4 +53,4 @@ returns-in_err-add_file-clause-collision c = λ is base k a.
 pub returns-clause-ok : goal.returns-clause-ok
 returns-clause-ok c = λ base k a.
     subst (λ rows. HaveCome c.args.hg.now c.loop-row.hg (map (file_revision c.args.link) rows))
-    (take_all c.loop-row.row-index k.rows (omega (arith, length-map k.rows row_value, ap length a.ruled.draft.rows, ap length c.as_slice-list.ensures, c.loop-row-test.false))) (c.loop-row.invariant base k a)
+    (take_all c.loop-row.row-index k.rows (omega (arith, length-map k.rows row_value, ap length a.part.made.draft.rows, ap length c.as_slice-list.ensures, c.loop-row-test.false))) (c.loop-row.invariant base k a)

@@ -1,6 +1,6 @@
 use Rattle.std.proofs.Common.{ap, sym, subst, ◌∙◌}
 use Rattle.hg_bundle.specs.declared.arrival.Arrival.{Arrival}
-use Rattle.pull_outcome.specs.Names.{fault_name}
+use Rattle.bridge_text.specs.Refusals.{fault_name}
 use Rattle.pull_bundle.specs.Faults.{IsTakeFault}
 use Rattle.pull_bundle.proofs.TakeLemmas.{ComesDue}
 use Rattle.pull_bundle.proofs.ArrivalLemmas.{group-is, other-taken, changeset-taken}
@@ -19,7 +19,7 @@ returns-then-not-is_changeset-clause-ok c = λ blocks before a is comes.
 pub returns-in-Ok-clause-ok : goal.returns-in-Ok-clause-ok
 returns-in-Ok-clause-ok c = λ blocks before a is comes.
     let one = sym (c.is_changeset.ensures a is) ∙ c.if-not-is_changeset.false in
-    changeset-taken c.args.state c.check.ensures c.in-Ok.next before blocks a one comes (c.in-Ok.ensures.ok blocks before a.revision (sym (ap (λ (x : Arrival). x.node) is)) (group-is (a.revision).group one) comes)
+    changeset-taken c.args.state c.in-Ok.next before blocks a one comes (c.in-Ok.ensures.ok blocks before a.revision (sym (ap (λ (x : Arrival). x.node) is)) (group-is (a.revision).group one) comes)
 
 pub returns-in-Err-Refused-clause-refused : goal.returns-in-Err-Refused-clause-refused
 returns-in-Err-Refused-clause-refused c = λ blocks before a is comes.

@@ -9,7 +9,7 @@ use Rattle.pull_bundle.proofs.commit.ruled_commit.Goals as goal
 pub has_clash-requires : goal.has_clash-requires
 has_clash-requires c =
     let over = c.requires.over.2 in
-    ap (rises is_below) (paths-are c.args.known.now c.requires.over.0 c.args.h.now c.requires.over.1 over c.as_slice.result.now c.as_slice.ensures) ∙ over.view.in_order
+    ap (rises is_below) (paths-are c.args.known.now c.requires.over.0 c.args.h.now c.requires.over.1 over c.as_slice.result.now c.as_slice.ensures) ∙ over.inside.view.in_order
 
 pub returns-then-has_clash-clause-refused : goal.returns-then-has_clash-clause-refused
 returns-then-has_clash-clause-refused c = λ blocks v over.

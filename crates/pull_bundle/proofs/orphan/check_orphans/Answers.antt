@@ -12,13 +12,13 @@ use Rattle.pull_bundle.proofs.OrphanLemmas.{state-held, find-here, find-later}
 use Rattle.pull_bundle.proofs.orphan.check_orphans.Goals as goal
 
 pub of-requires : goal.of-requires
-of-requires c = record { held = (changesets_in c.requires.state.0, state-held c.args.state.now c.as_slice.result.now c.requires.state.0 c.requires.state.1 c.as_slice.ensures) }
+of-requires c = record { held = (changesets_in c.requires.state.0, state-held c.args.state.now c.as_slice.result.now c.requires.state.0 c.requires.state.1 (c.as_slice.ensures ∙ c.as_list.ensures)) }
 
 pub returns-then-is_orphan-clause-refused : goal.returns-then-is_orphan-clause-refused
 returns-then-is_orphan-clause-refused c = λ blocks came state are.
     let i = c.loop-place.place in
     let e = entry-at came i c.at-arrival.result.now (ap (λ (l : List Arrival). slice_get l i) (sym are) ∙ c.at-arrival.ensures) in
-    let refers = c.in_ok-refers.ensures (changesets_in blocks) (state-held c.args.state.now c.as_slice.result.now blocks state c.as_slice.ensures) in
+    let refers = c.in_ok-refers.ensures (changesets_in blocks) (state-held c.args.state.now c.as_slice.result.now blocks state (c.as_slice.ensures ∙ c.as_list.ensures)) in
     let orphan : is_orphan blocks e.entry ≡ true = sym (c.is_orphan.ensures blocks e.entry refers e.is) ∙ c.if-is_orphan.true in
     record {
       orphan = e.entry;
@@ -31,7 +31,7 @@ loop-place-preserved c =
     let i = c.loop-place.place in record {
       none = λ blocks came state are.
           let e = entry-at came i c.at-arrival.result.now (ap (λ (l : List Arrival). slice_get l i) (sym are) ∙ c.at-arrival.ensures) in
-          let refers = c.in_ok-refers.ensures (changesets_in blocks) (state-held c.args.state.now c.as_slice.result.now blocks state c.as_slice.ensures) in
+          let refers = c.in_ok-refers.ensures (changesets_in blocks) (state-held c.args.state.now c.as_slice.result.now blocks state (c.as_slice.ensures ∙ c.as_list.ensures)) in
           let other : is_orphan blocks e.entry ≡ false = sym (c.is_orphan.ensures blocks e.entry refers e.is) ∙ c.if-is_orphan.false in
           find-later (is_orphan blocks) came i e.entry e.at (c.loop-place.invariant.none blocks came state are) other;
     }

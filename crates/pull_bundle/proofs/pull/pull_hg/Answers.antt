@@ -1,7 +1,7 @@
-use Rattle.std.proofs.Common.{◌++◌}
+use Rattle.std.proofs.Common.{◌++◌, ◌∙◌}
 use Rattle.std.proofs.lemmas.Result.{err_from_is_err_and}
 use Rattle.pair_model.specs.Block.{commits_in}
-use Rattle.pull_bundle.proofs.PullLemmas.{memory-refused, no-read_cause, starts-read, take-refused, orphan-refused, walkable, count-within, pulled}
+use Rattle.pull_bundle.proofs.PullLemmas.{memory-refused, no-read_cause, starts-read, take-refused, orphan-refused, walkable, count-within, next-goes-on, pulled}
 use Rattle.pull_bundle.proofs.pull.pull_hg.Goals as goal
 
 pub take_all-requires : goal.take_all-requires
@@ -57,6 +57,13 @@ returns-in_err-made-clause-cause g c =
     let p = err_from_is_err_and c.from_residual-in_err-made.result c.from_residual-in_err-made.ensures.1 in
     rw (p.1, p.2) c.in_ok-state.ensures.cause
 
+pub returns-clause-next : goal.returns-clause-next
+returns-clause-next g c =
+    let read = c.in_ok-state.ensures.read in
+    next-goes-on c.args.state c.in_ok-state.state c.in_ok-state-2.state c.in_ok-state.arrivals c.len-first_new.result c.keep.result c.len-first_new.ensures c.in_ok-state-2.ensures.ok
+    (λ cs h. c.keep.ensures ∙ c.in_ok-made.ensures cs h) read.0 read.1
+
 pub returns-clause-pulled : goal.returns-clause-pulled
-returns-clause-pulled g c = pulled (g.S.Source.left c.args.src.now) c.args.state c.in_ok-state.state c.in_ok-state-2.state c.in_ok-state.arrivals c.len-first_new.result c.in_ok-made.made c.len-first_new.ensures c.in_ok-state.ensures.told
-    c.in_ok-state-2.ensures.ok c.in_ok-check_orphans.ensures.ok c.in_ok-made.ensures
+returns-clause-pulled g c =
+    pulled c.args.state c.in_ok-state.state c.in_ok-state-2.state c.in_ok-state.arrivals c.len-first_new.result c.keep.result c.len-first_new.ensures c.in_ok-state-2.ensures.ok
+    (λ cs h. c.keep.ensures ∙ c.in_ok-made.ensures cs h) (g.S.Source.left c.args.src.now) c.in_ok-state.ensures.told c.in_ok-check_orphans.ensures.ok

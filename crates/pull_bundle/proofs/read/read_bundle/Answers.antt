@@ -1,8 +1,33 @@
-use Rattle.pull_bundle.proofs.ReadLemmas.{has-read, told}
+use Rattle.std.proofs.Common.{List, Ok, Err, refl, subst, ap, ◌∙◌}
+use Rattle.std.specs.Prelude.{IfSome}
+use Rattle.std.proofs.lemmas.Result.{err_from_is_err_and}
+use Rattle.hg_model.specs.Revision.{Revision}
+use Rattle.hg_bundle.specs.Arrivals.{Reads, known_after_all, revisions_of}
+use Rattle.pull_bundle.proofs.ReadLemmas.{has-read, told, fault-refused, fault-cause}
 use Rattle.pull_bundle.proofs.read.read_bundle.Goals as goal
 
 pub returns-clause-read : goal.returns-clause-read
-returns-clause-read g c = let came = c.in_ok-hg.ensures.grown in (came.0, has-read c.args.state c.in_ok-hg.hg c.in_ok-hg.arrivals came.0 came.1 came.2 c.check.ensures)
+returns-clause-read g c =
+    let came = c.in_ok-store.ensures.grown in (
+      came.0,
+      has-read c.args.state _ c.in_ok-store.store (revisions_of came.0)
+          (record { known = refl; blocks = refl; changesets = refl; commits = refl; tags = refl; names = refl; agreed = refl })
+          (came.2 ∙ ap (λ (l : List Revision). known_after_all l (revisions_of came.0)) c.replace-store.ensures.value) c.check.ensures c.in_ok-store.arrivals came.0 came.1 refl,
+    )
 
 pub returns-clause-told : goal.returns-clause-told
-returns-clause-told g c = told (g.S.Source.left c.args.src.now) c.args.state c.in_ok-hg.hg c.in_ok-hg.arrivals c.check.ensures c.in_ok-hg.ensures.reads
+returns-clause-told g c =
+    told (g.S.Source.left c.args.src.now) c.args.state _ c.in_ok-store.store c.in_ok-store.arrivals
+    (record { known = refl; blocks = refl; changesets = refl; commits = refl; tags = refl; names = refl; agreed = refl }) c.check.ensures
+    (subst (λ (l : List Revision). IfSome (g.S.Source.left c.args.src.now) (λ bytes. Reads l bytes (Ok (c.in_ok-store.store, c.in_ok-store.arrivals)))) c.replace-store.ensures.value c.in_ok-store.ensures.reads)
+
+pub returns-in_err-store-clause-refused : goal.returns-in_err-store-clause-refused
+returns-in_err-store-clause-refused g c =
+    let p = err_from_is_err_and c.from_residual.result c.from_residual.ensures.1 in
+    rw (p.1, p.2) (fault-refused (g.S.Source.left c.args.src.now) c.args.state.known.hg c.in_err-store.field-0.0
+    (subst (λ (l : List Revision). IfSome (g.S.Source.left c.args.src.now) (λ bytes. Reads l bytes (Err c.in_err-store.field-0.0))) c.replace-store.ensures.value c.in_err-store.ensures.reads))
+
+pub returns-in_err-store-clause-cause : goal.returns-in_err-store-clause-cause
+returns-in_err-store-clause-cause g c =
+    let p = err_from_is_err_and c.from_residual.result c.from_residual.ensures.1 in
+    rw (p.1, p.2) (fault-cause _ _ c.in_err-store.field-0.0 c.in_err-store.ensures.cause)

@@ -1,5 +1,6 @@
 use Rattle.std.proofs.Common.{ap, Err}
 use Rattle.std.proofs.lemmas.Result.{err_from_is_err_and}
+use Rattle.pair_model.specs.Plain.{block_of_changeset}
 use Rattle.pull_bundle.proofs.TakeLemmas.{view-fault, rule-fault, collision-refused, over-it, pushes, gets-block}
 use Rattle.pull_bundle.proofs.take.take_new.Goals as goal
 
@@ -20,7 +21,7 @@ push_commit-requires c =
     let r = c.requires.new.1 in
     let v = c.in_ok-draft.ensures.held in
     let over = over-it c.args.state c.args.node.now blocks r c.requires.new.2 c.requires.new.3 v.0 v.1 c.in_ok-draft.draft (c.in_ok-draft.ensures.draft v.0 v.1) (c.views_are_held.ensures.is_view v.0 v.1) in
-    record { block = (blocks, v.0, pushes c.args.state c.args.node.now blocks r c.requires.new.2 c.requires.new.3 v.0 v.1 c.in_ok-draft.draft c.in_ok-commit.commit over (c.in_ok-commit.ensures.ok blocks v.0 over)) }
+    record { block = (blocks, block_of_changeset blocks v.0, pushes c.args.state c.args.node.now blocks r c.requires.new.2 c.requires.new.3 v.0 v.1 c.in_ok-draft.draft c.new.result c.in_ok-commit.commit c.new.ensures over (c.in_ok-commit.ensures.ok blocks v.0 over)) }
 
 pub returns-in-Ok-clause-ok : goal.returns-in-Ok-clause-ok
 returns-in-Ok-clause-ok c = λ blocks r is new.
@@ -28,7 +29,7 @@ returns-in-Ok-clause-ok c = λ blocks r is new.
     let over = over-it c.args.state c.args.node.now blocks r is new v.0 v.1 c.in_ok-draft.draft (c.in_ok-draft.ensures.draft v.0 v.1) (c.views_are_held.ensures.is_view v.0 v.1) in
     let ruled = c.in_ok-commit.ensures.ok blocks v.0 over in
     gets-block c.args.state c.args.node.now blocks r is new v.0 v.1 c.in-Ok.next c.in_ok-commit.commit ruled
-    (c.in-Ok.ensures.ok blocks v.0 (pushes c.args.state c.args.node.now blocks r is new v.0 v.1 c.in_ok-draft.draft c.in_ok-commit.commit over ruled))
+    (c.in-Ok.ensures.ok blocks (block_of_changeset blocks v.0) (pushes c.args.state c.args.node.now blocks r is new v.0 v.1 c.in_ok-draft.draft c.new.result c.in_ok-commit.commit c.new.ensures over ruled))
 
 pub returns-in-Err-Collision-clause-refused : goal.returns-in-Err-Collision-clause-refused
 returns-in-Err-Collision-clause-refused c = λ blocks r is new.
@@ -36,4 +37,4 @@ returns-in-Err-Collision-clause-refused c = λ blocks r is new.
     let over = over-it c.args.state c.args.node.now blocks r is new v.0 v.1 c.in_ok-draft.draft (c.in_ok-draft.ensures.draft v.0 v.1) (c.views_are_held.ensures.is_view v.0 v.1) in
     let ruled = c.in_ok-commit.ensures.ok blocks v.0 over in
     collision-refused c.args.state c.args.node.now blocks r is new v.0 v.1 c.in_ok-commit.commit ruled
-    (c.in-Err-Collision.ensures.collision (ap Err c.in-Err-Collision.field-0-is) blocks v.0 (pushes c.args.state c.args.node.now blocks r is new v.0 v.1 c.in_ok-draft.draft c.in_ok-commit.commit over ruled))
+    (c.in-Err-Collision.ensures.collision (ap Err c.in-Err-Collision.field-0-is) blocks (block_of_changeset blocks v.0) (pushes c.args.state c.args.node.now blocks r is new v.0 v.1 c.in_ok-draft.draft c.new.result c.in_ok-commit.commit c.new.ensures over ruled))

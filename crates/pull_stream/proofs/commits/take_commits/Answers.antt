@@ -26,7 +26,7 @@ loop-id-preserved c = λ m came o.
     let so_far = c.loop-id.invariant m came o in
     let one = c.in-Ok.ensures.ok (m.blocks ++ so_far.0) (takes c.args.state c.args.came.now c.args.ordered.now m came o c.loop-id.id-index c.id-item.result at.0 at.1 c.loop-id.next so_far.0 so_far.1) in
     let all = taken-push c.args.state c.loop-id.next c.in-Ok.taken m.blocks (take c.loop-id.id-index c.args.ordered.now) so_far.0 c.id-item.result one.0 so_far.1 one.1 in
-    (so_far.0 ++ one.0 ∷ [], subst (λ (ids : List Id). CommitsTaken c.args.state c.in-Ok.taken m.blocks ids (so_far.0 ++ one.0 ∷ [])) (take-at c.args.ordered.now c.loop-id.id-index c.id-item.result at.0 at.1) all)
+    (so_far.0 ++ one.0 ∷ [], subst (λ (ids : List Id). CommitsTaken c.args.state c.in-Ok.taken m.blocks ids (so_far.0 ++ one.0 ∷ [])) (take-at c.args.ordered.now c.loop-id.id-index c.id-item.result at.1) all)
 
 pub returns-in-Err-clause-refused : goal.returns-in-Err-clause-refused
 returns-in-Err-clause-refused c = λ m came o.

@@ -8,8 +8,8 @@ use Rattle.bridge_text.specs.declared.kind.Kind.{Kind}
 use Rattle.bridge_text.specs.declared.kind.Kind.TheVariants.{Blob, Tree, Commit, Tag}
 use Rattle.bridge_text.specs.Kinds.{object_kind}
 use Rattle.text_model.specs.Id.{Id, commit, same_kind}
-use Rattle.git_stream.specs.declared.arrival.ObjectArrival.{ObjectArrival}
-use Rattle.git_stream.specs.Arrivals.{is_of}
+use Rattle.git_batch.specs.declared.arrival.ObjectArrival.{ObjectArrival}
+use Rattle.git_batch.specs.Arrivals.{is_of}
 use Rattle.pull_stream.specs.Ready.{commits_among}
 use Rattle.pull_stream.proofs.ordering.commit_ids.Goals as goal
 use Rattle.pull_stream.proofs.ordering.commit_ids.Goals.{then-eq+in_ok-push, else-eq}

@@ -2,12 +2,12 @@ use Rattle.std.proofs.Common.{◌≡◌, ℕ, List, Some, refl, sym, ap, subst, 
 use Rattle.text_model.specs.Id.{Id}
 use Rattle.git_model.specs.Stream.{Placed}
 use Rattle.git_model.specs.Order.{Ancestry, is_waiting, IsOrder, IsStuckAt}
-use Rattle.git_order.specs.Ancestry as order
-use Rattle.git_order.specs.declared.fault.OrderFault.{OrderFault}
-use Rattle.git_order.specs.declared.fault.OrderFault.TheVariants.{ParentUnknown, Memory}
-use Rattle.git_order.specs.Faults.{IsOrderFault}
-use Rattle.git_order.proofs.FindLemmas.{find-among}
-use Rattle.git_stream.specs.declared.arrival.ObjectArrival.{ObjectArrival}
+use Rattle.git_store.specs.Ancestry as order
+use Rattle.git_store.specs.declared.order.fault.OrderFault.{OrderFault}
+use Rattle.git_store.specs.declared.order.fault.OrderFault.TheVariants.{ParentUnknown, Memory}
+use Rattle.git_store.specs.OrderFaults.{IsOrderFault}
+use Rattle.git_store.proofs.FindLemmas.{find-among}
+use Rattle.git_batch.specs.declared.arrival.ObjectArrival.{ObjectArrival}
 use Rattle.history_model.specs.Pull as model
 use Rattle.history_model.specs.Pull.{ancestries, saved_ids, place_of}
 use Rattle.pair_state.specs.declared.state.State.{State}
@@ -21,12 +21,12 @@ module _ (s : State) (arrivals : List ObjectArrival) (commits : List Id) (listed
   rows : order.ancestries s.known.git commits ≡ ancestries came
   rows = ap (order.ancestries s.known.git) (listed ∙ ap commits_among ready.listed) ∙ same-rows s.known.git came ready.held
 
-  in-order : (ordered : List Id) → IsOrder (order.ancestries s.known.git commits) s.ids ordered → IsOrder (ancestries came) (saved_ids m) ordered
+  in-order : (ordered : List Id) → IsOrder (order.ancestries s.known.git commits) s.commits ordered → IsOrder (ancestries came) (saved_ids m) ordered
   in-order ordered o =
-      subst (λ (saved : List Id). IsOrder (ancestries came) saved ordered) ready.state.ids (subst (λ (rs : List Ancestry). IsOrder rs s.ids ordered) rows o)
+      subst (λ (saved : List Id). IsOrder (ancestries came) saved ordered) ready.state.commits (subst (λ (rs : List Ancestry). IsOrder rs s.commits ordered) rows o)
 
-  stuck : (id : Id) → IsStuckAt (order.ancestries s.known.git commits) s.ids id → IsStuckAt (ancestries came) (saved_ids m) id
-  stuck id o = subst (λ (saved : List Id). IsStuckAt (ancestries came) saved id) ready.state.ids (subst (λ (rs : List Ancestry). IsStuckAt rs s.ids id) rows o)
+  stuck : (id : Id) → IsStuckAt (order.ancestries s.known.git commits) s.commits id → IsStuckAt (ancestries came) (saved_ids m) id
+  stuck id o = subst (λ (saved : List Id). IsStuckAt (ancestries came) saved id) ready.state.commits (subst (λ (rs : List Ancestry). IsStuckAt rs s.commits id) rows o)
 
   place : (id : Id) → IsStuckAt (ancestries came) (saved_ids m) id → (at : ℕ) × (place_of came id ≡ Some at)
   place id o =
@@ -38,11 +38,11 @@ module _ (s : State) (arrivals : List ObjectArrival) (commits : List Id) (listed
   among id at h = ap (λ (l : List ObjectArrival). place_among l id) ready.listed ∙ same-place came id ∙ h
 
   -- the commit at which the order ends has its place
-  placed : (e : OrderFault) → IsOrderFault (order.ancestries s.known.git commits) s.ids e → HasPlace arrivals e
+  placed : (e : OrderFault) → IsOrderFault (order.ancestries s.known.git commits) s.commits e → HasPlace arrivals e
   placed (ParentUnknown id) is = let at = place id (stuck id is) in (at.0, among id at.0 at.1)
   placed Memory is = tt
 
-  refused : (e : OrderFault) (r : PullFault) → IsOrderFault (order.ancestries s.known.git commits) s.ids e → IsOrderRefusal arrivals e r → IsJudgement (LacksParent m came) r
+  refused : (e : OrderFault) (r : PullFault) → IsOrderFault (order.ancestries s.known.git commits) s.commits e → IsOrderRefusal arrivals e r → IsJudgement (LacksParent m came) r
   refused (ParentUnknown id) r is gives =
       let at = place id (stuck id is) in
       subst (IsJudgement (LacksParent m came)) (sym (gives at.0 (among id at.0 at.1))) (id, at.0, stuck id is, at.1, refl)

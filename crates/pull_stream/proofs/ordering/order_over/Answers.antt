@@ -1,10 +1,10 @@
 use Rattle.std.proofs.Common.{◌≡◌, List, Result, Ok, Err, IfOk, IfErr}
 use Rattle.text_model.specs.Id.{Id, has_id}
 use Rattle.git_model.specs.Order.{Ancestry, IsOrder}
-use Rattle.git_order.specs.declared.fault.OrderFault.{OrderFault}
-use Rattle.git_order.specs.declared.fault.OrderFault.TheVariants.{ParentUnknown, Memory}
-use Rattle.git_order.specs.Ancestry.{ancestries}
-use Rattle.git_order.specs.Faults.{IsOrderFault}
+use Rattle.git_store.specs.declared.order.fault.OrderFault.{OrderFault}
+use Rattle.git_store.specs.declared.order.fault.OrderFault.TheVariants.{ParentUnknown, Memory}
+use Rattle.git_store.specs.Ancestry.{ancestries}
+use Rattle.git_store.specs.OrderFaults.{IsOrderFault}
 use Rattle.pull_stream.proofs.Orders.{order-same, stuck-same}
 use Rattle.pull_stream.proofs.ordering.order_over.Goals as goal
 

@@ -1,15 +1,12 @@
-use Rattle.std.proofs.Common.{◌≡◌, ◌<◌, ◌+◌, ◌||◌, ◌++◌, ℕ, Bool, true, false, true≢false, not, List, [], ◌∷◌, length, take, get_or, refl, sym, ap, ◌∙◌, arith}
+use Rattle.std.proofs.Common.{◌≡◌, ◌<◌, ◌+◌, ◌||◌, ◌++◌, ℕ, Bool, true, false, not, List, [], ◌∷◌, length, take, get_or, refl, sym, ap, ◌∙◌, arith}
 use Rattle.std.specs.Prelude.{if◌then◌else◌, bytes_eq}
 use Rattle.std.proofs.lemmas.List.{take_more}
 use Rattle.std.proofs.lemmas.Slice.Eq.{bytes_eq-Decides}
 use Rattle.text_model.specs.Id.{Id, has_id}
 use Rattle.text_model.proofs.TestLemmas.{or_true}
-use Rattle.git_order.proofs.PlacingLemmas.{has-more}
+use Rattle.text_model.proofs.Options.{not_false, or_false}
+use Rattle.git_store.proofs.PlacingLemmas.{has-more}
 use Rattle.pull_stream.proofs.ordering.set_of.Goals as goal
-
-or_false : (b : Bool) → (b || false) ≡ b
-or_false true = refl
-or_false false = refl
 
 -- an id that is there adds nothing
 there : (found : List Id) (x id : Id) → has_id found x ≡ true → has_id found id ≡ (has_id found id || bytes_eq id x)
@@ -21,11 +18,7 @@ there found x id h = by (bytes_eq id x) refl
 
 one_more : (found : List Id) (x id : Id) (new : Bool) → new ≡ not (has_id found x) → has_id (if new then found ++ x ∷ [] else found) id ≡ (has_id found id || bytes_eq id x)
 one_more found x id true is = has-more found x id
-one_more found x id false is = there found x id (not-false (has_id found x) is)
-  where
-    not-false : (b : Bool) → false ≡ not b → b ≡ true
-    not-false true h = refl
-    not-false false h = absurd (true≢false (sym h))
+one_more found x id false is = there found x id (not_false (has_id found x) (sym is))
 
 next : (ids : List Id) (i : ℕ) (x id : Id) → i < length ids → x ≡ get_or ids i x → has_id (take (i + 1) ids) id ≡ (has_id (take i ids) id || bytes_eq id x)
 next ids i x id below is = ap (λ (l : List Id). has_id l id) (take_more ids i x below ∙ ap (λ (y : Id). take i ids ++ y ∷ []) (sym is)) ∙ has-more (take i ids) x id

@@ -1,0 +1,11 @@
+pub mod Choices
+pub mod Splits
+pub mod Placements
+pub mod Known
+pub mod Views
+pub mod Blocks
+pub mod Bundle
+pub mod Commits
+pub mod Stream
+pub mod Counts
+pub mod FormatLaws
