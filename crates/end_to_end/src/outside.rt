@@ -18,12 +18,20 @@ fn two_manifests(alloc: Global) -> Result<Vec<u8>, AllocError> {
 #[test]
 fn a_failed_read_is_told_and_nothing_is_written(rt: HostRuntime) -> Result<(), Fail> {
     let input = two_manifests(rt.alloc())?;
-    for call in [0, 1, 7, 100] {
+    let cases: [(&[u8], u64); 6] = [
+        (b"list-hg", 0),
+        (b"list-hg", 1),
+        (b"list-hg", 7),
+        (b"list-hg", 100),
+        (b"pull-hg", 0),
+        (b"pull-git", 0),
+    ];
+    for (word, call) in cases {
         let outside = Outside {
             input_fails: &[call],
             ..Outside::of(&input, 1)
         };
-        let made = run_over(rt.alloc(), &[b"list-hg"], outside)?;
+        let made = run_over(rt.alloc(), &[word], outside)?;
         assert_eq!(rt; made.status, Status::ReadFault);
         assert!(rt; made.output.is_empty());
         assert_eq!(rt; made.errors.as_slice(), b"read fault\n".as_slice());

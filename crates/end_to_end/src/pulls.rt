@@ -45,6 +45,23 @@ const WITH_AN_ORPHAN: &[u8] =
     \0\0\0\0\0\0\0\0\0\0\0\0\0\0\0\0\0\0\0\0\0\0\0\0\0\0\0\0\xa4\xeaK\x98z&~\x07\xd9\xe0\xd3\
     v&\xd8\xca\x85\x09\x81Kv\0\0\0\0\0\0\0\0\0\0\0\x06hello\n\0\0\0\0\0\0\0\0";
 
+// A changeset without its manifest.
+const WITHOUT_ITS_MANIFEST: &[u8] =
+    b"HG10UN\0\0\0\x99T\xe4\x13\x895\x82\x12\xbf\xdd\xdbd\xd9n23\x9d\xa5.\xc1j\0\0\0\0\0\0\0\0\
+    \0\0\0\0\0\0\0\0\0\0\0\0\0\0\0\0\0\0\0\0\0\0\0\0\0\0\0\0\0\0\0\0T\xe4\x13\x895\x82\x12\
+    \xbf\xdd\xdbd\xd9n23\x9d\xa5.\xc1j\0\0\0\0\0\0\0\0\0\0\0980d410a90e94ba756a8c6edb4661a6c\
+    8c94623a6\nAnn\n0 0\na\n\nfirst\0\0\0\0\0\0\0\0\0\0\0\0";
+
+// The same with its manifest, without its file.
+const WITHOUT_ITS_FILE: &[u8] =
+    b"HG10UN\0\0\0\x99T\xe4\x13\x895\x82\x12\xbf\xdd\xdbd\xd9n23\x9d\xa5.\xc1j\0\0\0\0\0\0\0\0\
+    \0\0\0\0\0\0\0\0\0\0\0\0\0\0\0\0\0\0\0\0\0\0\0\0\0\0\0\0\0\0\0\0T\xe4\x13\x895\x82\x12\
+    \xbf\xdd\xdbd\xd9n23\x9d\xa5.\xc1j\0\0\0\0\0\0\0\0\0\0\0980d410a90e94ba756a8c6edb4661a6c\
+    8c94623a6\nAnn\n0 0\na\n\nfirst\0\0\0\0\0\0\0\x8b\x80\xd4\x10\xa9\x0e\x94\xbauj\x8cn\xdb\
+    Fa\xa6\xc8\xc9F#\xa6\0\0\0\0\0\0\0\0\0\0\0\0\0\0\0\0\0\0\0\0\0\0\0\0\0\0\0\0\0\0\0\0\0\0\
+    \0\0\0\0\0\0T\xe4\x13\x895\x82\x12\xbf\xdd\xdbd\xd9n23\x9d\xa5.\xc1j\0\0\0\0\0\0\0\0\0\0\
+    \0+a\03ad15d6a027e0547c2cae3fe5bceaeb088eb8870\n\0\0\0\0\0\0\0\0";
+
 // `ONE_COMMIT` with a message that has no LF.
 const WITHOUT_LF: &[u8] =
     b"ce013625030ba8dba906f756967f9e9ca394464a blob 6\nhello\n\n0976950c1fdbcb52435a433913017b\
@@ -93,6 +110,16 @@ fn what_is_not_plain_is_refused(rt: HostRuntime) -> Result<(), Fail> {
                 PULL_HG,
                 WITH_AN_ORPHAN,
                 b"refused Orphan f9ef632803d82055832fdf6971c83de18e7e6cff 308\n",
+            ),
+            refused(
+                PULL_HG,
+                WITHOUT_ITS_MANIFEST,
+                b"refused ManifestUnknown 54e41389358212bfdddb64d96e32339da52ec16a 6\n",
+            ),
+            refused(
+                PULL_HG,
+                WITHOUT_ITS_FILE,
+                b"refused FileUnknown 54e41389358212bfdddb64d96e32339da52ec16a 6\n",
             ),
             refused(
                 PULL_GIT,

@@ -113,9 +113,9 @@ fn streams_are_checked(rt: HostRuntime) -> Result<(), Fail> {
             ),
             refused(
                 CHECK_GIT,
-                b"ae1263c55e9a6f6ec1d88c495426aa7c3b9da37e tree 31\n160000 lib\0\"\"\"\"\"\"\"\"\"\
+                b"b2b0cebfcc522b9a38c49339fcdc1991b28de6f2 tree 31\n100775 lib\0\"\"\"\"\"\"\"\"\"\
                 \"\"\"\"\"\"\"\"\"\"\"\n",
-                b"refused ModeOut ae1263c55e9a6f6ec1d88c495426aa7c3b9da37e 0\n",
+                b"refused ModeOut b2b0cebfcc522b9a38c49339fcdc1991b28de6f2 0\n",
             ),
             refused(
                 CHECK_GIT,

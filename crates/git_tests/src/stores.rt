@@ -1,0 +1,224 @@
+// Objects in a store.
+use bridge_text::{Added, Id, Kind, object_id};
+use git_object::Objects;
+use git_store::{GitAddFault, GitStore};
+use std::alloc::Global;
+use std::process::Abort;
+use std::test::Fail;
+
+/// What `git hash-object` and `git mktree` print of these contents.
+const HELLO: &[u8] = b"ce013625030ba8dba906f756967f9e9ca394464a";
+
+const EMPTY: &[u8] = b"4b825dc642cb6eb9a060e54bf8d69288fbee4904";
+
+const TREE: &[u8] = b"b4d01e9b0c4a9356736dfddf8830ba9a54f5271c";
+
+const ONE: &[u8] = b"c5cf3bd9ade6fb41c22f9681bbd807760a70eaf9";
+
+const TWO: &[u8] = b"2447c7d968aeca418f317cdb4ac802d8dced6a01";
+
+const TAG: &[u8] = b"b3de357af948ab2b86d35ab47b50ccea539a995e";
+
+const TREE_CONTENT: &[u8] =
+    b"100644 hello\0\xce\x016%\x03\x0b\xa8\xdb\xa9\x06\xf7V\x96\x7f\x9e\x9c\xa3\x94FJ";
+
+const ONE_CONTENT: &[u8] =
+    b"tree 4b825dc642cb6eb9a060e54bf8d69288fbee4904\nauthor u <u@v> 0 +0000\ncommitter u <u@v> 0 +0000\n\none\n";
+
+const TWO_CONTENT: &[u8] =
+    b"tree b4d01e9b0c4a9356736dfddf8830ba9a54f5271c\nparent c5cf3bd9ade6fb41c22f9681bbd807760a70eaf9\nauthor u <u@v> 0 +0000\ncommitter u <u@v> 0 +0000\n\ntwo\n";
+
+const TWICE_CONTENT: &[u8] =
+    b"tree b4d01e9b0c4a9356736dfddf8830ba9a54f5271c\nparent c5cf3bd9ade6fb41c22f9681bbd807760a70eaf9\nparent c5cf3bd9ade6fb41c22f9681bbd807760a70eaf9\nauthor u <u@v> 0 +0000\ncommitter u <u@v> 0 +0000\n\ntwice\n";
+
+const TAG_CONTENT: &[u8] =
+    b"object c5cf3bd9ade6fb41c22f9681bbd807760a70eaf9\ntype commit\ntag v1\ntagger u <u@v> 0 +0000\n\nfirst\n";
+
+/// An object, its id and what its addition answers.
+struct Step(
+    Kind,
+    &'static [u8],
+    &'static [u8],
+    Result<Added, GitAddFault>,
+);
+
+const STEPS: &[Step] = &[
+    Step(Kind::Blob, b"hello\n", HELLO, Ok(Added::New)),
+    Step(Kind::Blob, b"hello\n", HELLO, Ok(Added::Known)),
+    Step(Kind::Tree, b"", EMPTY, Ok(Added::New)),
+    Step(Kind::Tree, TREE_CONTENT, TREE, Ok(Added::New)),
+    Step(
+        Kind::Tree,
+        b"x",
+        b"f42941c78e101ff62b3e2f6e468c3e310f703259",
+        Err(GitAddFault::ObjectShape),
+    ),
+    Step(
+        Kind::Tree,
+        b"100775 sub\0aaaaaaaaaaaaaaaaaaaa",
+        b"8f5fedba526c52f716588349740caff3b1648dfb",
+        Err(GitAddFault::ModeOut),
+    ),
+    Step(
+        Kind::Tree,
+        b"100644 .git\0aaaaaaaaaaaaaaaaaaaa",
+        b"204b60738bbf3fc0ec4c396e0e23c8c062a70d36",
+        Err(GitAddFault::NameUnfit),
+    ),
+    Step(Kind::Commit, TWO_CONTENT, TWO, Ok(Added::New)),
+    Step(Kind::Commit, ONE_CONTENT, ONE, Ok(Added::New)),
+    Step(Kind::Commit, TWO_CONTENT, TWO, Ok(Added::Known)),
+    Step(
+        Kind::Commit,
+        b"x",
+        b"eaa562e454681104aee02c9809ea2ca6ec4aa5cd",
+        Err(GitAddFault::ObjectShape),
+    ),
+    Step(
+        Kind::Commit,
+        TWICE_CONTENT,
+        b"c2bcffb82821ccf73b7a020aad3731d6888fbd36",
+        Err(GitAddFault::ParentTwice),
+    ),
+    Step(Kind::Tag, TAG_CONTENT, TAG, Ok(Added::New)),
+    Step(
+        Kind::Tag,
+        b"x",
+        b"89724a1baedd77281179bec063374b666045947a",
+        Err(GitAddFault::ObjectShape),
+    ),
+];
+
+fn id(digits: &[u8]) -> Result<Id, Fail> {
+    Ok(Id::from_hex(digits).ok_or("40 digits")?)
+}
+
+// Adds an object whose id is this one.
+fn add(
+    rt: &impl Abort,
+    store: &mut GitStore,
+    kind: Kind,
+    content: Vec<u8>,
+    digits: &[u8],
+) -> Result<Added, GitAddFault> {
+    let its_id = object_id(kind, &content);
+    assert!(rt; its_id.hex().as_slice() == digits);
+    store.add(its_id, kind, content)
+}
+
+fn filled(rt: &impl Abort, alloc: Global) -> Result<GitStore, Fail> {
+    let mut store = GitStore::new(alloc);
+    for (i, step) in STEPS.iter().enumerate() {
+        let Step(kind, content, digits, want) = step;
+        let answer = add(rt, &mut store, *kind, content.to_vec(alloc)?, digits);
+        assert!(rt; answer == *want, "at {i}");
+    }
+    Ok(store)
+}
+
+// A commit with parents of 20 bytes 0, 20 bytes 1 and so on, so many of them, and then the first once more.
+fn commit_of(alloc: Global, parents: u8, again: bool) -> Result<Vec<u8>, Fail> {
+    let mut content = b"tree 4b825dc642cb6eb9a060e54bf8d69288fbee4904\n".to_vec(alloc)?;
+    for byte in 0..parents {
+        put_parent(&mut content, byte)?;
+    }
+    if again {
+        put_parent(&mut content, 0)?;
+    }
+    content.extend_from_slice(b"author \ncommitter \n\n")?;
+    Ok(content)
+}
+
+fn put_parent(content: &mut Vec<u8>, byte: u8) -> Result<(), Fail> {
+    content.extend_from_slice(b"parent ")?;
+    content.extend_from_slice(&Id::new([byte; 20]).hex())?;
+    Ok(content.push(b'\n')?)
+}
+
+#[test]
+fn many_parents(rt: HostRuntime) -> Result<(), Fail> {
+    let alloc = rt.alloc();
+    let cases: [(u8, bool, &[u8], Result<Added, GitAddFault>); 4] = [
+        (
+            64,
+            false,
+            b"06a59526db68c22c758a1bbb93dc056cf17d3bd8",
+            Ok(Added::New),
+        ),
+        (
+            65,
+            false,
+            b"d126d2731ebdb699606b49777377056c60ef2ec3",
+            Err(GitAddFault::ParentLimit),
+        ),
+        (
+            64,
+            true,
+            b"5da01936821a250a2a2a1a675a02e11b680c6090",
+            Err(GitAddFault::ParentTwice),
+        ),
+        (
+            2,
+            true,
+            b"cb489d7009e7493b874e0d6976d91b461a1be5ca",
+            Err(GitAddFault::ParentTwice),
+        ),
+    ];
+    for (parents, again, digits, want) in cases {
+        let mut store = GitStore::new(alloc);
+        let content = commit_of(alloc, parents, again)?;
+        assert!(rt; add(&rt, &mut store, Kind::Commit, content, digits) == want);
+    }
+    Ok(())
+}
+
+fn kind_in<G: Objects>(objects: &G, id: &Id) -> Option<Kind> {
+    match objects.content(id) {
+        Some((kind, _)) => Some(kind),
+        None => None,
+    }
+}
+
+fn has_tree<G: Objects>(objects: &G, id: &Id) -> bool {
+    objects.tree(id).is_some()
+}
+
+// Whether the object, if there is one, is of this kind, and of no other.
+fn is_of(store: &GitStore, id: &Id, kind: Option<Kind>) -> bool {
+    kind_in(store, id) == kind
+        && store.commit(id).is_some() == (kind == Some(Kind::Commit))
+        && store.tag(id).is_some() == (kind == Some(Kind::Tag))
+        && has_tree(store, id) == (kind == Some(Kind::Tree))
+}
+
+#[test]
+fn look_ups(rt: HostRuntime) -> Result<(), Fail> {
+    let store = filled(&rt, rt.alloc())?;
+    let kinds: [(&[u8], Option<Kind>); 5] = [
+        (HELLO, Some(Kind::Blob)),
+        (TREE, Some(Kind::Tree)),
+        (TWO, Some(Kind::Commit)),
+        (TAG, Some(Kind::Tag)),
+        (b"204b60738bbf3fc0ec4c396e0e23c8c062a70d36", None),
+    ];
+    for (digits, want) in kinds {
+        assert!(rt; is_of(&store, &id(digits)?, want));
+    }
+    assert!(rt; has_two(&store, &id(TWO)?, &id(TREE)?));
+    assert!(rt; has_tag(&store, &id(TAG)?, &id(ONE)?));
+    Ok(())
+}
+
+fn has_two(store: &GitStore, two: &Id, tree: &Id) -> bool {
+    match store.commit(two) {
+        Some(commit) => commit.tree == *tree && commit.message.as_slice() == b"two\n".as_slice(),
+        None => false,
+    }
+}
+
+fn has_tag(store: &GitStore, tag: &Id, target: &Id) -> bool {
+    match store.tag(tag) {
+        Some(tag) => tag.target == *target && tag.name.as_slice() == b"v1".as_slice(),
+        None => false,
+    }
+}

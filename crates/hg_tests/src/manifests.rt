@@ -1,0 +1,180 @@
+// Texts of manifests.
+use bridge_text::{Bytes, Id, fit_path};
+use hg_manifest::{Entry, Flag, Manifest, ManifestFault};
+use std::test::Fail;
+
+/// A manifest of three entries.
+const THREE: &[u8] =
+    b"a\01111111111111111111111111111111111111111x\na/b\01111111111111111111111111111111111111111l\nb\01111111111111111111111111111111111111111\n";
+
+/// A text, and how many entries its manifest has, or why it is none.
+struct Case {
+    text: &'static [u8],
+    answer: Result<usize, ManifestFault>,
+}
+
+const CASES: &[Case] = &[
+    Case {
+        text: b"",
+        answer: Ok(0),
+    },
+    Case {
+        text: b"a\01111111111111111111111111111111111111111\n",
+        answer: Ok(1),
+    },
+    Case {
+        text: THREE,
+        answer: Ok(3),
+    },
+    Case {
+        text: b"\n",
+        answer: Err(ManifestFault::Shape(0)),
+    },
+    Case {
+        text: b"a1111111111111111111111111111111111111111\n",
+        answer: Err(ManifestFault::Shape(0)),
+    },
+    Case {
+        text: b"a\0111111111111111111111111111111111111111\n",
+        answer: Err(ManifestFault::Shape(0)),
+    },
+    Case {
+        text: b"a\0AAAAAAAAAAAAAAAAAAAAAAAAAAAAAAAAAAAAAAAA\n",
+        answer: Err(ManifestFault::Shape(0)),
+    },
+    Case {
+        text: b"a\01111111111111111111111111111111111111111t\n",
+        answer: Err(ManifestFault::Shape(0)),
+    },
+    Case {
+        text: b"a\01111111111111111111111111111111111111111xl\n",
+        answer: Err(ManifestFault::Shape(0)),
+    },
+    Case {
+        text: b"a\0\01111111111111111111111111111111111111111\n",
+        answer: Err(ManifestFault::Shape(0)),
+    },
+    Case {
+        text: b"a\01111111111111111111111111111111111111111",
+        answer: Err(ManifestFault::Shape(0)),
+    },
+    Case {
+        text: b"a\01111111111111111111111111111111111111111\nb\01111111111111111111111111111111111111111x",
+        answer: Err(ManifestFault::Shape(43)),
+    },
+    Case {
+        text: b"b\01111111111111111111111111111111111111111\na\01111111111111111111111111111111111111111\n",
+        answer: Err(ManifestFault::Shape(43)),
+    },
+    Case {
+        text: b"a\01111111111111111111111111111111111111111\na\01111111111111111111111111111111111111111\n",
+        answer: Err(ManifestFault::Shape(43)),
+    },
+    Case {
+        text: b"../b\01111111111111111111111111111111111111111\n",
+        answer: Err(ManifestFault::PathUnfit(0)),
+    },
+    Case {
+        text: b"a\01111111111111111111111111111111111111111x\na/../b\01111111111111111111111111111111111111111\n",
+        answer: Err(ManifestFault::PathUnfit(44)),
+    },
+    Case {
+        text: b"a\01111111111111111111111111111111111111111\n../b\01111111111111111111111111111111111111111\n",
+        answer: Err(ManifestFault::Shape(43)),
+    },
+    Case {
+        text: b"\01111111111111111111111111111111111111111\n",
+        answer: Err(ManifestFault::PathUnfit(0)),
+    },
+    Case {
+        text: b"a\01111111111111111111111111111111111111111\n\01111111111111111111111111111111111111111\n",
+        answer: Err(ManifestFault::Shape(43)),
+    },
+    Case {
+        text: b"a//b\01111111111111111111111111111111111111111\n\n",
+        answer: Err(ManifestFault::PathUnfit(0)),
+    },
+];
+
+#[test]
+fn texts_read_and_write(rt: HostRuntime) -> Result<(), Fail> {
+    for case in CASES {
+        match Manifest::read(rt.alloc(), case.text) {
+            Ok(manifest) => {
+                assert!(rt; case.answer == Ok(manifest.len()));
+                let mut out = Vec::from_slice(rt.alloc(), b"front ")?;
+                manifest.write_into(&mut out)?;
+                assert!(rt; out.starts_with(b"front "));
+                assert!(rt; &out[6..] == case.text);
+            }
+            Err(fault) => assert!(rt; case.answer == Err(fault)),
+        }
+    }
+    Ok(())
+}
+
+/// An entry and its line, for a list of them.
+struct Row {
+    path: &'static [u8],
+    flag: Flag,
+}
+
+const ROWS: &[Row] = &[
+    Row {
+        path: b"a",
+        flag: Flag::Exec,
+    },
+    Row {
+        path: b"a/b",
+        flag: Flag::Link,
+    },
+    Row {
+        path: b"b",
+        flag: Flag::Plain,
+    },
+];
+
+fn is_row(entry: &Entry, row: &Row) -> bool {
+    entry.path.as_slice() == row.path
+        && entry.node.hex().as_slice() == b"1111111111111111111111111111111111111111".as_slice()
+        && entry.flag == row.flag
+}
+
+fn has_row_at(manifest: &Manifest, row: &Row) -> bool {
+    match manifest.get(row.path) {
+        Some(entry) => is_row(entry, row),
+        None => false,
+    }
+}
+
+fn has_any(manifest: &Manifest, paths: &[&[u8]]) -> bool {
+    paths.iter().any(|path| manifest.get(path).is_some())
+}
+
+#[test]
+fn entries_by_place_and_path(rt: HostRuntime) -> Result<(), Fail> {
+    let manifest = Manifest::read(rt.alloc(), THREE).map_err(|_| "a manifest")?;
+    assert!(rt; manifest.len() == ROWS.len() && !manifest.is_empty());
+    for (i, row) in ROWS.iter().enumerate() {
+        assert!(rt; is_row(manifest.at(i), row) && has_row_at(&manifest, row));
+    }
+    assert!(rt; !has_any(&manifest, &[b"", b"a/", b"aa", b"c"]));
+    Ok(())
+}
+
+#[test]
+fn an_entry_is_pushed(rt: HostRuntime) -> Result<(), Fail> {
+    let mut manifest = Manifest::new(rt.alloc());
+    assert!(rt; manifest.is_empty());
+    let path = Bytes::of(rt.alloc(), b"a")?;
+    assert!(rt; fit_path(path.as_slice()));
+    manifest.push(Entry {
+        path,
+        node: Id::NULL,
+        flag: Flag::Exec,
+    })?;
+    let mut out = Vec::new(rt.alloc());
+    manifest.write_into(&mut out)?;
+    assert!(rt; out.as_slice() == b"a\00000000000000000000000000000000000000000x\n".as_slice());
+    Ok(())
+}

@@ -1,0 +1,237 @@
+// Manifests and lists of files that the rule gives.
+use bridge_text::{Bytes, Id, Paths};
+use file_rule::Parent;
+use hg_manifest::Manifest;
+use hg_store::HgStore;
+use manifest_rule::{is_ruled_manifest, make_manifest, ruled_files};
+use mark_code::ManifestRev;
+use pair_known::{HgRow, HgRows};
+use std::alloc::Global;
+use std::process::Abort;
+use std::test::Fail;
+
+/// A file: its path, a digit that stands 40 times in its node, and its flag.
+type File = (&'static [u8], u8, &'static [u8]);
+
+fn manifest_of(alloc: Global, files: &[File]) -> Result<Manifest, Fail> {
+    let mut text = Vec::new(alloc);
+    for (path, digit, flag) in files {
+        text.extend_from_slice(path)?;
+        text.push(b'\0')?;
+        text.extend_from_slice(&[*digit; 40])?;
+        text.extend_from_slice(flag)?;
+        text.push(b'\n')?;
+    }
+    Ok(Manifest::read(alloc, text.as_slice()).map_err(|_| "a manifest")?)
+}
+
+fn rows_of(alloc: Global, manifest: &Manifest) -> Result<HgRows, Fail> {
+    let mut rows = HgRows::new(alloc);
+    for place in 0..manifest.len() {
+        let entry = manifest.at(place);
+        rows.push(HgRow {
+            path: Bytes::of(alloc, entry.path.as_slice())?,
+            flag: entry.flag,
+            node: entry.node,
+            blob: Id::NULL,
+        })?;
+    }
+    Ok(rows)
+}
+
+/// The files of a changeset and of its parents, and what it lists.
+struct Case {
+    rows: &'static [File],
+    first: Option<&'static [File]>,
+    second: Option<&'static [File]>,
+    listed: &'static [&'static [u8]],
+}
+
+const BASE: &[File] = &[(b"a", b'1', b""), (b"b", b'2', b""), (b"c", b'3', b"")];
+
+const CASES: &[Case] = &[
+    Case {
+        rows: BASE,
+        first: None,
+        second: None,
+        listed: &[b"a", b"b", b"c"],
+    },
+    Case {
+        rows: &[],
+        first: None,
+        second: None,
+        listed: &[],
+    },
+    Case {
+        rows: BASE,
+        first: Some(BASE),
+        second: None,
+        listed: &[],
+    },
+    Case {
+        rows: &[],
+        first: Some(BASE),
+        second: None,
+        listed: &[b"a", b"b", b"c"],
+    },
+    Case {
+        rows: &[
+            (b"a", b'1', b"x"),
+            (b"b", b'4', b""),
+            (b"b0", b'1', b""),
+            (b"d", b'1', b"l"),
+        ],
+        first: Some(BASE),
+        second: None,
+        listed: &[b"a", b"b", b"b0", b"c", b"d"],
+    },
+    Case {
+        rows: &[(b"a", b'1', b""), (b"b", b'5', b""), (b"e", b'6', b"")],
+        first: Some(BASE),
+        second: Some(&[(b"a", b'7', b""), (b"b", b'8', b""), (b"c", b'9', b"")]),
+        listed: &[b"b", b"c", b"e"],
+    },
+    Case {
+        rows: &[(b"a", b'7', b""), (b"c", b'3', b"")],
+        first: Some(BASE),
+        second: Some(&[(b"a", b'7', b""), (b"d", b'1', b"")]),
+        listed: &[],
+    },
+];
+
+// The manifest, where there is one.
+fn there<'a>(files: Option<&'static [File]>, manifest: &'a Manifest) -> Option<&'a Manifest> {
+    match files {
+        Some(_) => Some(manifest),
+        None => None,
+    }
+}
+
+fn listed(alloc: Global, case: &Case) -> Result<Paths, Fail> {
+    let rows = rows_of(alloc, &manifest_of(alloc, case.rows)?)?;
+    let first = manifest_of(alloc, case.first.unwrap_or(&[]))?;
+    let second = manifest_of(alloc, case.second.unwrap_or(&[]))?;
+    let paths = ruled_files(
+        alloc,
+        &rows,
+        there(case.first, &first),
+        there(case.second, &second),
+    )?;
+    Ok(paths)
+}
+
+fn are_paths(paths: &Paths, want: &[&[u8]]) -> bool {
+    if paths.len() != want.len() {
+        return false;
+    }
+    for (place, path) in want.iter().enumerate() {
+        if paths.at(place).as_slice() != *path {
+            return false;
+        }
+    }
+    true
+}
+
+#[test]
+fn listed_files(rt: HostRuntime) -> Result<(), Fail> {
+    for case in CASES {
+        let paths = listed(rt.alloc(), case)?;
+        assert!(rt; are_paths(&paths, case.listed));
+    }
+    Ok(())
+}
+
+const NULL: &[u8] = b"0000000000000000000000000000000000000000";
+
+const ONE: &[u8] = b"b470b8df2f97b19e505a12557fca38e48d59561c";
+
+const ONE_TEXT: &[u8] = b"0000000000000000000000000000000000000000\nu\n0 0\n\none";
+
+/// The manifest of the one file `a` with a node of ones, over null parents, and over one of twos.
+const OF_ONES: &[u8] = b"6c5053c163dcb67eb3f93b9687cfede08c9e3f04";
+
+const OF_ONES_TEXT: &[u8] = b"a\01111111111111111111111111111111111111111\n";
+
+const OVER_TWOS: &[u8] = b"6b5541cc5173bc7592e2710ce822f410a5c64ec3";
+
+const OF_TWOS: &[u8] = b"4ef3c3ee1c826ddf832532cafbadb2ae981b83dd";
+
+const OF_TWOS_TEXT: &[u8] = b"a\02222222222222222222222222222222222222222\n";
+
+fn id(digits: &[u8]) -> Result<Id, Fail> {
+    Ok(Id::from_hex(digits).ok_or("40 digits")?)
+}
+
+fn add(
+    rt: &impl Abort,
+    alloc: Global,
+    store: &mut HgStore,
+    node: &[u8],
+    text: &[u8],
+) -> Result<(), Fail> {
+    assert!(rt; text.len() <= 1 << 26);
+    let text = Vec::from_slice(alloc, text)?;
+    let added = store.add_manifest(id(node)?, Id::NULL, Id::NULL, id(ONE)?, text);
+    assert!(rt; added.is_ok());
+    Ok(())
+}
+
+fn store_of(rt: &impl Abort, alloc: Global) -> Result<HgStore, Fail> {
+    let mut store = HgStore::new(alloc);
+    assert!(rt; ONE_TEXT.len() <= 1 << 26);
+    let text = Vec::from_slice(alloc, ONE_TEXT)?;
+    let added = store.add_changeset(id(ONE)?, Id::NULL, Id::NULL, id(ONE)?, text);
+    assert!(rt; added.is_ok());
+    add(rt, alloc, &mut store, OF_ONES, OF_ONES_TEXT)?;
+    add(rt, alloc, &mut store, OF_TWOS, OF_TWOS_TEXT)?;
+    Ok(store)
+}
+
+/// The node of the first parent's manifest, and the node and the first parent of the manifest that the rule gives to the file `a` of ones.
+const RULED: &[[&'static [u8]; 3]] = &[
+    [NULL, OF_ONES, NULL],
+    [OF_ONES, OF_ONES, NULL],
+    [OF_TWOS, OVER_TWOS, OF_TWOS],
+];
+
+// Checks what the rule gives to the file `a` of ones, over a first parent with the manifest of this node.
+fn check_ruled(
+    rt: &impl Abort,
+    alloc: Global,
+    store: &HgStore,
+    node: Id,
+    want: &Id,
+    over: &ManifestRev,
+) -> Result<(), Fail> {
+    let rows = rows_of(alloc, &manifest_of(alloc, &[(b"a", b'1', b"")])?)?;
+    let manifest = store.manifest(&node).ok_or("a manifest that is known")?;
+    let none = store.manifest(&Id::NULL).ok_or("the empty manifest")?;
+    let first = Parent {
+        is_there: !node.is_null(),
+        manifest_node: node,
+        manifest,
+    };
+    let second = Parent {
+        is_there: false,
+        manifest_node: Id::NULL,
+        manifest: none,
+    };
+    let made = make_manifest(alloc, store, &rows, &first, &second)?;
+    assert!(rt; made.node == *want && made.manifest == *over);
+    assert!(rt; is_ruled_manifest(store, &rows, over, &first, &second));
+    assert!(rt; !is_ruled_manifest(store, &rows, &ManifestRev::Null, &first, &second));
+    Ok(())
+}
+
+#[test]
+fn ruled_manifests(rt: HostRuntime) -> Result<(), Fail> {
+    let store = store_of(&rt, rt.alloc())?;
+    for [node, ruled, over] in RULED {
+        let over = ManifestRev::Over {
+            p: id(over)?,
+            q: Id::NULL,
+        };
+        check_ruled(&rt, rt.alloc(), &store, id(node)?, &id(ruled)?, &over)?;
+    }
+    Ok(())
+}
