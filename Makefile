@@ -1,14 +1,22 @@
 # Builds, tests and installs hggit. The kit's command `rt` proves the program and compiles it.
+#
+#     make                 proves the program's crates side by side, builds build/hggit and runs it on an example
+#     make try             runs the examples with no proof, in a minute or two
+#     make test            what CI does
+#     make install         copies the program to $(PREFIX)/bin
+#     make gate-table LOG=ci.log       writes the table of the crates into docs/architecture.md, of a log by `tools/timed rt ci > ci.log`
+#     make clean           removes what was built and what was kept of proofs
 
 PREFIX ?= /usr/local
 SOURCES := crates.txt $(shell find crates -name out -prune -o -type f \( -name '*.rt' -o -name '*.antt' \) -print)
 
-.PHONY: all run-examples test bench install clean
+.PHONY: all run-examples try try-list try-pull test bench install gate-table clean
 
 all: run-examples
 
-# A run proves and compiles a program where a source has changed.
+# The crates below the program are proved first, side by side; `rt run` then proves the program itself, and compiles it.
 build/hggit build/bundle_copy: build/%: $(SOURCES)
+	tools/prove $*
 	cd crates/$* && rt run < stdin > /dev/null
 	mkdir -p build
 	cp crates/$*/out/$* $@
@@ -17,6 +25,23 @@ run-examples: build/hggit
 	build/hggit list-hg < examples/one-changeset.hg > build/one-changeset.hg.list
 	cat build/one-changeset.hg.list
 	diff examples/one-changeset.hg.list build/one-changeset.hg.list
+	build/hggit pull-hg < examples/one-changeset.hg > build/one-changeset.git
+	cmp examples/one-changeset.git build/one-changeset.git
+
+# `rt try` proves nothing. Both runs at once.
+try:
+	$(MAKE) --no-print-directory -j2 try-list try-pull
+
+try-list:
+	mkdir -p build
+	cd crates/hggit && rt try -- list-hg < ../../examples/one-changeset.hg > ../../build/try.list
+	cat build/try.list
+	diff examples/one-changeset.hg.list build/try.list
+
+try-pull:
+	mkdir -p build
+	cd crates/hggit && rt try -- pull-hg < ../../examples/one-changeset.hg > ../../build/try.git
+	cmp examples/one-changeset.git build/try.git
 
 test:
 	.ci/run
@@ -28,5 +53,9 @@ install: build/hggit
 	install -d $(DESTDIR)$(PREFIX)/bin
 	install -m 755 build/hggit $(DESTDIR)$(PREFIX)/bin/hggit
 
+gate-table:
+	tools/gate-table $(LOG) docs/architecture.md
+
 clean:
+	tools/prove --clean
 	rm -rf build crates/*/out

@@ -19,6 +19,9 @@ def check(checks):
     check_streams(checks)
     check_shapes(checks)
     check_walks(checks)
+    check_rows(checks)
+    check_kept(checks)
+    check_residues(checks)
     check_order(checks)
 
 
@@ -35,7 +38,7 @@ def check_trees(checks):
     one = tree((FILE, b'a'))
     checks.table('git_model.Tree.tree_fault', [
         ('an empty tree', (b'',), None),
-        ('a tree of all modes', (tree((FILE, b'a'), (FOLDER, b'b'), (LINK, b'c'), (EXEC, b'd')),), None),
+        ('a tree of all modes', (tree((FILE, b'a'), (FOLDER, b'b'), (LINK, b'c'), (EXEC, b'd'), (b'100664', b'e'), (b'160000', b'f')),), None),
         ('a folder sorts with a slash', (tree((FILE, b'a.b'), (FOLDER, b'a'), (FILE, b'a0')),), None),
         ('a name of 4,096 bytes', (tree((FILE, b'a' * 4096)),), None),
         ('a cut id', (one[:-1],), shape(0)),
@@ -50,13 +53,16 @@ def check_trees(checks):
         ('a folder before a file with a dot', (tree((FOLDER, b'a'), (FILE, b'a.b')),), shape(28)),
         ('a file and a folder of one name', (tree((FILE, b'a'), (FOLDER, b'a')),), shape(29)),
         ('the same with an entry between', (tree((FILE, b'a'), (FILE, b'a.b'), (FOLDER, b'a')),), shape(60)),
-        ('a gitlink', (tree((b'160000', b'a')),), mode(0)),
+        ('a gitlink', (tree((b'160000', b'a')),), None),
+        ('a mode that is none', (tree((b'100775', b'a')),), mode(0)),
         ('a mode with a leading zero', (tree((b'040000', b'a')),), mode(0)),
-        ('a file that the group may write', (tree((b'100664', b'a')),), mode(0)),
+        ('a file that the group may write', (tree((b'100664', b'a')),), None),
         ('a mode of one digit', (tree((b'7', b'a')),), mode(0)),
         ('a gitlink that falls', (tree((FILE, b'b'), (b'160000', b'a')),), shape(29)),
-        ('a gitlink with an unfit name', (tree((b'160000', b'.git')),), mode(0)),
-        ('a gitlink before a cut entry', (tree((b'160000', b'a')) + b'x',), mode(0)),
+        ('a gitlink with an unfit name', (tree((b'160000', b'.git')),), name(0)),
+        ('a gitlink before a cut entry', (tree((b'160000', b'a')) + b'x',), shape(29)),
+        ('a gitlink before a file with a dot', (tree((b'160000', b'a'), (FILE, b'a.b')),), None),
+        ('another mode with an unfit name', (tree((b'100775', b'.git')),), mode(0)),
         ('a name .git', (tree((FOLDER, b'.git')),), name(0)),
         ('a name .hg', (tree((FILE, b'.hg')),), name(0)),
         ('a name of one dot', (tree((FILE, b'.')),), name(0)),
@@ -204,7 +210,7 @@ def check_streams(checks):
     at = len(blob)
     empty_tree = git.stream_object(b'tree', b'')
     commit = git.commit_content(DIGITS, [], b'a', b'm')
-    gitlink = b'160000 a\0' + ONE
+    other = b'100775 a\0' + ONE
     rows = [
         ('an empty stream', b'', []),
         ('a blob and a tree', blob + empty_tree, [0, at]),
@@ -217,7 +223,8 @@ def check_streams(checks):
         ('another content', blob.replace(b'hello', b'hallo'), refusal('IdWrong', 0, HELLO)),
         ('another content before a cut', blob.replace(b'hello', b'hallo') + b'x', refusal('IdWrong', 0, HELLO)),
         ('a missing object behind a blob', blob + b'x missing\n', refusal('Missing', at)),
-        ('a gitlink', blob + git.stream_object(b'tree', gitlink), refusal('ModeOut', at, object_id(b'tree', gitlink))),
+        ('a gitlink', blob + git.stream_object(b'tree', b'160000 a\0' + ONE), [0, at]),
+        ('a mode that is none', blob + git.stream_object(b'tree', other), refusal('ModeOut', at, object_id(b'tree', other))),
         ('a commit of no shape', git.stream_object(b'commit', b'x'), refusal('ObjectShape', 0, object_id(b'commit', b'x'))),
         ('a tag of no shape', git.stream_object(b'tag', b'x'), refusal('ObjectShape', 0, object_id(b'tag', b'x'))),
         ('a tree of another kind', blob.replace(b' blob ', b' tree '), refusal('IdWrong', 0, HELLO)),
@@ -263,6 +270,65 @@ def check_shapes(checks):
     ])
 
 
+def check_rows(checks):
+    """An empty folder stands before `d.x` by its path, and behind it in the tree."""
+    dot, folder, link = row(b'd.x'), row(b'd', 'Directory', EMPTY_TREE), row(b'lib', 'Gitlink', TWO)
+    content = b'100644 d.x\0' + ONE + b'40000 d\0' + EMPTY_TREE + b'160000 lib\0' + TWO
+    objects = [stored(b'blob', b'hello\n'), stored(b'tree', b''), stored(b'tree', content.replace(ONE, HELLO))]
+    rows = [folder, row(b'd.x', id=HELLO), link]
+    checks.equal('the rows of a walk', [rows[1], rows[0], rows[2]], 'git_model.Unfold.met_rows', objects, objects[2]['id'])
+    checks.equal('the rows of a tree', rows, 'git_model.Unfold.tree_rows', objects, objects[2]['id'])
+    checks.equal('the root of the rows', objects[2]['id'], 'git_model.Shape.root_of', rows)
+    checks.compare('their trees', [b'', objects[2]['content']], lambda: [o['content'] for o in checks.value('git_model.Shape.trees_of', rows)])
+    checks.equal('rows in the order of a walk', [dot, folder, link], 'git_model.Unfold.by_walk', [folder, dot, link])
+
+
+def check_kept(checks):
+    """The trees that old files don't have: `a` and the root, the root alone, none."""
+    def made(old, new):
+        return [o['content'] for o in checks.value('git_model.Shape.new_trees', old, new)]
+
+    old = [row(b'a.b'), row(b'a/c'), row(b'a0')]
+    inner, other = b'100644 c\0' + TWO, b'100644 c\0' + ONE
+    def root(below, last):
+        return b'100644 a.b\0' + ONE + b'40000 a\0' + object_id(b'tree', below) + b'100644 a0\0' + last
+    folder = row(b'd', 'Directory', EMPTY_TREE)
+    checks.compare('another blob in a folder', [inner, root(inner, ONE)], lambda: made(old, [row(b'a.b'), row(b'a/c', id=TWO), row(b'a0')]))
+    checks.compare('another blob beside it', [root(other, TWO)], lambda: made(old, [row(b'a.b'), row(b'a/c'), row(b'a0', id=TWO)]))
+    checks.compare('the same files', [], lambda: made(old, old))
+    checks.compare('no files', [], lambda: made([], []))
+    checks.compare('another mode', [b'100664 a\0' + ONE], lambda: made([row(b'a')], [row(b'a', 'GroupFile')]))
+    checks.compare('a new empty folder', [b'', b'40000 d\0' + EMPTY_TREE], lambda: made([], [folder]))
+    checks.compare('an empty folder that was a file', [b'', b'40000 d\0' + EMPTY_TREE], lambda: made([row(b'd')], [folder]))
+    checks.compare('an empty folder that was there', [b'40000 d\0' + EMPTY_TREE + b'100644 e\0' + ONE], lambda: made([folder], [folder, row(b'e')]))
+    checks.compare('an empty folder that had a file', [b'', b'40000 d\0' + EMPTY_TREE], lambda: made([row(b'd/e')], [folder]))
+
+
+def check_residues(checks):
+    """What a tree has beside files, and what of it fits the files of a child."""
+    def item(path, kind):
+        return record(path=path, kind=kind)
+
+    group, link, empty = item(b'a', Con('Group')), item(b'lib', Con('Link', (TWO,))), item(b'e/d', Con('Empty'))
+    rows = [row(b'a', 'GroupFile'), row(b'b', 'Exec'), row(b'e/d', 'Directory', EMPTY_TREE), row(b'lib', 'Gitlink', TWO)]
+    items = [group, empty, link]
+    checks.equal('the residue of rows', items, 'git_model.Residue.residue_of', rows)
+    checks.equal('the files of rows', [row(b'a'), row(b'b', 'Exec')], 'git_model.Residue.plain_files', rows)
+    checks.equal('files with their residue', rows, 'git_model.Residue.rows_with', items, [row(b'a'), row(b'b', 'Exec')])
+    checks.table('git_model.Residue.carried', [
+        ('all fit', (items, [row(b'a'), row(b'b')]), items),
+        ('the file can be run', (items, [row(b'a', 'Exec')]), [empty, link]),
+        ('the file is a link', (items, [row(b'a', 'Link')]), [empty, link]),
+        ('the file is gone', (items, [row(b'b')]), [empty, link]),
+        ('a file at the gitlink', (items, [row(b'a'), row(b'lib')]), [group, empty]),
+        ('a file below the gitlink', (items, [row(b'a'), row(b'lib/x')]), [group, empty]),
+        ('a file beside the gitlink', (items, [row(b'a'), row(b'lib.x')]), items),
+        ('a file above the empty folder', (items, [row(b'a'), row(b'e')]), [group, link]),
+        ('a file in the empty folder', (items, [row(b'a'), row(b'e/d/f')]), [group, link]),
+        ('a file beside the empty folder', (items, [row(b'a'), row(b'e/c')]), items),
+    ])
+
+
 def stored(kind, content):
     return record(id=object_id(kind, content), kind=Con(kind.decode()), content=content)
 
@@ -286,6 +352,7 @@ def check_walks(checks):
     folder = stored(b'tree', b'40000 a\0' + HELLO)
     file = stored(b'tree', b'100644 a\0' + EMPTY_TREE)
     two = stored(b'tree', b'100644 a\0' + ONE + b'40000 b\0' + EMPTY_TREE)
+    link = stored(b'tree', b'160000 a\0' + ONE)
     deep, deeper = nested(256), nested(257)
     checks.table('git_model.Unfold.walk_fault', [
         ('an empty root', ([empty], EMPTY_TREE), None),
@@ -295,7 +362,9 @@ def check_walks(checks):
         ('an unknown file', ([good], good['id']), fault('ObjectUnknown', HELLO)),
         ('a folder that is a file', ([blob, folder], folder['id']), fault('ObjectUnknown', HELLO)),
         ('a file that is a folder', ([empty, file], file['id']), fault('ObjectUnknown', EMPTY_TREE)),
-        ('an empty folder', ([empty, hollow], hollow['id']), fault('EmptySubtree', EMPTY_TREE)),
+        ('an empty folder', ([empty, hollow], hollow['id']), None),
+        ('an unknown empty folder', ([hollow], hollow['id']), fault('ObjectUnknown', EMPTY_TREE)),
+        ('a commit that is nowhere', ([link], link['id']), None),
         ('the first of two faults', ([empty, two], two['id']), fault('ObjectUnknown', ONE)),
         ('a path of 256 components', (deep, deep[-1]['id']), None),
         ('a path of 257 components', (deeper, deeper[-1]['id']), fault('PathUnfit', HELLO)),
@@ -305,6 +374,8 @@ def check_walks(checks):
         ('rows that reach their limit', ([blob], ROWS_LIMIT - 43, row(b'a', id=HELLO)), None),
         ('rows that pass their limit', ([blob], ROWS_LIMIT - 42, row(b'a', id=HELLO)), just(Con('PairLimit'))),
         ('a folder is no row', ([good], ROWS_LIMIT, row(b'a', 'Directory', good['id'])), None),
+        ('an empty folder is a row', ([empty], ROWS_LIMIT, row(b'a', 'Directory', EMPTY_TREE)), just(Con('PairLimit'))),
+        ('a gitlink is a row', ([], ROWS_LIMIT, row(b'a', 'Gitlink')), just(Con('PairLimit'))),
     ])
     checks.compare('the walk goes depth first', [b'a.b', b'a', b'a/c', b'a0'], lambda: walked(checks))
 

@@ -9,6 +9,7 @@ ONES, TWOS = b'1' * 40, b'22' * 20
 
 def check(checks):
     check_plain(checks)
+    check_carried(checks)
     check_collisions(checks)
     check_orphans(checks)
     check_revisions(checks)
@@ -16,6 +17,7 @@ def check(checks):
     check_marks(checks)
     check_mark_order(checks)
     check_extras(checks)
+    check_residue_text(checks)
 
 
 def parents(p=NULL, first=None, q=NULL, second=None, checks=None):
@@ -41,6 +43,30 @@ def check_plain(checks):
     empty = shapes.commit([])
     nothing = shapes.changeset([], manifest=NO_MANIFEST, files=())
     checks.equal('a commit without files', nothing, 'pair_model.Rule.rule_changeset', parents(checks=checks), empty)
+
+
+def check_carried(checks):
+    """A commit hands on what its changeset can't hold, as far as it fits."""
+    shapes = Shapes(checks)
+    first, second = two_changesets(checks)
+    beside = [(b'a', 'GroupFile', b'hello\n'), (b'd', 'Directory', None), (b'lib', 'Gitlink', None)]
+    commit = shapes.commit(beside)
+    block = record(links=[], changeset=first, commit=commit)
+    own = bytes(checks.value('view_model.View.commit_id', commit))
+    kept = [(b'a', 'GroupFile', b'hello2\n'), (b'd', 'Directory', None), (b'lib', 'Gitlink', None)]
+    checks.equal('a child keeps them', shapes.commit(kept, [own], b'two\n', b'Ann <ann@x> 1 +0000'), 'pair_model.Rule.rule_commit', [block], second)
+    checks.equal('a commit without a parent has none', shapes.commit([(b'a', 'File', b'hello\n')]), 'pair_model.Rule.rule_commit', [block], first)
+    checks.equal('a changeset has the files alone', first, 'pair_model.Rule.rule_changeset', parents(checks=checks), commit)
+    for name, path, rows in [
+        ('a file in the way of a gitlink', b'lib', [beside[0], beside[1], (b'lib', 'File', b'x')]),
+        ('a file below a gitlink', b'lib/x', [beside[0], beside[1], (b'lib/x', 'File', b'x')]),
+        ('a file in an empty subtree', b'd/x', [beside[0], (b'd/x', 'File', b'x'), beside[2]]),
+    ]:
+        grown = [shapes.row(b'a', b'hello\n'), shapes.row(path, b'x')]
+        grown = shapes.changeset(grown, p=One.node, manifest=Con('Over', (One.manifest, NULL)), files=(path,), description=b'two')
+        checks.equal(f'{name} takes its place', shapes.commit(rows, [own], b'two\n'), 'pair_model.Rule.rule_commit', [block], grown)
+    run = shapes.changeset([shapes.row(b'a', b'hello\n', flag='Executable')], p=One.node, manifest=Con('Over', (One.manifest, NULL)), files=(b'a',), description=b'two')
+    checks.equal('a file that can be run has no mode of its group', shapes.commit([(b'a', 'Exec', b'hello\n'), beside[1], beside[2]], [own], b'two\n'), 'pair_model.Rule.rule_commit', [block], run)
 
 
 def check_collisions(checks):
@@ -195,14 +221,29 @@ def check_mark_order(checks):
 
 def check_extras(checks):
     def marks(**parts):
-        given = dict(author=NONE, committer=NONE, headers=NONE, message=NONE, parents=NONE)
+        given = dict(author=NONE, committer=NONE, headers=NONE, message=NONE, parents=NONE, tree=NONE)
         return record(**{**given, **parts})
 
     checks.table('pair_model.MarkList.extras_of', [
         ('no marks', (marks(),), []),
         ('a message', (marks(message=Con('Some', (b'one',))),), [record(key=b'hg-git-message', value=b'one')]),
         ('all marks', (marks(author=Con('Some', (b'Ann <ann@x> 0 -0000',)), committer=Con('Some', (b'',)), headers=Con('Some', (b'a b\n',)),
-                             message=Con('Some', (b'%',)), parents=Con('Some', (4,))),),
+                             message=Con('Some', (b'%',)), parents=Con('Some', (4,)), tree=Con('Some', ([record(path=b'a b', kind=Con('Group', ()))],))),),
          [record(key=b'hg-git-author', value=b'Ann%20<ann@x>%200%20-0000'), record(key=b'hg-git-committer', value=b''),
-          record(key=b'hg-git-headers', value=b'a%20b%0A'), record(key=b'hg-git-message', value=b'%25'), record(key=b'hg-git-parents', value=b'4')]),
+          record(key=b'hg-git-headers', value=b'a%20b%0A'), record(key=b'hg-git-message', value=b'%25'), record(key=b'hg-git-parents', value=b'4'),
+          record(key=b'hg-git-tree', value=b'group:a%20b')]),
+    ])
+
+
+def check_residue_text(checks):
+    def item(path, kind, *args):
+        return record(path=path, kind=Con(kind, args))
+
+    link = b'link:' + b'22' * 20 + b':lib'
+    checks.table('pair_model.MarkList.residue_text', [
+        ('no items', ([],), b''),
+        ('a file that its group may write', ([item(b'a', 'Group')],), b'group:a'),
+        ('a link', ([item(b'lib', 'Link', b'\x22' * 20)],), link),
+        ('an empty subtree', ([item(b'd', 'Empty')],), b'empty:d'),
+        ('three items', ([item(b'a b', 'Group'), item(b'c:d', 'Empty'), item(b'e%', 'Link', b'\x0f' * 20)],), b'group:a%20b empty:c:d link:' + b'0f' * 20 + b':e%25'),
     ])

@@ -27,8 +27,16 @@ class Shapes:
         fields = record(manifest=node, user=user, date=date, files=list(files), description=description)
         return record(p=p, q=q, fields=fields, manifest=manifest, rows=rows)
 
+    def tree_row(self, path, mode, body):
+        """A row of a tree: a file, or without a body an empty folder or a gitlink."""
+        if body is None:
+            id, body = (git.object_id(b'tree', b'').decode() if mode == 'Directory' else '22' * 20), b''
+        else:
+            id = git.object_id(b'blob', body).decode()
+        return record(path=path, mode=Con(mode), id=bytes.fromhex(id), content=body)
+
     def commit(self, rows, parents=(), message=b'one\n', author=AUTHOR, headers=b''):
-        rows = [record(path=path, mode=Con(mode), id=bytes.fromhex(git.object_id(b'blob', body).decode()), content=body) for path, mode, body in rows]
+        rows = [self.tree_row(*row) for row in rows]
         root = self.checks.value('view_model.View.root_of_rows', rows)
         value = record(tree_id=root, parents=list(parents), author=author, committer=author, headers=headers, message=message)
         return record(value=value, rows=rows)

@@ -19,6 +19,8 @@ def check(report, program):
     report.check('examples: the bundle is checked', program.run(['check-hg'], bundle), done(b'changesets 1\nmanifests 1\nfiles 1\n'))
     report.check('examples: the stream is checked', program.run(['check-git'], example_stream()),
                  done(b'commits 1\ntrees 1\nblobs 1\ntags 0\n'))
+    report.check('examples: the bundle is pulled as the stream', program.run(['pull-hg'], bundle), done(example_stream()))
+    report.check('examples: the stream is pulled as the bundle', program.run(['pull-git'], example_stream()), done(bundle))
     node = bundles.node_id(bundles.NULL, bundles.NULL, BODY).hex().encode()
     report.check('examples: a changed body is another node', program.run(['check-hg'], bundle.replace(b'hello', b'hallo')),
                  refused('NodeWrong', 317, node))

@@ -56,7 +56,7 @@ def one_of(kind):
 
 
 def good_contents():
-    modes = [(b'100644', b'a'), (b'40000', b'b'), (b'120000', b'c'), (b'100755', b'd')]
+    modes = [(b'100644', b'a'), (b'40000', b'b'), (b'120000', b'c'), (b'100755', b'd'), (b'100664', b'e'), (b'160000', b'f')]
     order = [(b'100644', b'a.b'), (b'40000', b'a'), (b'100644', b'a0')]
     return [
         ('an empty tree', stream_object(b'tree', b''), one_of(b'tree')),
@@ -78,9 +78,8 @@ def bad_contents():
         ('entries of a tree that fall', b'tree', tree([(b'100644', b'b'), (b'100644', b'a')]), 'ObjectShape'),
         ('a name twice', b'tree', tree([(b'100644', b'a'), (b'40000', b'a')]), 'ObjectShape'),
         ('a mode that is no number', b'tree', tree([(b'10064x', b'a')]), 'ObjectShape'),
-        ('a gitlink', b'tree', tree([(b'160000', b'a')]), 'ModeOut'),
         ('a mode with a leading zero', b'tree', tree([(b'040000', b'a')]), 'ModeOut'),
-        ('a mode that the group may write', b'tree', tree([(b'100664', b'a')]), 'ModeOut'),
+        ('a file that its group may write and run', b'tree', tree([(b'100775', b'a')]), 'ModeOut'),
         ('a name .git', b'tree', tree([(b'40000', b'.git')]), 'NameUnfit'),
         ('a name with a slash', b'tree', tree([(b'100644', b'a/b')]), 'NameUnfit'),
         ('a commit without a committer', b'commit', b'tree ' + ID + b'\nauthor a\n\n', 'ObjectShape'),

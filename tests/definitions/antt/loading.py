@@ -30,8 +30,8 @@ class Module:
 
     def take(self, item):
         first = item.split('\n', 1)[0]
-        if first.startswith('use '):
-            self.take_import(first)
+        if first.startswith(('use ', 'pub use ')):
+            self.take_import(first.removeprefix('pub '))
         elif DATA.match(first):
             self.constructors.update(m[1] for m in map(CONSTRUCTOR.match, item.split('\n')[1:]) if m)
         elif not OTHER.match(first) and not SIGNATURE.match(first):

@@ -1,0 +1,270 @@
+"""Small histories under both pulls, with the outputs and refusals that the formats give, worked out by hand."""
+from formats import git as streams
+from formats import hg as bundles
+from formats.hg import NULL
+from program import done, refused
+
+LINE = b'Ann <ann@x> 0 +0000'
+LATER = b'Ann <ann@x> 1 +0000'
+MARK = b'\x01\n'
+HELLO = b'hello\n'
+EMPTY_TREE = b'4b825dc642cb6eb9a060e54bf8d69288fbee4904'
+OTHER = b'1' * 40
+
+
+def check(report, program):
+    check_nothing(report, program)
+    check_bodies(report, program)
+    check_tree_order(report, program)
+    check_two(report, program)
+    check_arrival(report, program)
+    for name, data, answer in refused_bundles():
+        report.check(f'pull-hg: {name}', program.run(['pull-hg'], data), answer)
+    for name, data, answer in refused_streams():
+        report.check(f'pull-git: {name}', program.run(['pull-git'], data), answer)
+
+
+# ---- Mercurial's revisions and Git's objects of small histories
+
+def over(text, p=NULL, q=NULL):
+    """A revision: its node, its parents and its text."""
+    return bundles.node_id(p, q, text), p, q, text
+
+
+def file_text(body):
+    """The text of a file without metadata: a body that begins with a mark is wrapped."""
+    return MARK + MARK + body if body.startswith(MARK) else body
+
+
+def changeset_text(manifest, files, description, date=b'0 0', user=b'Ann <ann@x>'):
+    return manifest.hex().encode() + b'\n' + user + b'\n' + date + b'\n' + b''.join(path + b'\n' for path in files) + b'\n' + description
+
+
+def group(link_of, revisions, base=b''):
+    """The chunks of revisions, each of which replaces the whole text before it."""
+    chunks = []
+    for node, p, q, text in revisions:
+        chunks.append(bundles.entry(node, p, q, link_of(node), bundles.whole_delta(len(base), text)))
+        base = text
+    return chunks
+
+
+def one_changeset(files, description=b'one', date=b'0 0', user=b'Ann <ann@x>'):
+    """The bundle of a changeset without parents, and its node: files are pairs of a path and a text, in rising order."""
+    revisions = [(path, over(text)) for path, text in files]
+    manifest = over(b''.join(bundles.manifest_line(path, revision[0]) for path, revision in revisions))
+    changeset = over(changeset_text(manifest[0], [path for path, _ in files], description, date, user))
+    node = changeset[0]
+    groups = [(path, group(lambda _: node, [revision])) for path, revision in revisions]
+    return bundles.bundle(group(lambda own: own, [changeset]), group(lambda _: node, [manifest]), groups), node
+
+
+def tree(*entries):
+    """The object of a tree, whose id begins its line."""
+    return streams.stream_object(b'tree', b''.join(streams.tree_entry(*entry) for entry in entries))
+
+
+def id_of(text):
+    return text[:40]
+
+
+def blob(body):
+    return streams.stream_object(b'blob', body)
+
+
+def commit(root, parents=(), line=LINE, message=b'one\n', headers=b'', committer=None):
+    content = streams.commit_content(id_of(root), [id_of(p) for p in parents], line, message, headers)
+    if committer is not None:
+        content = content.replace(b'committer ' + line, b'committer ' + committer)
+    return streams.stream_object(b'commit', content)
+
+
+def of_one_file(body):
+    """A blob, a tree with it as the file `a`, and a commit of that tree."""
+    content = blob(body)
+    root = tree((b'100644', b'a', id_of(content)))
+    return content, root, commit(root)
+
+
+# ---- what is carried over
+
+def check_nothing(report, program):
+    report.check('pull-hg: an empty input', program.run(['pull-hg']), refused('Truncated', 0))
+    report.check('pull-git: an empty input is no commit', program.run(['pull-git']), done(bundles.bundle()))
+    report.check('pull-hg: the least bundle', program.run(['pull-hg'], bundles.bundle()), done())
+
+
+def check_bodies(report, program):
+    for name, body, sizes in [
+        ('a line', HELLO, (427, 295)),
+        ('an empty file', b'', (409, 289)),
+        ('a body that begins with the mark', MARK + b'x', (428, 292)),
+    ]:
+        bundle, _ = one_changeset([(b'a', file_text(body))])
+        stream = b''.join(of_one_file(body))
+        report.check(f'{name}: the sizes of both', (len(bundle), len(stream)), sizes)
+        check_both(report, program, name, bundle, stream)
+    root = tree()
+    report.check('no files: the tree is the empty one', id_of(root), EMPTY_TREE)
+    no_manifest = changeset_text(NULL, [], b'one')
+    changeset = over(no_manifest)
+    bundle = bundles.bundle(group(lambda own: own, [changeset]))
+    check_both(report, program, 'no files', bundle, root + commit(root))
+
+
+def check_both(report, program, name, bundle, stream):
+    report.check(f'pull-hg: {name}', program.run(['pull-hg'], bundle), done(stream))
+    report.check(f'pull-git: {name}', program.run(['pull-git'], stream), done(bundle))
+
+
+def check_tree_order(report, program):
+    """Git's order counts a slash behind a directory's name: `a.b`, `a/`, `a0`, as the paths of a manifest rise here too."""
+    first, second, third = blob(b'1\n'), blob(b'2\n'), blob(b'3\n')
+    below = tree((b'100644', b'c', id_of(second)))
+    root = tree((b'100644', b'a.b', id_of(first)), (b'40000', b'a', id_of(below)), (b'100644', b'a0', id_of(third)))
+    bundle, _ = one_changeset([(b'a.b', b'1\n'), (b'a/c', b'2\n'), (b'a0', b'3\n')])
+    check_both(report, program, 'the order of a tree', bundle, first + second + below + third + root + commit(root))
+
+
+def two_changesets():
+    """A changeset with a file, and one over it with another line in it: the bundle, and the objects of both commits."""
+    files = [over(HELLO)]
+    files.append(over(b'hello2\n', files[0][0]))
+    manifests = [over(bundles.manifest_line(b'a', files[0][0]))]
+    manifests.append(over(bundles.manifest_line(b'a', files[1][0]), manifests[0][0]))
+    changesets = [over(changeset_text(manifests[0][0], [b'a'], b'one'))]
+    changesets.append(over(changeset_text(manifests[1][0], [b'a'], b'two', b'1 0'), changesets[0][0]))
+    links = {row[place][0]: changesets[place][0] for row in (files, manifests, changesets) for place in (0, 1)}
+    bundle = bundles.bundle(group(links.get, changesets), group(links.get, manifests), [(b'a', group(links.get, files))])
+    first = of_one_file(HELLO)
+    content = blob(b'hello2\n')
+    root = tree((b'100644', b'a', id_of(content)))
+    return bundle, first, (content, root, commit(root, [first[2]], LATER, b'two\n'))
+
+
+def check_two(report, program):
+    bundle, first, second = two_changesets()
+    check_both(report, program, 'a changeset over another', bundle, b''.join(first + second))
+
+
+def check_arrival(report, program):
+    """A stream may have a child before its parent, trees and blobs behind the commits that name them, and blobs that nothing names."""
+    bundle, first, second = two_changesets()
+    stray = blob(b'nothing names this\n')
+    mixed = second[2] + first[2] + second[1] + first[1] + stray + second[0] + first[0]
+    report.check('pull-git: a child before its parent', program.run(['pull-git'], mixed), done(bundle))
+    report.check('pull-git: objects that come twice', program.run(['pull-git'], mixed + mixed), done(bundle))
+    report.check('pull-git: a missing object behind all', program.run(['pull-git'], mixed + b'x missing\n'), refused('Missing', len(mixed)))
+    alone = stray + second[2] + second[1] + second[0]
+    report.check('pull-git: a commit without its parent', program.run(['pull-git'], alone), refused('ParentUnknown', len(stray), id_of(second[2])))
+
+
+# ---- what is refused
+
+def hex_of(node):
+    return node.hex().encode()
+
+
+def place_of(bundle, node):
+    """Where the chunk of a revision begins."""
+    return next(e.at for e in bundles.entries_of(bundle) if e.node == node)
+
+
+def not_plain(bundle, node):
+    return refused('NotPlain', place_of(bundle, node), hex_of(node))
+
+
+def refused_bundles():
+    clash, node = one_changeset([(b'a', HELLO), (b'a/b', HELLO)])
+    cases = [('a path below another', clash, refused('PathClash', 6, hex_of(node)))]
+    for name, words in [
+        ('a named branch', dict(date=b'0 0 branch:stable')),
+        ('a closed branch', dict(date=b'0 0 close:1')),
+        ('a graft', dict(date=b'0 0 source:' + b'0' * 40)),
+        ('a time before 1970', dict(date=b'-1 0')),
+        ('a time zone of odd seconds', dict(date=b'0 90')),
+        ('a date line of another form', dict(date=b'yesterday')),
+        ('a user without blank and angle', dict(user=b'Ann<ann@x>')),
+    ]:
+        bundle, node = one_changeset([(b'a', HELLO)], **words)
+        cases.append((name, bundle, not_plain(bundle, node)))
+    for name, keeps in [('a rename', False), ('a copy', True)]:
+        bundle, node = copied(keeps)
+        cases.append((name, bundle, not_plain(bundle, node)))
+    wrapped, node = one_changeset([(b'a', MARK + MARK + HELLO)])
+    cases.append(('empty metadata before a body that needs none', wrapped, not_plain(wrapped, node)))
+    cases.append(orphan())
+    return cases
+
+
+def copied(keeps):
+    """A changeset that renames the file `a` of the one before to `b`, or copies it; and its node."""
+    file = over(HELLO)
+    copy = over(MARK + b'copy: a\ncopyrev: ' + hex_of(file[0]) + b'\n' + MARK + HELLO)
+    first = over(bundles.manifest_line(b'a', file[0]))
+    rest = bundles.manifest_line(b'a', file[0]) if keeps else b''
+    second = over(rest + bundles.manifest_line(b'b', copy[0]), first[0])
+    changesets = [over(changeset_text(first[0], [b'a'], b'one'))]
+    listed = [b'b'] if keeps else [b'a', b'b']
+    changesets.append(over(changeset_text(second[0], listed, b'two', b'1 0'), changesets[0][0]))
+    links = dict(zip([file[0], first[0], copy[0], second[0]], [changesets[0][0]] * 2 + [changesets[1][0]] * 2))
+    links.update({own[0]: own[0] for own in changesets})
+    groups = [(b'a', group(links.get, [file])), (b'b', group(links.get, [copy]))]
+    return bundles.bundle(group(links.get, changesets), group(links.get, [first, second]), groups), changesets[1][0]
+
+
+def orphan():
+    """A file revision that no changeset names."""
+    file, stray = over(HELLO), over(b'stray\n')
+    manifest = over(bundles.manifest_line(b'a', file[0]))
+    changeset = over(changeset_text(manifest[0], [b'a'], b'one'))
+    node = changeset[0]
+    bundle = bundles.bundle(group(lambda own: own, [changeset]), group(lambda _: node, [manifest]), [(b'a', group(lambda _: node, [file, stray]))])
+    return 'a file revision that no changeset names', bundle, refused('Orphan', place_of(bundle, stray[0]), hex_of(stray[0]))
+
+
+def refused_streams():
+    content, root, first = of_one_file(HELLO)
+    before = content + root
+    cases = []
+    for name, words in [
+        ('a signature', dict(headers=b'gpgsig -----BEGIN PGP SIGNATURE-----\n \n iQEz\n -----END PGP SIGNATURE-----\n')),
+        ('an encoding', dict(headers=b'encoding latin1\n')),
+        ('another committer', dict(committer=b'Bob <bob@x> 0 +0000')),
+        ('a committer at another time', dict(committer=LATER)),
+        ('a message without LF', dict(message=b'one')),
+        ('a time zone -0000', dict(line=b'Ann <ann@x> 0 -0000')),
+        ('an author without a name', dict(line=b' <ann@x> 0 +0000')),
+    ]:
+        cases.append((name, *refused_commit(before, commit(root, **words))))
+    parents = [commit(root, line=b'Ann <ann@x> %d +0000' % n) for n in range(3)]
+    cases.append(('three parents', *refused_commit(before + b''.join(parents), commit(root, parents))))
+    cases.append(('a tree that is missing', *refused_commit(content, first, 'ObjectUnknown')))
+    cases.append(('a blob that is missing', *refused_commit(root, first, 'ObjectUnknown')))
+    return cases + refused_rows(content, root, first)
+
+
+def refused_commit(before, text, name='NotPlain'):
+    return before + text, refused(name, len(before), id_of(text))
+
+
+def refused_rows(content, root, first):
+    """Rows of a tree that a changeset can't have. A commit without parents is handed none, so the first commit with such a row isn't plain."""
+    file = (b'100644', b'a', id_of(content))
+    cases = []
+    for name, *entries in [
+        ('a gitlink', file, (b'160000', b'lib', OTHER)),
+        ('a gitlink alone', (b'160000', b'lib', OTHER)),
+        ('a file that its group may write', (b'100664', b'a', id_of(content))),
+        ('an empty subtree', file, (b'40000', b'd', EMPTY_TREE)),
+    ]:
+        other = tree(*entries)
+        before = content + tree() + other
+        cases.append((f'{name} in a commit without parents', *refused_commit(before, commit(other))))
+        child = commit(other, [first], LATER, b'two\n')
+        grandchild = commit(other, [child], LATER, b'three\n')
+        data, answer = refused_commit(root + first + before, child)
+        cases.append((f'{name} in a child, and kept after it', data + grandchild, answer))
+    out = tree((b'100775', b'a', id_of(content)))
+    cases.append(('a mode that no row has', content + out + commit(out), refused('ModeOut', len(content), id_of(out))))
+    return cases
