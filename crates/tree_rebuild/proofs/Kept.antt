@@ -1,14 +1,11 @@
 -- A tree that is held, where its rows are those of a directory, is that of the directory.
-use Rattle.std.proofs.Common.{◌≡◌, ◌<◌, ◌≤◌, ◌+◌, ◌-◌, ◌^◌, not, ℕ, zero, suc, Bool, true, false, List, [], ◌∷◌, ◌++◌, length, take, drop, get_or, map, Some, None, refl, sym, ap, subst, ◌∙◌, append_assoc, inl, inr, arith}
+use Rattle.std.proofs.Common.{◌≡◌, ◌<◌, ◌-◌, ℕ, zero, suc, Bool, true, false, List, [], ◌∷◌, ◌++◌, length, drop, get_or, map, Some, None, refl, sym, ap, subst, ◌∙◌, append_assoc, inl, inr, arith}
 use Rattle.std.specs.Prelude.{filter, if◌then◌else◌, slice_get, bytes_eq}
-use Rattle.std.specs.List.{flat_map, prefix_len}
-use Rattle.std.proofs.lemmas.List.{append-nil, map-append, take_all, take-map, length-append}
-use Rattle.std.proofs.lemmas.List.Concat.{flat_map-append}
-use Rattle.std.proofs.Math.Seq.{take-suc}
+use Rattle.std.specs.List.{flat_map}
+use Rattle.std.proofs.lemmas.List.{append-nil}
 use Rattle.text_model.specs.Lists.{In, Each}
 use Rattle.text_model.specs.Text.{Bytes}
 use Rattle.text_model.specs.Id.{Id, tree, object_id}
-use Rattle.text_model.specs.Path.{components}
 use Rattle.text_model.proofs.EachLemmas.{Each-append}
 use Rattle.git_model.specs.Tree.{is_directory, TreeEntry, tree_text}
 use Rattle.git_model.specs.Object.{Object, object_of, object_at, tree_at, AreObjects}
@@ -16,16 +13,12 @@ use Rattle.git_model.specs.Unfold.{FileRow, has_no_entries}
 use Rattle.git_model.specs.Shape.{Leaf, leaf_of, shape_entries, shape_objects}
 use Rattle.text_model.proofs.Options.{some_is}
 use Rattle.tree_shape.specs.Laws.{IsKnown}
-use Rattle.tree_shape.specs.Shapes.{short, shorts, Good, is_in, is_tree, entries_in, trees_in, id_of_rows, trees_of_rows, row_trees}
+use Rattle.tree_shape.specs.Shapes.{Good, is_tree, entries_in, trees_in, id_of_rows, trees_of_rows, row_trees}
 use Rattle.tree_shape.proofs.Sorted.{id-is, trees-are}
-use Rattle.tree_shape.specs.Wholes.{put_name, leaf_at, is_leaf, entry_leaves, leaves_in, Below, Sound, tree_leaves, AreWhole}
+use Rattle.tree_shape.specs.Wholes.{entry_leaves, leaves_in, Below, Sound, tree_leaves, AreWhole}
 use Rattle.tree_rebuild.specs.Added.{IsAdded}
 use Rattle.tree_shape.proofs.Elements.{each-in, each-from, in-left, in-right, in-append}
-use Rattle.tree_shape.proofs.Names.{components-one, IsName}
 use Rattle.tree_shape.proofs.Unfolding.{no-entries}
-use Rattle.text_model.specs.Cuts.{cut_of}
-use Rattle.tree_shape.proofs.Rows.{deep, is-in, shorter, shorter-path}
-use Rattle.tree_shape.proofs.Turns.{prefix-all, shorts-more}
 use Rattle.tree_shape.proofs.Held.{held}
 use Rattle.tree_shape.proofs.Rebuilding.{leaves-some, sound-at, level}
 
@@ -33,19 +26,6 @@ pub at-in : {X : Type 0} (xs : List X) (i : ℕ) (x : X) → i < length xs → x
 at-in [] i x h is = absurd (omega (arith, h))
 at-in (y ∷ xs) zero x h is = inl is
 at-in (y ∷ xs) (suc i) x h is = inr (at-in xs i x (omega (arith, h)) is)
-
--- the path of a directory with its slash is no longer than a path in it
-pub cut-fits : (skip : ℕ) (rest name after : Bytes) → Some (name, after) ≡ cut_of 47 rest → (0 < length rest → skip + length rest < 2 ^ 63) → skip + length name + 1 < 2 ^ 63
-cut-fits skip rest name after c fits =
-    let d = deep rest name after (sym c) in
-    let n : length rest ≡ length name + length (47 ∷ after) = ap length d.is ∙ length-append name (47 ∷ after) in
-    let m : length (47 ∷ after) ≡ suc (length after) = refl in
-    let all : skip + length rest < 2 ^ 63 = fits (omega (arith, n, m)) in
-    omega (arith, n, m, all)
-
-pub not-false : (b : Bool) → not b ≡ false → b ≡ true
-not-false true h = refl
-not-false false h = absurd cc
 
 pub built-are : (made trees : List Object) → made ≡ trees → Each (λ o. In o trees) made
 built-are made trees h = subst (λ (os : List Object). Each (λ o. In o trees) os) (sym h) (each-from (λ o. In o trees) trees (λ o i. i))
@@ -67,70 +47,12 @@ pub all-in : (known : List Object) (os : List Object) → Each (IsKnown known) o
 all-in known [] h = tt
 all-in known (o ∷ os) h = (known-in known o.id o h.0, all-in known os h.1)
 
--- ---- the leaves of the entries so far
-
-module _ (known : List Object) (levels skip : ℕ) where
-  abbrev below : Id → List Leaf
-  below = leaves_in known (levels - 1)
-
-  abbrev leaves : List TreeEntry → List Leaf
-  leaves entries = flat_map (entry_leaves known below) entries
-
-  abbrev of : List FileRow → List Leaf
-  of rows = map leaf_of (shorts skip rows)
-
-  of-append : (front back : List FileRow) → of (front ++ back) ≡ of front ++ of back
-  of-append front back = ap (map leaf_of) (map-append (short skip) front back) ∙ map-append leaf_of (shorts skip front) (shorts skip back)
-
-  pub turn : (entries : List TreeEntry) (i : ℕ) (e : TreeEntry) (rows rest front back : List FileRow) → i < length entries → e ≡ get_or entries i e → rest ≡ front ++ back → entry_leaves known below e ≡ of front
-      → leaves (take i entries) ++ of rest ≡ of rows → leaves (take (i + 1) entries) ++ of back ≡ of rows
-  turn entries i e rows rest front back within is parts same h =
-      let one : i + 1 ≡ suc i = omega arith in
-      let more : leaves (take (i + 1) entries) ≡ leaves (take i entries) ++ of front =
-      ap (λ (n : ℕ). leaves (take n entries)) one
-      ∙ ap leaves (take-suc entries i e within ∙ ap (λ (x : TreeEntry). take i entries ++ x ∷ []) (sym is))
-      ∙ flat_map-append (entry_leaves known below) (take i entries) (e ∷ [])
-      ∙ ap (λ (l : List Leaf). leaves (take i entries) ++ l) (append-nil (entry_leaves known below e) ∙ same) in
-      ap (λ (l : List Leaf). l ++ of back) more ∙ append_assoc (leaves (take i entries)) (of front) (of back)
-      ∙ ap (λ (l : List Leaf). leaves (take i entries) ++ l) (sym (of-append front back) ∙ ap of (sym parts)) ∙ h
-
-  -- a row of an entry
-  pub leaf-one : (e : TreeEntry) (row : FileRow) → is_leaf known e ≡ true → IsName e.name → short skip row ≡ record { path = e.name; mode = e.mode; id = e.id } → entry_leaves known below e ≡ of (row ∷ [])
-  leaf-one e row l n is =
-      ap (λ (t : Bool). if t then leaf_at e ∷ [] else map (put_name e.name) (below e.id)) l
-      ∙ (λ k. record { names = sym (components-one e.name n.plain) k; mode = e.mode; id = e.id; content = [] } ∷ [])
-      ∙ ap (λ (r : FileRow). leaf_of r ∷ []) (sym is)
-
-  named-leaves : (name : Bytes) (group : List FileRow) → Each (λ t. is_in name t ≡ true) group → map (put_name name) (map leaf_of (map (shorter name) group)) ≡ map leaf_of group
-  named-leaves name [] all = refl
-  named-leaves name (t ∷ group) all =
-      let u = is-in name t all.0 in
-      let names : name ∷ components (shorter name t).path ≡ components t.path = ap (λ (p : Bytes). name ∷ components p) (shorter-path name t u) ∙ sym u.1.parts in
-      (λ k. record { names = names k; mode = t.mode; id = t.id; content = [] } ∷ named-leaves name group all.1 k)
-
-  -- the rows of a directory
-  pub dir-one : (e : TreeEntry) (subtree : List TreeEntry) (group rest : List FileRow) (count : ℕ) → is_leaf known e ≡ false → tree_at known e.id ≡ Some subtree → 0 < levels - 1
-      → count ≡ prefix_len (is_in e.name) (shorts skip rest) → group ≡ take count rest
-      → tree_leaves known (levels - 1) subtree ≡ map leaf_of (shorts (skip + length e.name + 1) group) → entry_leaves known below e ≡ of group
-  dir-one e subtree group rest count l at pos n g same =
-      let less : suc (levels - 1 - 1) ≡ levels - 1 = omega (arith, pos) in
-      let under : below e.id ≡ tree_leaves known (levels - 1) subtree = ap (λ (d : ℕ). leaves_in known d e.id) (sym less) ∙ leaves-some known (levels - 1 - 1) e.id subtree at in
-      let short_group : shorts skip group ≡ take (prefix_len (is_in e.name) (shorts skip rest)) (shorts skip rest) = ap (shorts skip) (g ∙ ap (λ (k : ℕ). take k rest) n) ∙ sym (take-map (short skip) (prefix_len (is_in e.name) (shorts skip rest)) rest) in
-      let all : Each (λ t. is_in e.name t ≡ true) (shorts skip group) = subst (Each (λ t. is_in e.name t ≡ true)) (sym short_group) (prefix-all (is_in e.name) (shorts skip rest)) in
-      ap (λ (t : Bool). if t then leaf_at e ∷ [] else map (put_name e.name) (below e.id)) l
-      ∙ ap (map (put_name e.name)) (under ∙ same ∙ ap (map leaf_of) (shorts-more skip e.name group))
-      ∙ named-leaves e.name (shorts skip group) all
-
-  pub first-of : (rest : List FileRow) (row : FileRow) → Some row ≡ slice_get rest 0 → rest ≡ row ∷ drop 1 rest
-  first-of [] row h = absurd (none h)
-    where
-      none : Some row ≡ None → ⊥
-      none q = cc
-  first-of (r ∷ rest) row h = let is : row ≡ r = some_is {x = row} {y = r} h in (λ k. sym is k ∷ rest)
-
-  pub turn-end : (entries all : List TreeEntry) (i : ℕ) (rows rest : List FileRow) → entries ≡ all → length entries ≤ i → rest ≡ [] → leaves (take i entries) ++ of rest ≡ of rows → leaves all ≡ of rows
-  turn-end entries all i rows rest same end none h =
-      sym (ap leaves (take_all i entries end ∙ same)) ∙ sym (append-nil (leaves (take i entries))) ∙ ap (λ (r : List FileRow). leaves (take i entries) ++ of r) (sym none) ∙ h
+pub first-of : (rest : List FileRow) (row : FileRow) → Some row ≡ slice_get rest 0 → rest ≡ row ∷ drop 1 rest
+first-of [] row h = absurd (none h)
+  where
+    none : Some row ≡ None → ⊥
+    none q = cc
+first-of (r ∷ rest) row h = let is : row ≡ r = some_is {x = row} {y = r} h in (λ k. sym is k ∷ rest)
 
 -- ---- whole trees
 
@@ -165,9 +87,6 @@ kept-tree known levels id entries rows are s same =
     }
 
 -- ---- trees that are added
-
-in-more : (known xs : List Object) (o : Object) → In o known → In o (xs ++ known)
-in-more known xs o i = in-right o xs known i
 
 pub added-none : (known made trees : List Object) → Each (λ o. In o known) trees → IsAdded known made made trees
 added-none known made trees h = record { added = []; is = sym (append-nil made); are = tt; held = h }

@@ -6,3 +6,6 @@ pub mod OldLeaves
 pub mod SameSteps
 pub mod NewSteps
 pub mod Parted
+pub mod Beside
+pub mod Turning
+pub mod Groups

@@ -218,13 +218,5 @@ group-some skip name after (r ∷ rows) front first count f c n p =
     let front_is : front ≡ r ∷ take m rows = p ∙ ap (λ (k : ℕ). take k (r ∷ rows)) one in
     omega (arith, ap (λ (l : List FileRow). length l) front_is)
 
--- what a turn puts behind the others
-pub kept-group : (depth : ℕ) (old : List Leaf) (name : Bytes) (group : List Leaf) (made : List Object) → has_group name old group ≡ true → made ≡ made ++ new_group depth old name group
-kept-group depth old name group made h = sym (append-nil made) ∙ ap (λ (t : Bool). made ++ (if t then [] else new_in depth (leaves_below name old) group)) (sym h)
-
-pub made-group : (depth : ℕ) (old below : List Leaf) (name : Bytes) (group : List Leaf) (made new : List Object) → has_group name old group ≡ false → leaves_below name old ≡ below → new ≡ made ++ new_in depth below group → new ≡ made ++ new_group depth old name group
-made-group depth old below name group made new h b n =
-    n ∙ ap (λ (l : List Leaf). made ++ new_in depth l group) (sym b) ∙ ap (λ (t : Bool). made ++ (if t then [] else new_in depth (leaves_below name old) group)) (sym h)
-
 pub none-rows : (depth : ℕ) (old : List Leaf) (made before : List Object) (all : List Object) → made ++ new_entries depth old [] ≡ before ++ all → made ≡ before ++ all
 none-rows depth old made before all h = sym (append-nil made) ∙ h

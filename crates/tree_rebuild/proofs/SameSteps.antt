@@ -1,6 +1,6 @@
 -- Whether a tree has exactly these rows: one entry after the other.
 use Rattle.std.proofs.Common.{◌≡◌, ◌≢◌, ◌<◌, ◌+◌, ℕ, zero, suc, Bool, true, false, not, ◌&&◌, List, [], ◌∷◌, ◌++◌, length, take, drop, get_or, map, Option, Some, None, refl, sym, ap, subst, ◌∙◌, arith}
-use Rattle.std.specs.Prelude.{if◌then◌else◌, bytes_eq, slice_get}
+use Rattle.std.specs.Prelude.{if◌then◌else◌, bytes_eq}
 use Rattle.std.specs.List.{flat_map, prefix_len}
 use Rattle.std.proofs.lemmas.List.{map-append, take-map, drop-map, take-append-drop}
 use Rattle.std.proofs.lemmas.Slice.Eq.{bytes_eq-Decides}
@@ -9,23 +9,21 @@ use Rattle.text_model.specs.Lists.{Each}
 use Rattle.text_model.specs.Text.{Bytes}
 use Rattle.text_model.specs.Path.{components}
 use Rattle.text_model.specs.Cuts.{cut_of, Lacks}
-use Rattle.git_model.specs.Tree.{TreeEntry, has_distinct, IsTree}
-use Rattle.git_model.specs.Object.{Object, tree_at}
+use Rattle.git_model.specs.Tree.{TreeEntry, has_distinct}
+use Rattle.git_model.specs.Object.{Object}
 use Rattle.git_model.specs.Unfold.{FileRow}
 use Rattle.git_model.specs.Shape.{Leaf, leaf_of}
-use Rattle.text_model.proofs.Options.{some_is}
 use Rattle.tree_shape.specs.Shapes.{short, shorts, is_in}
 use Rattle.tree_shape.specs.Wholes.{put_name, leaf_at, is_leaf, entry_leaves, leaves_in, Below, Sound, tree_leaves}
-use Rattle.tree_shape.proofs.Unfolding.{name-of}
 use Rattle.tree_shape.proofs.Names.{components-one, IsName, same-components}
 use Rattle.tree_shape.proofs.Leaves.{NotFirst}
 use Rattle.tree_shape.proofs.Rows.{deep, flat, in-is, is-in, shape, goes_on, ends, shorter, shorter-path, components-some}
 use Rattle.tree_shape.proofs.Turns.{prefix-all, prefix-stops, shorts-more}
-use Rattle.tree_shape.proofs.Rebuilding.{HasName, named, leaf-or-dir, leaves-named, of-names, distinct-later, sound-at}
+use Rattle.tree_shape.proofs.Rebuilding.{HasName, named, leaves-named, of-names, distinct-later}
 use Rattle.tree_rebuild.specs.News.{same_leaves, same_leaf}
 use Rattle.tree_shape.proofs.Rows.{clash}
 use Rattle.tree_rebuild.proofs.SameLeaves.{bytes-same, leaf-other, leaf-self, leaves-put, Stops, parts-same}
-use Rattle.tree_rebuild.proofs.Kept.{sound-leaves, first-of, at-in}
+use Rattle.tree_rebuild.proofs.Kept.{sound-leaves}
 
 -- the name comes first, and more names behind it
 abbrev deeper : Bytes → List Bytes → Bool
@@ -222,74 +220,3 @@ distinct-left (e ∷ es) (suc i) h = distinct-left es i (behind (not _) (has_dis
     behind : (a b : Bool) → (a && b) ≡ true → b ≡ true
     behind true b h = h
     behind false b h = absurd (clash (sym h))
-
--- ---- a turn of the loop
-
-pub not-both : (b : Bool) → not b ≡ true → b ≡ true → ⊥
-not-both true h q = clash (sym h)
-not-both false h q = clash (sym q)
-
--- what stands before the entry, and where
-pub record At (known : List Object) (n : ℕ) (tree items es : List TreeEntry) (i : ℕ) (e : TreeEntry) : Type 0 where
-  pub left : drop i items ≡ e ∷ es
-  pub whole : Each (Below (Sound known n)) (e ∷ es)
-  pub distinct : has_distinct (map (λ e. e.name) (e ∷ es)) ≡ true
-  pub name : IsName e.name
-
-pub at-entry : (known : List Object) (n : ℕ) (tree items : List TreeEntry) (i : ℕ) (e : TreeEntry) → items ≡ tree → IsTree tree → Each (Below (Sound known n)) tree → i < length items → e ≡ get_or items i e → At known n tree items (drop (i + 1) items) i e
-at-entry known n tree items i e same is_tree whole lt is =
-    let left : drop i items ≡ e ∷ drop (i + 1) items = left-entries items i e lt is in
-    record {
-      left = left;
-      whole = subst (Each (Below (Sound known n))) left (each-left (Below (Sound known n)) items i (subst (Each (Below (Sound known n))) (sym same) whole));
-      distinct = subst (λ (l : List TreeEntry). has_distinct (map (λ e. e.name) l) ≡ true) left (distinct-left items i (subst (λ (l : List TreeEntry). has_distinct (map (λ e. e.name) l) ≡ true) (sym same) is_tree.2));
-      name = name-of items e (subst IsTree (sym same) is_tree) (at-in items i e lt is);
-    }
-
-module _ (known : List Object) (n skip : ℕ) (tree items es : List TreeEntry) (i : ℕ) (e : TreeEntry) (a : At known n tree items es i e) (rest : List FileRow) (all : Bool) (inv : Has known n skip (drop i items) rest ≡ all) where
-  now : Has known n skip (e ∷ es) rest ≡ all
-  now = ap (λ (l : List TreeEntry). Has known n skip l rest) (sym a.left) ∙ inv
-
-  pub turn-none : None ≡ slice_get rest 0 → false ≡ all
-  turn-none h = sym (ap (Has known n skip (e ∷ es)) (none-left-rows rest h) ∙ none-left known n skip e es a.whole.0) ∙ now
-    where
-      none-left-rows : (rows : List FileRow) → None ≡ slice_get rows 0 → rows ≡ []
-      none-left-rows [] h = refl
-      none-left-rows (r ∷ rows) h = absurd (no-some h)
-        where
-          no-some : None ≡ Some r → ⊥
-          no-some q = cc
-
-  as-first : (row : FileRow) → Some row ≡ slice_get rest 0 → Has known n skip (e ∷ es) (row ∷ drop 1 rest) ≡ all
-  as-first row h = ap (Has known n skip (e ∷ es)) (sym (first-of known n skip rest row h)) ∙ now
-
-  pub turn-row-other : (row : FileRow) → Some row ≡ slice_get rest 0 → is_leaf known e ≡ true → (short skip row ≡ record { path = e.name; mode = e.mode; id = e.id } → ⊥) → false ≡ all
-  turn-row-other row h l ne = sym (leaf-not known n skip e es row (drop 1 rest) l a.name ne) ∙ as-first row h
-
-  pub turn-row : (row : FileRow) → Some row ≡ slice_get rest 0 → is_leaf known e ≡ true → short skip row ≡ record { path = e.name; mode = e.mode; id = e.id } → Has known n skip es (drop 1 rest) ≡ all
-  turn-row row h l is = sym (leaf-is known n skip e es row (drop 1 rest) l a.name is) ∙ as-first row h
-
-  pub turn-unknown : is_leaf known e ≡ false → None ≡ tree_at known e.id → false ≡ all
-  turn-unknown l h = let s = a.whole.0 (leaf-or-dir known e l).0 in absurd (no-some s.0 (h ∙ sound-at known n e.id s.0 s.1))
-    where
-      no-some : (es : List TreeEntry) → None ≡ Some es → ⊥
-      no-some es q = cc
-
-  pub turn-flat : (row : FileRow) → Some row ≡ slice_get rest 0 → is_leaf known e ≡ false → None ≡ cut_of 47 (drop skip row.path) → false ≡ all
-  turn-flat row h l c = sym (dir-flat known n skip e es row (drop 1 rest) a.whole.0 l c) ∙ as-first row h
-
-  pub turn-other : (row : FileRow) (name after : Bytes) → Some row ≡ slice_get rest 0 → is_leaf known e ≡ false → Some (name, after) ≡ cut_of 47 (drop skip row.path) → name ≢ e.name → false ≡ all
-  turn-other row name after h l c ne = sym (dir-other known n skip e es row (drop 1 rest) name after a.whole.0 l c ne) ∙ as-first row h
-
-  pub below-is : (subtree : List TreeEntry) → is_leaf known e ≡ false → Some subtree ≡ tree_at known e.id → Sound known n e.id subtree
-  below-is subtree l h =
-      let s = a.whole.0 (leaf-or-dir known e l).0 in
-      subst (Sound known n e.id) (some_is {x = s.0} {y = subtree} (sym (sound-at known n e.id s.0 s.1) ∙ sym h)) s.1
-
-  pub turn-group : (subtree : List TreeEntry) (name : Bytes) (group back : List FileRow) (count : ℕ) (same : Bool) → is_leaf known e ≡ false → Some subtree ≡ tree_at known e.id → name ≡ e.name
-      → count ≡ prefix_len (is_in name) (shorts skip rest) → group ≡ take count rest → back ≡ drop count rest
-      → same ≡ same_leaves (tree_leaves known n subtree) (map leaf_of (shorts (skip + length name + 1) group)) → (same && Has known n skip es back) ≡ all
-  turn-group subtree name group back count same l at is k g b s =
-      let count_is : count ≡ prefix_len (is_in e.name) (shorts skip rest) = k ∙ ap (λ (m : Bytes). prefix_len (is_in m) (shorts skip rest)) is in
-      ap (λ (t : Bool). t && Has known n skip es back) (s ∙ ap (λ (m : Bytes). same_leaves (tree_leaves known n subtree) (map leaf_of (shorts (skip + length m + 1) group))) is)
-      ∙ sym (dir-same known n skip e es subtree rest group back a.whole a.distinct l (below-is subtree l at) (is-group skip e.name rest group back count count_is g b)) ∙ now

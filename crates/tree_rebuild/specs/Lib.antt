@@ -1,3 +1,4 @@
 pub mod Added
 pub mod News
 pub mod Directories
+pub mod Entries

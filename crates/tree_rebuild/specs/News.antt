@@ -78,6 +78,10 @@ has_empty name old = same_leaves (leaves_in_directory (name ∷ []) old) (empty_
 abbrev pub new_row : ℕ → List Leaf → Bytes → FileRow → List Object
 new_row depth old name row = if is_directory row.mode && not (has_empty name old) then trees_of_rows depth [] else []
 
+-- the new trees of a directory over an old tree: none where that has the same leaves
+abbrev pub new_over : ℕ → List Leaf → List Leaf → List Object
+new_over depth old new = if same_leaves old new then [] else new_in depth old new
+
 -- those of the root
 abbrev pub new_leaves : List Leaf → List Leaf → List Object
-new_leaves old new = if same_leaves old new then [] else new_in 257 old new
+new_leaves old new = new_over 257 old new

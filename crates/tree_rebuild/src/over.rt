@@ -1,11 +1,13 @@
 // The trees of rows over a tree that is held: a directory that has the same rows in it keeps its tree, and isn't made.
-ghost use Rattle.std.specs.Prelude.{◌≡◌, ◌<◌, ◌+◌, ◌-◌, ◌++◌, ℕ, Some, [], map, length, None, true, false, not, bytes_eq, ◌&&◌, ◌||◌, OnOk, IfOk, IfErr, IfSome, MatchOption, IsTrue, ◌↔◌};
+ghost use Rattle.std.specs.Prelude.{◌≡◌, ◌<◌, ◌+◌, ◌-◌, ◌++◌, ℕ, List, Some, [], map, drop, length, None, true, false, not, bytes_eq, ◌&&◌, ◌||◌, OnOk, IfOk, IfErr, IfSome, MatchOption, IsTrue, option_map, ◌↔◌};
+ghost use Rattle.std.specs.Option.{IsSome};
 ghost use Rattle.text_model.specs.Id.{tree, object_id, Id};
 ghost use Rattle.text_model.specs.Lists.{In, Each};
 ghost use Rattle.text_model.specs.Text.{is_below};
+ghost use Rattle.text_model.specs.Cuts.{cut_of};
 ghost use Rattle.git_model.specs.Tree.{IsTree, is_directory, sort_name, order_name};
 ghost use Rattle.git_model.specs.Object.{tree_at, AreObjects};
-ghost use Rattle.git_model.specs.Unfold.{walk_fault, has_no_entries, tree_rows};
+ghost use Rattle.git_model.specs.Unfold.{FileRow, walk_fault, has_no_entries, tree_rows};
 ghost use Rattle.git_model.specs.Shape.{leaf_of, leaves_below, root_of, trees_of, new_trees, first_clash};
 ghost use Rattle.git_object.specs.Values.{mode_value};
 ghost use Rattle.tree_shape.specs.Faults.{IsBuildFault};
@@ -14,14 +16,17 @@ ghost use Rattle.tree_shape.specs.Shapes.{short, shorts, Good, id_of_rows, trees
 ghost use Rattle.tree_shape.specs.Wholes.{is_leaf, leaves_in, tree_leaves, AreWhole, Sound};
 ghost use Rattle.tree_rebuild.specs.Added.{IsAdded};
 ghost use Rattle.tree_rebuild.specs.Directories.{LacksDirectory};
-ghost use Rattle.tree_rebuild.specs.News.{same_leaves, has_group, has_empty, new_row, new_in, new_leaves};
+ghost use Rattle.tree_rebuild.specs.Entries.{IsDirectoryNext, IsNext, IsIdNext};
+ghost use Rattle.tree_rebuild.specs.News.{same_leaves, has_group, has_empty, new_row, new_over, new_leaves};
 
+use crate::entries::{Entries, is_directory_at, is_directory_named};
+use crate::group::group_len;
 use bridge_text::{Id, Kind, NoMemory, cut_at, object_id};
 use git_object::{Mode, Objects, OrderName, Tree, TreeEntry};
 use std::alloc::Global;
 use tree_shape::{
-    BuildFault, FileRow, Files, LEVELS, TreeList, Trees, build_apart, by_walk, count_in,
-    find_clash, has_directory, is_empty_tree, is_leaf, put_below, put_entry, put_tree, rest_of,
+    BuildFault, FileRow, Files, LEVELS, TreeList, Trees, build_apart, by_walk, find_clash,
+    has_directory, is_empty_tree, put_below, rest_of,
 };
 
 /// Whether an entry stands before a directory of this name.
@@ -33,12 +38,6 @@ fn is_below_directory(entry: &TreeEntry, name: &[u8]) -> bool
         is_directory: true,
     };
     entry.order_name().is_below(&directory)
-}
-
-fn is_directory_named(entry: &TreeEntry, name: &[u8]) -> bool
-    ensures { result ≡ (is_directory entry.now.mode && bytes_eq entry.now.name name.now) }
-{
-    entry.mode().is_directory() && entry.name() == name
 }
 
 /// The entry of the directory of this name.
@@ -63,57 +62,17 @@ fn directory_at<'a>(tree: &'a Tree, name: &[u8]) -> Option<&'a TreeEntry>
     }
 }
 
-/// Whether a row is that of an entry.
-fn is_row_of(row: &FileRow, skip: usize, entry: &TreeEntry) -> bool
-    ensures { IsTrue result ↔ short skip row.now ≡ record { path = entry.now.name; mode = entry.now.mode; id = entry.now.id } }
+/// The entry of the directory of this name, which may be at a place.
+fn directory_near<'a>(tree: &'a Tree, place: usize, name: &[u8]) -> Option<&'a TreeEntry>
+    ensures tree { IsTree tree.entry.now }
+    ensures entry { MatchOption result (LacksDirectory name.now tree.entry.now) (λ e. In e.now tree.entry.now × (is_directory e.now.mode ≡ true) × (e.now.name ≡ name.now)) }
+    ensures next { IsDirectoryNext name.now (drop place tree.entry.now) → IfSome result (λ e. IsNext e.now (drop place tree.entry.now)) × IsSome result }
 {
-    rest_of(row, skip) == entry.name() && row.mode() == entry.mode() && row.blob() == entry.id()
-}
-
-/// Whether a tree has exactly these rows. Nothing is hashed.
-fn has_rows<G: Objects>(
-    store: &G,
-    tree: &Tree,
-    rows: &[FileRow],
-    skip: usize,
-    levels: usize,
-) -> bool
-    requires deep { 0 < levels }
-    requires whole { AreWhole (G.objects store.now) levels tree.now }
-    ensures { result ≡ same_leaves (tree_leaves (G.objects store.now) levels tree.now) (map leaf_of (shorts skip rows.now)) }
-{
-    let mut rest = rows;
-    'entries: for entry in tree.entries() {
-        if is_leaf(store, entry) {
-            let Some(row) = rest.first() else {
-                return false;
-            };
-            if !is_row_of(row, skip, entry) {
-                return false;
-            }
-            rest = rest.split_at(1).1;
-        } else {
-            let Some(subtree) = store.tree(entry.id()) else {
-                return false;
-            };
-            let Some(first) = rest.first() else {
-                return false;
-            };
-            let Some((name, _)) = cut_at(b'/', rest_of(first, skip)) else {
-                return false;
-            };
-            if name != entry.name() {
-                return false;
-            }
-            let count = count_in(rest, skip, name);
-            let (group, others) = rest.split_at(count);
-            if !has_rows(store, subtree, group, skip + name.len() + 1, levels - 1) {
-                return false;
-            }
-            rest = others;
-        }
+    let entries = tree.entries();
+    if is_directory_at(entries, place, name) {
+        return Some(&entries[place]);
     }
-    rest.is_empty()
+    directory_at(tree, name)
 }
 
 /// Whether a tree has an empty directory of this name.
@@ -157,54 +116,63 @@ fn put_row<G: Objects>(
     put_below(alloc, row, levels, made)
 }
 
-/// The id of the tree that is held at a name, where it has exactly these rows.
-fn kept_at<G: Objects>(
-    store: &G,
+/// A directory of the old tree.
+#[derive(Clone, Copy)]
+struct Subtree<'a> {
+    /// Its id; the null id where the old tree hasn't the directory.
+    id: Id,
+    /// Its tree, or one without entries.
+    tree: &'a Tree,
+}
+
+/// The directory of this name in the old tree, where its entry may be at a place.
+fn find_subtree<'a, G: Objects>(
+    store: &'a G,
     old: &Tree,
+    place: usize,
     name: &[u8],
-    rows: &[FileRow],
-    skip: usize,
-    levels: usize,
-) -> Option<Id>
-    requires objects { AreObjects (G.objects store.now) }
-    requires old { AreWhole (G.objects store.now) (levels + 1) old.now }
-    requires some { 0 < length rows.now }
-    ensures same { MatchOption result (has_group name.now (tree_leaves (G.objects store.now) (levels + 1) old.now) (map leaf_of (shorts skip rows.now)) ≡ false) (λ _. has_group name.now (tree_leaves (G.objects store.now) (levels + 1) old.now) (map leaf_of (shorts skip rows.now)) ≡ true) }
-    ensures id { IfSome result (λ id. id ≡ id_of_rows levels (shorts skip rows.now)) }
-    ensures held { IfSome result (λ _. Each (λ o. In o (G.objects store.now)) (trees_of_rows levels (shorts skip rows.now))) }
+    none: &'a Tree,
+) -> Subtree<'a>
+    requires { none.now ≡ [] }
+    ensures whole { (levels : ℕ) → AreWhole (G.objects store.entry.now) levels old.now → AreWhole (G.objects store.entry.now) (levels - 1) result.tree.now }
+    ensures leaves { (levels : ℕ) → AreWhole (G.objects store.entry.now) levels old.now → leaves_below name.now (tree_leaves (G.objects store.entry.now) levels old.now) ≡ tree_leaves (G.objects store.entry.now) (levels - 1) result.tree.now }
+    ensures group { (levels skip : ℕ) (rows : List FileRow) → AreWhole (G.objects store.entry.now) levels old.now → 0 < length rows → has_group name.now (tree_leaves (G.objects store.entry.now) levels old.now) (map leaf_of (shorts skip rows)) ≡ same_leaves (tree_leaves (G.objects store.entry.now) (levels - 1) result.tree.now) (map leaf_of (shorts skip rows)) }
+    ensures held { (levels : ℕ) → AreWhole (G.objects store.entry.now) levels old.now → 0 < length result.tree.now → Sound (G.objects store.entry.now) (levels - 1) result.id result.tree.now }
+    ensures next { (levels : ℕ) → AreWhole (G.objects store.entry.now) levels old.now → IsDirectoryNext name.now (drop place old.now) → IsIdNext result.id (drop place old.now) × Sound (G.objects store.entry.now) (levels - 1) result.id result.tree.now }
 {
-    match directory_at(old, name) {
-        Some(entry) => match store.tree(entry.id()) {
-            Some(tree) => {
-                if has_rows(store, tree, rows, skip, levels) {
-                    Some(*entry.id())
-                } else {
-                    None
-                }
-            }
-            None => None,
+    let Some(entry) = directory_near(old, place, name) else {
+        return Subtree {
+            id: Id::NULL,
+            tree: none,
+        };
+    };
+    match store.tree(entry.id()) {
+        Some(tree) => Subtree {
+            id: *entry.id(),
+            tree,
         },
-        None => None,
+        None => Subtree {
+            id: Id::NULL,
+            tree: none,
+        },
     }
 }
 
-/// The tree that is held at a name, or one without entries.
-fn tree_below<'a, G: Objects>(store: &'a G, old: &Tree, name: &[u8], none: &'a Tree) -> &'a Tree
-    requires { none.now ≡ [] }
-    ensures whole { (levels : ℕ) → AreWhole (G.objects store.entry.now) levels old.now → AreWhole (G.objects store.entry.now) (levels - 1) result.now }
-    ensures leaves { (levels : ℕ) → AreWhole (G.objects store.entry.now) levels old.now → leaves_below name.now (tree_leaves (G.objects store.entry.now) levels old.now) ≡ tree_leaves (G.objects store.entry.now) (levels - 1) result.now }
+/// A path cut at its first slash. One that is the name of the old tree's entry at a place has none.
+fn cut_beside<'a>(old: &[TreeEntry], place: usize, path: &'a [u8]) -> Option<(&'a [u8], &'a [u8])>
+    requires { IsTree old.now }
+    ensures { option_map (λ x. (x.0.now, x.1.now)) result ≡ cut_of 47 path.entry.now }
 {
-    match directory_at(old, name) {
-        Some(entry) => match store.tree(entry.id()) {
-            Some(tree) => tree,
-            None => none,
-        },
-        None => none,
+    if let Some(entry) = old.get(place) {
+        if entry.name() == path {
+            return None;
+        }
     }
+    cut_at(b'/', path)
 }
 
 /// Makes the trees of rows that lie in one directory, but for those that the tree which is held there has with the same
-/// rows.
+/// rows. Gives the id of the directory's tree where its rows aren't those of that tree.
 fn put_rows_over<G: Objects>(
     alloc: Global,
     store: &G,
@@ -213,52 +181,51 @@ fn put_rows_over<G: Objects>(
     skip: usize,
     levels: usize,
     made: &mut TreeList,
-) -> Result<Id, NoMemory>
+) -> Result<Option<Id>, NoMemory>
     requires good { Good (shorts skip rows.now) }
     requires old { AreWhole (G.objects store.now) levels old.now }
     requires objects { AreObjects (G.objects store.now) }
-    ensures id { IfOk result (λ id. id ≡ id_of_rows levels (shorts skip rows.now)) }
-    ensures made { IfOk result (λ _. IsAdded (G.objects store.now) made.old made.new (trees_of_rows levels (shorts skip rows.now))) }
-    ensures new { IfOk result (λ _. made.new ≡ made.old ++ new_in levels (tree_leaves (G.objects store.now) levels old.now) (map leaf_of (shorts skip rows.now))) }
+    ensures same { IfOk result (λ id. MatchOption id (same_leaves (tree_leaves (G.objects store.now) levels old.now) (map leaf_of (shorts skip rows.now)) ≡ true) (λ id. 0 < levels → same_leaves (tree_leaves (G.objects store.now) levels old.now) (map leaf_of (shorts skip rows.now)) ≡ false)) }
+    ensures id { IfOk result (λ id. IfSome id (λ id. id ≡ id_of_rows levels (shorts skip rows.now))) }
+    ensures made { IfOk result (λ id. IfSome id (λ _. IsAdded (G.objects store.now) made.old made.new (trees_of_rows levels (shorts skip rows.now)))) }
+    ensures new { OnOk result (made.new ≡ made.old ++ new_over levels (tree_leaves (G.objects store.now) levels old.now) (map leaf_of (shorts skip rows.now))) }
 {
     if levels == 0 {
-        return Ok(object_id(Kind::Tree, b""));
+        return Ok(Some(object_id(Kind::Tree, b"")));
     }
     let none = Tree::new(alloc);
-    let mut text = Vec::new(alloc);
+    let old_entries = old.entries();
+    let mut entries = Entries::new(alloc);
     let mut rest = rows;
     'names: while let Some(first) = rest.first() {
-        match cut_at(b'/', rest_of(first, skip)) {
+        match cut_beside(old_entries, entries.place, rest_of(first, skip)) {
             Some((name, _)) => {
-                let count = count_in(rest, skip, name);
+                let count = group_len(rest, skip, name);
                 let (group, others) = rest.split_at(count);
                 let deeper = skip + name.len() + 1;
-                let id = match kept_at(store, old, name, group, deeper, levels - 1) {
-                    Some(id) => id,
-                    None => {
-                        let below = tree_below(store, old, name, &none);
-                        put_rows_over(alloc, store, below, group, deeper, levels - 1, made)?
-                    }
-                };
-                put_entry(&mut text, Mode::Dir, name, &id)?;
-                rest = others;
-            }
-            None => {
-                put_row(
+                let below = find_subtree(store, old, entries.place, name, &none);
+                let outcome = put_rows_over(
                     alloc,
                     store,
-                    old,
-                    rest_of(first, skip),
-                    first,
+                    below.tree,
+                    group,
+                    deeper,
                     levels - 1,
                     made,
                 )?;
-                put_entry(&mut text, first.mode(), rest_of(first, skip), first.blob())?;
+                let id = outcome.unwrap_or(below.id);
+                entries.put_directory(old_entries, outcome.is_none(), name, &id)?;
+                rest = others;
+            }
+            None => {
+                let name = rest_of(first, skip);
+                put_row(alloc, store, old, name, first, levels - 1, made)?;
+                entries.put_leaf(store, old_entries, name, first)?;
                 rest = rest.split_at(1).1;
             }
         }
     }
-    put_tree(made, text)
+    entries.finish(old_entries, made)
 }
 
 /// The trees of rows in the order of a walk.
@@ -277,11 +244,11 @@ fn rebuild_walk<G: Objects>(
     ensures new { IfOk result (λ trees. trees.made ≡ new_leaves (leaves_in (G.objects store.now) 257 old.now) (map leaf_of rows.now)) }
 {
     let mut made = TreeList::new(alloc);
-    if has_rows(store, tree, rows, 0, LEVELS) {
-        return Ok(Trees { root: *old, made });
-    }
     let root = put_rows_over(alloc, store, tree, rows, 0, LEVELS, &mut made)?;
-    Ok(Trees { root, made })
+    Ok(Trees {
+        root: root.unwrap_or(*old),
+        made,
+    })
 }
 
 /// The trees of rows of which none lies below another.
