@@ -21,7 +21,7 @@ pub use arrival::{ObjectArrival, ObjectArrivals};
 pub use fault::BatchFault;
 pub use laws::{stream_laws, stream_reading_laws};
 pub use listing::list;
-pub use put::put_object;
+pub use put::{put_object, put_with_id};
 pub use read::read_into;
 pub use reader::{BatchReader, Item};
 pub use stream_fault::StreamFault;

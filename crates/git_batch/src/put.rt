@@ -5,7 +5,7 @@ ghost use Rattle.git_model.specs.Object.{object_of};
 ghost use Rattle.git_model.specs.Stream.{object_text};
 ghost use Rattle.bridge_text.specs.Kinds.{object_kind};
 
-use bridge_text::{Kind, NoMemory, decimal_into, object_id};
+use bridge_text::{Id, Kind, NoMemory, decimal_into, object_id};
 
 /// Appends an object as `git cat-file --batch` writes it: its id in hex digits, the kind's word and the size of the
 /// content in decimal with a space between each two, LF, the content and LF. If memory runs out, `out` is as it was.
@@ -14,18 +14,20 @@ pub fn put_object(out: &mut Vec<u8>, kind: Kind, content: &[u8]) -> Result<(), N
     ensures err { OnErr result (out.new.items ≡ out.old.items) }
 {
     let start = out.len();
-    let put = push_object(out, kind, content);
+    let put = put_with_id(out, &object_id(kind, content), kind, content);
     if put.is_err() {
         out.truncate(start);
     }
     put
 }
 
-fn push_object(out: &mut Vec<u8>, kind: Kind, content: &[u8]) -> Result<(), NoMemory>
-    ensures ok { OnOk result (out.new.items ≡ out.old.items ++ object_text (object_of (object_kind kind) content.now)) }
+/// Appends an object whose id is known in the same form. The id is not computed again. If memory runs out, what `out` was is
+/// its beginning.
+pub fn put_with_id(out: &mut Vec<u8>, id: &Id, kind: Kind, content: &[u8]) -> Result<(), NoMemory>
+    ensures ok { OnOk result (out.new.items ≡ out.old.items ++ object_text (record { id = id.now; kind = object_kind kind; content = content.now })) }
     ensures front { StartsWith out.new.items out.old.items }
 {
-    out.extend_from_slice(&object_id(kind, content).hex())?;
+    out.extend_from_slice(&id.hex())?;
     out.push(b' ')?;
     out.extend_from_slice(kind.word())?;
     out.push(b' ')?;

@@ -3,7 +3,6 @@
 #![tactic(auto)]
 
 mod dump;
-mod put;
 mod walk;
 
 pub use dump::write;

@@ -7,8 +7,8 @@ ghost use Rattle.git_model.specs.Tree.{is_blob_mode};
 ghost use Rattle.git_dump.specs.Walks.{IsKnown, objects_at, file_objects, walk_objects, IsWalkable, IsClosed};
 ghost use Rattle.view_model.specs.Dump.{objects_in};
 
-use crate::put::put_object;
 use bridge_text::{Id, IdSet, NoMemory};
+use git_batch::put_with_id;
 use git_object::{Objects, TreeEntry};
 use git_store::GitStore;
 use std::alloc::Global;
@@ -113,7 +113,7 @@ impl Walk {
         let is_new = self.met.insert(*id)?;
         if is_new && self.writes {
             let (kind, content) = store.content(id).unwrap();
-            put_object(&mut self.out, id, kind, content)?;
+            put_with_id(&mut self.out, id, kind, content)?;
         }
         Ok(())
     }

@@ -7,16 +7,16 @@ use Rattle.git_dump.proofs.VisitLemmas.{there-is, known-is, visited-old, visited
 use Rattle.git_dump.proofs.walk.Walk.visit_object.Goals as goal
 use Rattle.git_dump.proofs.walk.Walk.visit_object.Goals.{else-is_new-via-then-is_new+else-self, else-is_new-via-else-is_new}
 
-pub returns-in_ok-put_object : goal.returns-in_ok-put_object
-returns-in_ok-put_object c =
+pub returns-in_ok-put_with_id : goal.returns-in_ok-put_with_id
+returns-in_ok-put_with_id c =
     let found = c.unwrap-kind.result in
     let o : Object = record { id = c.args.id.now; kind = object_kind found.0; content = found.1.now } in
     let w = c.args.self.now in
     let is = rw c.unwrap-kind.ensures at c.content.ensures.content in
-    subst (λ (os : List Object). Visited os w (record { met = c.insert.new.self; out = c.put_object.new.out; writes = w.writes }))
+    subst (λ (os : List Object). Visited os w (record { met = c.insert.new.self; out = c.put_with_id.new.out; writes = w.writes }))
     (sym (there-is c.args.store.now c.args.id.now (object_kind found.0) found.1.now is))
-    (visited-new o w.met c.insert.new.self w.out c.put_object.new.out w.writes c.in_ok-is_new.is_new c.in_ok-is_new.ensures.new c.if-is_new.true c.in_ok-is_new.ensures.ok
-    (c.in_ok-put_object.ensures ∙ ap (λ (b : Bytes). w.out.items ++ b) (one-written o w.writes c.if-self.true)))
+    (visited-new o w.met c.insert.new.self w.out c.put_with_id.new.out w.writes c.in_ok-is_new.is_new c.in_ok-is_new.ensures.new c.if-is_new.true c.in_ok-is_new.ensures.ok
+    (c.in_ok-put_with_id.ensures.ok ∙ ap (λ (b : Bytes). w.out.items ++ b) (one-written o w.writes c.if-self.true)))
 
 pub returns-else-is_new : goal.returns-else-is_new
 returns-else-is_new c =
