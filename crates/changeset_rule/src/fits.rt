@@ -8,16 +8,10 @@ ghost use Rattle.pair_known.specs.Rows.{row_value};
 ghost use Rattle.pair_known.specs.Ruled.{IsMadeChangeset};
 
 use crate::fields::text_of;
-use bridge_text::NoMemory;
+use bridge_text::{COMMIT_LIMIT, NoMemory, TEXT_LIMIT};
 use manifest_rule::lines_fit;
 use pair_known::{FreshFiles, HgDraft, Known};
 use std::alloc::Global;
-
-/// The most bytes of a changeset's text.
-const MOST_OF_CHANGESET: usize = 1 << 24;
-
-/// The most bytes of a text of a manifest or a file.
-const MOST_BYTES: usize = 1 << 26;
 
 /// Whether the texts of a changeset are within their limits: its own, its manifest's and those of its files. Nothing is hashed, and texts
 /// that the draft brings aren't written again.
@@ -40,8 +34,8 @@ fn text_fits(alloc: Global, d: &HgDraft) -> Result<bool, NoMemory>
         → (IsTrue fits ↔ length (changeset_text v.fields) ≤ commit_limit)) }
 {
     match &d.texts.changeset {
-        Some(text) => Ok(text.len() <= MOST_OF_CHANGESET),
-        None => Ok(text_of(alloc, &d.changeset)?.len() <= MOST_OF_CHANGESET),
+        Some(text) => Ok(text.len() <= COMMIT_LIMIT),
+        None => Ok(text_of(alloc, &d.changeset)?.len() <= COMMIT_LIMIT),
     }
 }
 
@@ -51,7 +45,7 @@ fn manifest_fits(d: &HgDraft) -> bool
         → (IsTrue result ↔ length (rows_text v.rows) ≤ text_limit) }
 {
     match &d.texts.manifest {
-        Some(text) => text.len() <= MOST_BYTES,
+        Some(text) => text.len() <= TEXT_LIMIT,
         None => lines_fit(&d.rows),
     }
 }
@@ -61,7 +55,7 @@ fn files_fit(fresh: &FreshFiles) -> bool
     ensures { IsTrue result ↔ Each (λ r. length r.text ≤ text_limit) fresh.now }
 {
     for file in fresh.as_slice() {
-        if file.text.len() > MOST_BYTES {
+        if file.text.len() > TEXT_LIMIT {
             return false;
         }
     }

@@ -8,20 +8,11 @@ ghost use Rattle.pair_known.specs.Ruled.{IsMadeCommit};
 ghost use Rattle.commit_rule.specs.Parts.{IsRowOf, AreRowsOf, AreShortBodies};
 
 use crate::fresh::{body_of, is_stored};
-use bridge_text::NoMemory;
+use bridge_text::{COMMIT_LIMIT, NoMemory, ROWS_LIMIT, TEXT_LIMIT};
 use git_object::Commit;
 use pair_known::{GitDraft, HgDraft, HgRow, Known};
 use std::alloc::Global;
 use tree_shape::Files;
-
-/// The most bytes of a text or an object.
-const MOST_BYTES: usize = 1 << 26;
-
-/// The most bytes of the rows of a tree.
-const MOST_ROWS: usize = 1 << 26;
-
-/// The most bytes of a commit's text.
-const MOST_TEXT: usize = 1 << 24;
 
 // Whether the rows, each counted as its path's bytes and 42, are within their limit.
 fn rows_fit(files: &Files) -> bool
@@ -31,7 +22,7 @@ fn rows_fit(files: &Files) -> bool
     let rows = files.as_slice();
     for row in rows {
         size += row.path().len() + 42;
-        if size > MOST_ROWS {
+        if size > ROWS_LIMIT {
             return false;
         }
     }
@@ -44,7 +35,7 @@ fn text_fits(alloc: Global, commit: &Commit) -> Result<bool, NoMemory>
 {
     let mut text = Vec::new(alloc);
     commit.write_into(&mut text)?;
-    Ok(text.len() <= MOST_TEXT)
+    Ok(text.len() <= COMMIT_LIMIT)
 }
 
 /// Whether each object of a commit that was made and the rows of its tree are within their limits. No tree is looked at: an entry takes at
@@ -67,7 +58,7 @@ fn body_fits(known: &Known, h: &HgDraft, row: &HgRow) -> bool
     if is_stored(known, h, row) {
         return true;
     }
-    body_of(known, h, row).len() <= MOST_BYTES
+    body_of(known, h, row).len() <= TEXT_LIMIT
 }
 
 /// Whether the body of each file revision of a changeset is within the limit of a text.

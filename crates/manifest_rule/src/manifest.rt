@@ -9,16 +9,13 @@ ghost use Rattle.mark_code.specs.Values.{manifest_value};
 ghost use Rattle.manifest_rule.specs.Listed.{entry_of_value};
 ghost use Rattle.manifest_rule.specs.Over.{AreRowsOver, IsMadeManifest};
 
-use bridge_text::{Bytes, Id, NoMemory, node_id};
+use bridge_text::{Bytes, Id, NoMemory, TEXT_LIMIT, node_id};
 use file_rule::{Parent, parents_over};
 use hg_manifest::{Entry, Manifest, line_len, put_line};
 use hg_store::HgStore;
 use mark_code::ManifestRev;
 use pair_known::{HgRow, HgRows, manifest_of_node};
 use std::alloc::Global;
-
-/// The most bytes of a text.
-const MOST_BYTES: usize = 1 << 26;
 
 /// The manifest of a changeset, and its node.
 #[derive(Drop)]
@@ -136,7 +133,7 @@ fn lines_of(alloc: Global, rows: &HgRows) -> Result<Bytes, NoMemory>
 pub fn lines_fit(rows: &HgRows) -> bool
     ensures { IsTrue result ↔ length (manifest_text (map entry_of_value rows.now)) ≤ text_limit }
 {
-    let mut room = MOST_BYTES;
+    let mut room = TEXT_LIMIT;
     let rows = rows.as_slice();
     for row in rows {
         match room_behind(room, row) {

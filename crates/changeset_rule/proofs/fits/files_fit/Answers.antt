@@ -14,14 +14,14 @@ file-at : (fresh : List Revision) (list : List FreshFile) (i : ℕ) (file : Fres
 file-at fresh list i file same below is =
     ap (λ (l : List Revision). slice_get l i) (sym same) ∙ get-map fresh_revision list i file (slice_get-get_or list i file below ∙ ap Some (sym is))
 
-pub returns-then-len-gt-MOST_BYTES : goal.returns-then-len-gt-MOST_BYTES
-returns-then-len-gt-MOST_BYTES c =
+pub returns-then-len-gt-TEXT_LIMIT : goal.returns-then-len-gt-TEXT_LIMIT
+returns-then-len-gt-TEXT_LIMIT c =
     let at = file-at c.args.fresh.now c.as_slice-file-items.result.now c.loop-file.file-index c.file-item.result c.as_slice-file-items.ensures c.loop-file-test.true c.file-item.is in (
       (λ e. absurd (true≢false (sym e))),
-      (λ all. absurd (omega (arith, each_get IsShort c.args.fresh.now c.loop-file.file-index (fresh_revision c.file-item.result) at all, c.len.ensures, c.if-len-gt-MOST_BYTES.true))),
+      (λ all. absurd (omega (arith, each_get IsShort c.args.fresh.now c.loop-file.file-index (fresh_revision c.file-item.result) at all, c.len.ensures, c.if-len-gt-TEXT_LIMIT.true))),
     )
 
 pub loop-file-preserved : goal.loop-file-preserved
 loop-file-preserved c =
     let at = file-at c.args.fresh.now c.as_slice-file-items.result.now c.loop-file.file-index c.file-item.result c.as_slice-file-items.ensures c.loop-file-test.true c.file-item.is in
-    each-more c.args.fresh.now c.loop-file.file-index (fresh_revision c.file-item.result) at (omega (arith, c.len.ensures, c.if-len-gt-MOST_BYTES.false)) c.loop-file.invariant
+    each-more c.args.fresh.now c.loop-file.file-index (fresh_revision c.file-item.result) at (omega (arith, c.len.ensures, c.if-len-gt-TEXT_LIMIT.false)) c.loop-file.invariant
