@@ -1,3 +1,2 @@
 mod CountLemmas
-mod FormatLemmas
 pub mod PullLemmas

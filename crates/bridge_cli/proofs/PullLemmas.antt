@@ -10,27 +10,20 @@ use Rattle.history_model.specs.Pull as model
 use Rattle.history_model.specs.Pull.{is_saved, empty_state, PullHgMakes, PullHgRefuses, PullGitMakes, PullGitRefuses}
 use Rattle.history_model.specs.Command.{PullHg, PullGit}
 use Rattle.pair_state.specs.declared.state.State.{State}
-use Rattle.pair_state.specs.Blocks.{IsStateOf}
 use Rattle.pull_outcome.specs.declared.pulled.Pulled.{Pulled}
 use Rattle.pull_outcome.specs.declared.refused.PullFault.{PullFault}
 use Rattle.pull_outcome.specs.declared.refused.PullFault.TheVariants as pull
 use Rattle.bridge_text.specs.Refusals.{fault_name, refusal_value}
-use Rattle.pull_outcome.specs.AllBlocks.{HasAllBlocks, state_value}
+use Rattle.pair_state.specs.AllBlocks.{HasAllBlocks, state_value}
 use Rattle.pull_outcome.specs.Pulls.{PulledHg, PulledGit, RefusesHg, RefusesGit}
 use Rattle.bridge_cli.specs.Report.{pull_report}
 use Rattle.bridge_cli.specs.Makes.{IsEndOf}
 
 -- a state without pairs, revisions and objects
 pub record IsEmpty (s : State) : Type 0 where
-  pub state : IsStateOf s []
+  pub state : HasAllBlocks s []
   pub revisions : s.known.hg ≡ []
   pub objects : s.known.git ≡ []
-
-tight : (s : State) → IsEmpty s → HasAllBlocks s []
-tight s is = record {
-  state = is.state;
-  saved = subst (λ (rs : List Revision). Each (λ (r : Revision). r.group ≡ Changesets → IsTrue (is_saved [] r.node)) rs) (sym is.revisions) tt;
-}
 
 value : (s : State) → IsEmpty s → state_value s [] ≡ empty_state
 value s is = λ i. record { revisions = is.revisions i; objects = is.objects i; blocks = [] }
@@ -39,24 +32,24 @@ pub hg-makes : (input : Option Bytes) (s : State) (pulled : Pulled) (output : By
     → IfSome input (λ bytes. PullHgMakes empty_state bytes output)
 hg-makes None s pulled output e is told = tt
 hg-makes (Some bytes) s pulled output e is told =
-    subst (λ (o : Bytes). PullHgMakes empty_state bytes o) (sym e) (subst (λ (m : model.State). PullHgMakes m bytes pulled.made) (value s is) (told [] (tight s is)).makes)
+    subst (λ (o : Bytes). PullHgMakes empty_state bytes o) (sym e) (subst (λ (m : model.State). PullHgMakes m bytes pulled.made) (value s is) (told [] is.state).makes)
 
 pub git-makes : (input : Option Bytes) (s : State) (pulled : Pulled) (output : Bytes) → output ≡ pulled.made → IsEmpty s → IfSome input (λ bytes. (blocks : List Block) → HasAllBlocks s blocks → PulledGit s blocks bytes pulled)
     → IfSome input (λ bytes. PullGitMakes empty_state bytes output)
 git-makes None s pulled output e is told = tt
 git-makes (Some bytes) s pulled output e is told =
-    subst (λ (o : Bytes). PullGitMakes empty_state bytes o) (sym e) (subst (λ (m : model.State). PullGitMakes m bytes pulled.made) (value s is) (told [] (tight s is)).makes)
+    subst (λ (o : Bytes). PullGitMakes empty_state bytes o) (sym e) (subst (λ (m : model.State). PullGitMakes m bytes pulled.made) (value s is) (told [] is.state).makes)
 
 pub hg-refuses : (input : Option Bytes) (s : State) (e : PullFault) → IsEmpty s → IfSome input (λ bytes. (blocks : List Block) → HasAllBlocks s blocks → RefusesHg s blocks bytes e)
     → IsEndOf PullHg input (pull_report e)
 hg-refuses None s (pull.Refused why) is told = tt
-hg-refuses (Some bytes) s (pull.Refused why) is told = subst (λ (m : model.State). PullHgRefuses m bytes (refusal_value why)) (value s is) (told [] (tight s is))
+hg-refuses (Some bytes) s (pull.Refused why) is told = subst (λ (m : model.State). PullHgRefuses m bytes (refusal_value why)) (value s is) (told [] is.state)
 hg-refuses input s pull.Read is told = tt
 hg-refuses input s pull.Memory is told = tt
 
 pub git-refuses : (input : Option Bytes) (s : State) (e : PullFault) → IsEmpty s → IfSome input (λ bytes. (blocks : List Block) → HasAllBlocks s blocks → RefusesGit s blocks bytes e)
     → IsEndOf PullGit input (pull_report e)
 git-refuses None s (pull.Refused why) is told = tt
-git-refuses (Some bytes) s (pull.Refused why) is told = subst (λ (m : model.State). PullGitRefuses m bytes (refusal_value why)) (value s is) (told [] (tight s is))
+git-refuses (Some bytes) s (pull.Refused why) is told = subst (λ (m : model.State). PullGitRefuses m bytes (refusal_value why)) (value s is) (told [] is.state)
 git-refuses input s pull.Read is told = tt
 git-refuses input s pull.Memory is told = tt

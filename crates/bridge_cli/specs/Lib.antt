@@ -1,6 +1,5 @@
 pub mod Counts
 pub mod Ends
-pub mod Format
 pub mod Makes
 pub mod Outside
 pub mod Report

@@ -3,7 +3,6 @@
 
 mod command;
 mod counts;
-mod law;
 mod line;
 mod output;
 mod report;
@@ -11,6 +10,5 @@ mod status;
 mod words;
 
 pub use command::run;
-pub use law::outcomes_of_streams;
 pub use status::Status;
 pub use words::Words;

@@ -2,7 +2,7 @@
 -- what is written are this project's own rule.
 use Rattle.std.specs.Prelude.{◌≡◌, ◌≢◌, ◌⊎◌, ℕ, ◌<◌, Bool, true, false, not, ◌&&◌, ◌||◌, if◌then◌else◌, List, [], ◌∷◌, ◌++◌, length, map, filter, Option, Some, None, is_some, Ok, Err, IsTrue, IsSomeAnd, bytes_eq}
 use Rattle.std.specs.List.{list_any, find}
-use Rattle.text_model.specs.Lists.{SomeOf}
+use Rattle.text_model.specs.Lists.{Each, SomeOf}
 use Rattle.text_model.specs.Text.{Bytes}
 use Rattle.text_model.specs.Id.{Id, null, is_null, commit, same_kind}
 use Rattle.text_model.specs.Fault.{FaultName, Refusal, refusal}
@@ -19,7 +19,7 @@ use Rattle.git_model.specs.Unfold.{walk_fault}
 use Rattle.view_model.specs.View.{ChangesetView, CommitView, changeset_node, commit_id, commit_objects, paths_of, has_clash, ChangesetFits, CommitFits}
 use Rattle.view_model.specs.Held.{IsChangesetHeld, IsCommitHeld}
 use Rattle.view_model.specs.Dump.{revisions_of, revisions_in, objects_in, hg_increment, git_increment}
-use Rattle.pair_model.specs.Block.{Block, id_of, block_of_node, block_of_id, view_at, changesets_in, commits_in}
+use Rattle.pair_model.specs.Block.{Block, id_of, block_of_node, block_of_id, view_at, changesets_in, commits_in, not_null}
 use Rattle.pair_model.specs.Rule.{rule_commit}
 use Rattle.pair_model.specs.Octopus.{is_link_view}
 use Rattle.pair_model.specs.Collision.{commit_collides, changeset_collides}
@@ -71,38 +71,45 @@ pub record LacksFile (known : List Revision) (r : Revision) : Type 0 where
   pub lines : IsManifestText manifest.text entries
   pub unknown : SomeOf entries (λ e. knows known (FilesAt e.path) e.node ≡ false)
 
+abbrev pub is_saved : List Block → Id → Bool
+is_saved blocks node = is_some (block_of_node blocks node)
+
+-- no parent is a link: each stands in a block as its changeset
+abbrev pub AreParentsSaved : List Block → ChangesetView → Type 0
+AreParentsSaved blocks h = Each (λ p. IsTrue (is_saved blocks p)) (not_null (h.p ∷ h.q ∷ []))
+
 -- why a changeset with all its files is refused
 abbrev pub ViewRefused : List Object → List Block → ChangesetView → FaultName → Type 0
 ViewRefused objects blocks h =
     Unless (IsTrue (has_clash (paths_of h.rows))) fault.PathClash
     (Unless (IsTrue (is_link_view h)) fault.NotPlain
+    (Unless (¬ (AreParentsSaved blocks h)) fault.NotPlain
     (Unless (¬ (CommitFits (rule_commit blocks h))) fault.PairLimit
     (Unless (¬ (IsPlainChangeset blocks h)) fault.NotPlain
-    (Unless (IsTrue (commit_collides objects blocks (rule_commit blocks h))) fault.Collision Nothing))))
+    (Unless (IsTrue (commit_collides objects blocks (rule_commit blocks h))) fault.Collision Nothing)))))
 
 -- a changeset with all its files that isn't refused
 pub record ViewPasses (objects : List Object) (blocks : List Block) (h : ChangesetView) : Type 0 where
   pub no_clash : has_clash (paths_of h.rows) ≡ false
+  pub parents : AreParentsSaved blocks h
   pub fits : CommitFits (rule_commit blocks h)
   pub plain : IsPlainChangeset blocks h
   pub apart : commit_collides objects blocks (rule_commit blocks h) ≡ false
 
--- why a known changeset is refused
-abbrev pub ChangesetRefused : List Revision → List Object → List Block → Revision → FaultName → Type 0
-ChangesetRefused known objects blocks r =
-    Unless (LacksManifest known r) fault.ManifestUnknown
+-- why the changeset with this node is refused, which is known
+abbrev pub ChangesetRefused : List Revision → List Object → List Block → Id → FaultName → Type 0
+ChangesetRefused known objects blocks node found =
+    (r : Revision) × (revision_of known Changesets node ≡ Some r)
+    × Unless (LacksManifest known r) fault.ManifestUnknown
     (Unless (LacksFile known r) fault.FileUnknown
-    (λ found. (h : ChangesetView) × IsChangesetHeld known r.node h × ViewRefused objects blocks h found))
+    (λ found. (h : ChangesetView) × IsChangesetHeld known node h × ViewRefused objects blocks h found)) found
 
--- the block of a known changeset that isn't refused
-pub record GivesBlock (known : List Revision) (objects : List Object) (blocks : List Block) (r : Revision) (b : Block) : Type 0 where
+-- the block of the changeset with this node, which is known and isn't refused
+pub record GivesBlock (known : List Revision) (objects : List Object) (blocks : List Block) (node : Id) (b : Block) : Type 0 where
   pub view : ChangesetView
-  pub is_held : IsChangesetHeld known r.node view
+  pub is_held : IsChangesetHeld known node view
   pub passes : ViewPasses objects blocks view
   pub block : b ≡ block_of_changeset blocks view
-
-abbrev pub is_saved : List Block → Id → Bool
-is_saved blocks node = is_some (block_of_node blocks node)
 
 -- The blocks that changesets bring, one behind another. One that stands in a block brings none.
 unfoldable pub BringBlocks : List Revision → List Object → List Block → List Revision → List Block → Type 0
@@ -110,7 +117,7 @@ BringBlocks known objects blocks [] new = new ≡ []
 BringBlocks known objects blocks (r ∷ rs) new =
     (IsTrue (is_saved blocks r.node) × BringBlocks known objects blocks rs new)
     ⊎ ((is_saved blocks r.node ≡ false)
-    × (b : Block) × (rest : List Block) × (new ≡ b ∷ rest) × GivesBlock known objects blocks r b
+    × (b : Block) × (rest : List Block) × (new ≡ b ∷ rest) × GivesBlock known objects blocks r.node b
     × BringBlocks known (objects ++ commit_objects b.commit) (blocks ++ b ∷ []) rs rest)
 
 abbrev pub is_changesets : Group → Bool
@@ -134,7 +141,7 @@ pub record IsChangesetRefusal (known : List Revision) (s : State) (came : List A
   pub brings : BringBlocks known s.objects s.blocks (revisions_among before) new
   pub is_new : is_saved (s.blocks ++ new) (refused.revision).node ≡ false
   pub name : FaultName
-  pub fault : ChangesetRefused known (s.objects ++ objects_in (commits_in new)) (s.blocks ++ new) refused.revision name
+  pub fault : ChangesetRefused known (s.objects ++ objects_in (commits_in new)) (s.blocks ++ new) (refused.revision).node name
   pub is : why ≡ refusal name (refused.revision).node refused.at
 
 -- a manifest or a file revision that is new, and to which no changeset refers

@@ -19,10 +19,11 @@ use Rattle.partner_model.specs.Clash.{is_any_saved}
 use Rattle.pair_known.specs.Blocks.{AreBlocksHeld, IsHistoryHeld}
 use Rattle.pair_known.specs.Partners.{git_at, hg_at, ArePartners}
 use Rattle.pair_known.specs.declared.known.Known.{Known}
+use Rattle.git_store.specs.Known.{AreKnown}
 use Rattle.hg_store.specs.Known.{AreAdded}
 use Rattle.pair_state.specs.Blocks.{BlockValue, value_of, block_value, IsAgreed, IsStateOf}
 use Rattle.pair_state.specs.Step.{IsPushed}
-use Rattle.pair_state.specs.declared.state.State.{State}
+use Rattle.pair_state.specs.declared.state_parts.StateParts.{StateParts}
 
 -- ---- partners
 
@@ -116,9 +117,10 @@ pub record HoldMore (hg : List Revision) (git : List Object) (blocks : List Bloc
   pub walks : Each (λ b. walk_fault git ((b.commit).value).tree_id ≡ None) blocks
   pub walk : walk_fault git ((b.commit).value).tree_id ≡ None
   pub no_link : is_link_view b.changeset ≡ false
+  pub sound : AreKnown git
 
 -- the lists of the state with one block more
-pub record HasMore (old next : State) (b : Block) : Type 0 where
+pub record HasMore (old next : StateParts) (b : Block) : Type 0 where
   pub partners : next.known.partners ≡ old.known.partners ++ (node_of b, id_of b) ∷ []
   pub blocks : map value_of next.blocks ≡ map value_of old.blocks ++ block_value b ∷ []
   pub changesets : next.changesets ≡ old.changesets ++ map changeset_node (parts_of b)
@@ -128,7 +130,7 @@ pub record HasMore (old next : State) (b : Block) : Type 0 where
   pub agreed : (node : Id) → IsTrue (has_id next.agreed node) → IsAgreed next.known.hg next.known.git node
 
 -- what was put behind the others is a block
-pub has-more : (old next : State) (b : Block) (links : List Id) (node id : Id) → IsPushed old next links node id → links ≡ map changeset_node b.links → node ≡ node_of b → id ≡ id_of b
+pub has-more : (old next : StateParts) (b : Block) (links : List Id) (node id : Id) → IsPushed old next links node id → links ≡ map changeset_node b.links → node ≡ node_of b → id ≡ id_of b
     → (next_agreed : (node : Id) → IsTrue (has_id next.agreed node) → IsAgreed next.known.hg next.known.git node) → HasMore old next b
 has-more old next b links node id by links_are node_is id_is agreed = record {
   partners = by.partners ∙ (λ i. old.known.partners ++ (node_is i, id_is i) ∷ []);
@@ -140,7 +142,7 @@ has-more old next b links node id by links_are node_is id_is agreed = record {
   agreed = agreed;
 }
 
-module _ (old next : State) (blocks : List Block) (b : Block) (of : IsStateOf old blocks) (more : HoldMore next.known.hg next.known.git blocks b) (has : HasMore old next b) where
+module _ (old next : StateParts) (blocks : List Block) (b : Block) (of : IsStateOf old blocks) (more : HoldMore next.known.hg next.known.git blocks b) (has : HasMore old next b) where
   blocks-more : AreBlocksHeld next.known (blocks ++ b ∷ [])
   blocks-more = record {
     changesets = subst (λ (vs : List ChangesetView). AreChangesetsHeld next.known.hg (map changeset_node vs) vs) (sym (changesets-push blocks b))
@@ -155,9 +157,20 @@ module _ (old next : State) (blocks : List Block) (b : Block) (of : IsStateOf ol
   pub state-more : IsStateOf next (blocks ++ b ∷ [])
   state-more = record {
     held = record { held = blocks-more; no_links = Each-push (λ (b : Block). is_link_view b.changeset ≡ false) blocks b of.held.no_links more.no_link; added = has.added; partners = has.one };
+    sound = more.sound;
     blocks_are = has.blocks ∙ ap (λ (l : List BlockValue). l ++ block_value b ∷ []) of.blocks_are ∙ sym (map-push block_value blocks b);
     changesets = has.changesets ∙ ap (λ (l : List Id). l ++ map changeset_node (parts_of b)) of.changesets
         ∙ sym (map-append changeset_node (changesets_in blocks) (parts_of b)) ∙ ap (map changeset_node) (sym (changesets-push blocks b));
     commits = has.commits ∙ ap (λ (l : List Id). l ++ id_of b ∷ []) of.commits ∙ sym (map-push id_of blocks b);
     agreed = has.agreed;
   }
+
+-- the nodes of the state's changesets, with those of one more block
+pub nodes-more : (s next : StateParts) (blocks : List Block) (b : Block) → IsStateOf s blocks → IsStateOf next (blocks ++ b ∷ []) → next.changesets ≡ s.changesets ++ map changeset_node (parts_of b)
+nodes-more s next blocks b of state =
+    state.changesets ∙ ap (map changeset_node) (changesets-push blocks b) ∙ map-append changeset_node (changesets_in blocks) (parts_of b)
+    ∙ ap (λ (l : List Id). l ++ map changeset_node (parts_of b)) (sym of.changesets)
+
+-- the nodes of the changesets of blocks and of others behind them
+pub nodes-append : (blocks new : List Block) → map changeset_node (changesets_in (blocks ++ new)) ≡ map changeset_node (changesets_in blocks) ++ map changeset_node (changesets_in new)
+nodes-append blocks new = ap (map changeset_node) (flat_map-append parts_of blocks new) ∙ map-append changeset_node (changesets_in blocks) (changesets_in new)

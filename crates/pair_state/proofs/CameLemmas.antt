@@ -12,7 +12,7 @@ use Rattle.hg_store.proofs.KnownLemmas.{addition-text}
 use Rattle.view_model.specs.View.{Row, rows_text}
 use Rattle.pair_known.specs.Rows.{row_value}
 use Rattle.pair_state.specs.Came.{is_bad, IsReady, AreClean, HaveCome, HasBad, IsWithinHg}
-use Rattle.pair_state.specs.Push.{known_with_all}
+use Rattle.history_model.specs.Pull.{all_known}
 use Rattle.pair_state.specs.Step.{line_of}
 use Rattle.pair_state.proofs.GrowthLemmas.{in-any, any-in}
 use Rattle.tree_shape.proofs.Elements.{in-left, in-right, in-append}
@@ -72,7 +72,7 @@ within-after known r group node x e = by (knows known r.group r.node)
     by true = e
     by false = find-front known (r ∷ []) group node x e
 
-pub within-all : (known rs : List Revision) → IsWithinHg known (known_with_all known rs)
+pub within-all : (known rs : List Revision) → IsWithinHg known (all_known known rs)
 within-all known [] group node x e = e
 within-all known (r ∷ rs) group node x e = within-all (known_after known r) rs group node x (within-after known r group node x e)
 
@@ -91,17 +91,17 @@ come-none known = record { are = refl; clean = tt }
 pub come-one : (old new : List Revision) (r : Revision) → new ≡ known_after old r → is_bad old r ≡ false → HaveCome old new (r ∷ [])
 come-one old new r are clean = record { are = are; clean = (clean, tt) }
 
-all-append : (known rs more : List Revision) → known_with_all known (rs ++ more) ≡ known_with_all (known_with_all known rs) more
+all-append : (known rs more : List Revision) → all_known known (rs ++ more) ≡ all_known (all_known known rs) more
 all-append known [] more = refl
 all-append known (r ∷ rs) more = all-append (known_after known r) rs more
 
-clean-append : (known rs more : List Revision) → AreClean known rs → AreClean (known_with_all known rs) more → AreClean known (rs ++ more)
+clean-append : (known rs more : List Revision) → AreClean known rs → AreClean (all_known known rs) more → AreClean known (rs ++ more)
 clean-append known [] more c d = d
 clean-append known (r ∷ rs) more c d = (c.0, clean-append (known_after known r) rs more c.1 d)
 
 pub come-more : (a b c rs more : List Revision) → HaveCome a b rs → HaveCome b c more → HaveCome a c (rs ++ more)
 come-more a b c rs more h k = record {
-  are = k.are ∙ ap (λ (l : List Revision). known_with_all l more) h.are ∙ sym (all-append a rs more);
+  are = k.are ∙ ap (λ (l : List Revision). all_known l more) h.are ∙ sym (all-append a rs more);
   clean = clean-append a rs more h.clean (subst (λ (l : List Revision). AreClean l more) h.are k.clean);
 }
 
@@ -112,7 +112,7 @@ after-in known r x = by (knows known r.group r.node)
     by true i = in-left x known (r ∷ []) i
     by false i = i
 
-pub all-in : (known rs : List Revision) (x : Revision) → In x (known_with_all known rs) → In x (known ++ rs)
+pub all-in : (known rs : List Revision) (x : Revision) → In x (all_known known rs) → In x (known ++ rs)
 all-in known [] x i = in-left x known [] i
 all-in known (r ∷ rs) x i = subst (λ (l : List Revision). In x l) (append_assoc known (r ∷ []) rs) (by (in-append x (known_after known r) rs (all-in (known_after known r) rs x i)))
   where

@@ -18,7 +18,7 @@ use Rattle.view_model.specs.View.{Row, ChangesetView, IsRevision, AreManifestPar
 use Rattle.view_model.specs.Held.{IsFileHeld, IsManifestHeld, IsChangesetHeld, AreChangesetsHeld}
 use Rattle.view_model.specs.Dump.{own_revision, manifest_revision, file_revision, revisions_of}
 use Rattle.pair_state.specs.Came.{is_bad, AreClean, IsWithinHg}
-use Rattle.pair_state.specs.Push.{known_with_all}
+use Rattle.history_model.specs.Pull.{all_known}
 use Rattle.pair_state.proofs.CameLemmas.{within-all}
 use Rattle.pair_state.proofs.GrowthLemmas.{none-any}
 use Rattle.pair_state.proofs.ManifestLemmas.{rows-manifest}
@@ -111,7 +111,7 @@ came-as known r clean = by (revision_of known r.group r.node) refl
         subst (λ (l : List Revision). CameAs l r) (sym (ap (λ (o : Option Revision). if is_some o then known else known ++ r ∷ []) e))
         (record { found = x; at = e; like = not-false (alike r x) (sym (ap (λ (t : Bool). t && not (alike r x)) of.1) ∙ none) })
 
-pub all-as : (known rs : List Revision) → AreClean known rs → Each (CameAs (known_with_all known rs)) rs
+pub all-as : (known rs : List Revision) → AreClean known rs → Each (CameAs (all_known known rs)) rs
 all-as known [] clean = tt
 all-as known (r ∷ rs) clean =
     let c = came-as known r clean.0 in

@@ -8,14 +8,14 @@ pub mod MadeCommit
 pub mod PushCommit
 pub mod CameLemmas
 pub mod FileLemmas
-pub mod IdLemmas
 pub mod ManifestLemmas
 pub mod OwnLemmas
 pub mod ChangesetHeld
 pub mod SlotLemmas
 pub mod KeptLemmas
 pub mod ParentManifest
-pub mod LineLemmas
 pub mod PartLemmas
 pub mod PushChangeset
 pub mod PushBlock
+pub mod AllBlocks
+pub mod PushState

@@ -28,7 +28,7 @@ use Rattle.pair_known.specs.Ruled.{IsMadeCommit, blob_of_row}
 use Rattle.pair_known.specs.declared.git_draft.GitDraft.{GitDraft}
 use Rattle.pair_state.specs.Blocks.{body_blob}
 use Rattle.pair_state.specs.Growth.{IsRight, HasGrown, Clash}
-use Rattle.pair_state.specs.declared.state.State.{State}
+use Rattle.pair_state.specs.declared.state_parts.StateParts.{StateParts}
 use Rattle.pair_state.proofs.CommitParts.{own, are-files, no-clash, own-in, among, blob-of, tree-of, HoldsAll, known-part, clash-collides, blob-id, all-of}
 use Rattle.pair_state.proofs.GrowthLemmas.{found-in, none-any}
 use Rattle.pair_state.proofs.ShapeLemmas.{in-map}
@@ -92,7 +92,7 @@ same-blobs (x ∷ xs) (t ∷ ts) same ids =
     (λ i. record { id = (ap blob_id same.1 ∙ sym (ids t (inl refl))) i; kind = blob; content = same.1 i } ∷ same-blobs xs ts same.2 (λ u j. ids u (inr j)) i)
 
 -- the state with these objects and these agreed changesets
-abbrev pub with_objects : State → List Object → List Id → State
+abbrev pub with_objects : StateParts → List Object → List Id → StateParts
 with_objects s git ids = record {
   known = record { hg = s.known.hg; git = git; partners = s.known.partners };
   blocks = s.blocks;

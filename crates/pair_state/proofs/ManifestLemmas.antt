@@ -16,7 +16,10 @@ use Rattle.pair_known.specs.Ruled.{IsLooseView, HasManifestParents}
 use Rattle.pair_known.specs.declared.hg_draft.HgDraft.{HgDraft}
 use Rattle.pair_state.specs.Came.{IsReady, IsAskedOver}
 use Rattle.pair_state.proofs.FileLemmas.{parent-within}
-use Rattle.pair_state.proofs.IdLemmas.{IsId-node_id}
+use Rattle.std.specs.List.{flat_map}
+use Rattle.pair_state.specs.Step.{line_of}
+use Rattle.pair_state.proofs.CameLemmas.{lines-are}
+use Rattle.text_model.proofs.Digests.{IsId-node_id}
 
 -- the lines of a changeset's files are those of a manifest
 pub rows-manifest : (k : ChangesetView) → IsLooseView k → IsManifest (map entry_of_row k.rows)
@@ -31,6 +34,10 @@ rows-manifest k view = (each k.rows view.rows, ap (rises is_below) (paths k.rows
     paths (row ∷ rows) = ap (λ l. row.path ∷ l) (paths rows)
 
 module _ (base now : List Revision) (d : HgDraft) (link : Id) (k : ChangesetView) (a : IsAskedOver base now d link k) where
+  -- its lines
+  pub made-lines : flat_map line_of d.rows ≡ rows_text k.rows
+  made-lines = ap (flat_map line_of) a.part.made.draft.rows ∙ lines-are k.rows
+
   -- no manifest
   pub no-manifest : d.manifest ≡ rev.Null → manifest_revision k k.manifest ≡ []
   no-manifest e = ap (manifest_revision k) (a.part.made.draft.manifest ∙ ap manifest_value e)

@@ -1,6 +1,6 @@
 -- The changesets of a block come to a store, one after the other.
-use Rattle.std.proofs.Common.{◌≡◌, ◌+◌, ◌<◌, ◌||◌, ◌++◌, get_or, ℕ, zero, suc, arith, Bool, true, false, true≢false, List, [], ◌∷◌, length, map, take, drop, Some, refl, sym, ap, subst, ◌∙◌, inl, inr, append-nil}
-use Rattle.std.specs.Prelude.{is_some, slice_get, IsTrue}
+use Rattle.std.proofs.Common.{◌≡◌, ◌+◌, ◌<◌, ◌||◌, ◌++◌, get_or, ℕ, zero, suc, arith, Bool, true, false, true≢false, List, [], ◌∷◌, length, map, take, drop, Option, Some, None, refl, sym, ap, subst, ◌∙◌, inl, inr, append-nil}
+use Rattle.std.specs.Prelude.{is_some, slice_get, IfSome, IsTrue}
 use Rattle.std.proofs.lemmas.List.Concat.{flat_map-append}
 use Rattle.std.proofs.lemmas.List.Folds.{list_any-append}
 use Rattle.std.proofs.lemmas.Option.{slice_get-get_or}
@@ -14,15 +14,25 @@ use Rattle.hg_model.specs.Revision.{Revision, Changesets, knows, is_known_parent
 use Rattle.view_model.specs.View.{ChangesetView, changeset_node}
 use Rattle.view_model.specs.Dump.{own_revision, manifest_revision, file_revision, revisions_of, revisions_in}
 use Rattle.pair_model.specs.Block.{Block, block_of_node}
+use Rattle.pair_known.specs.declared.draft_texts.DraftTexts.{DraftTexts}
 use Rattle.pair_known.specs.declared.hg_draft.HgDraft.{HgDraft}
+use Rattle.pair_state.specs.Step.{AreItsTexts}
 use Rattle.pair_known.specs.declared.hg_block.HgBlock.{HgBlock}
-use Rattle.pair_state.specs.Push.{IsPart, AreLinkParts, AreLinked, known_with_all}
+use Rattle.history_model.specs.Pull.{all_known}
+use Rattle.pair_state.specs.Push.{IsPart, AreLinkParts, AreLinked}
 use Rattle.pair_state.specs.Came.{HaveCome, HasBad, IsWithinHg, IsAsked, IsPartOver, ArePartsOf, PartsCame, PartsCollide, is_any_among}
 use Rattle.pair_state.proofs.CameLemmas.{come-none, come-more, bad-front, bad-rest, within-all, within-knows}
 use Rattle.pair_state.proofs.ChangesetHeld.{or-parts}
 use Rattle.pair_state.proofs.OwnLemmas.{knows-after}
 
 -- ---- one changeset
+
+pub no-text : (o : Option Bytes) (P : Bytes → Type 0) → o ≡ None → IfSome o P
+no-text None P e = tt
+no-text (Some text) P e = cc
+
+pub no-texts : (d : HgDraft) (texts : DraftTexts) → texts.changeset ≡ None → texts.manifest ≡ None → AreItsTexts d texts
+no-texts d texts none none' = record { changeset = no-text texts.changeset _ none; manifest = no-text texts.manifest _ none' }
 
 module _ (base now : List Revision) (d : HgDraft) (k : ChangesetView) (a : IsPartOver base now d k) (text : Bytes) (node : Id)
     (text_is : text ≡ changeset_text (changeset_value d.changeset)) (node_is : node ≡ node_id d.p1 d.p2 text) where
@@ -85,7 +95,7 @@ module _ (now new : List Revision) (saved : List Id) (h : ChangesetView) (p : Pa
   own-known =
       let rest : List Revision = manifest_revision h h.manifest ++ map (file_revision (changeset_node h)) h.rows in
       ap (λ (l : List Revision). knows l Changesets (changeset_node h)) come.are
-      ∙ within-knows (known_after now (own_revision h)) (known_with_all (known_after now (own_revision h)) rest) (within-all (known_after now (own_revision h)) rest) Changesets (changeset_node h)
+      ∙ within-knows (known_after now (own_revision h)) (all_known (known_after now (own_revision h)) rest) (within-all (known_after now (own_revision h)) rest) Changesets (changeset_node h)
       (knows-after now (own_revision h) ((bytes_eq-Decides (changeset_node h) (changeset_node h)).1 refl))
 
   not-null : changeset_node h ≡ null → ⊥

@@ -22,7 +22,7 @@ use Rattle.pair_state.specs.Came.{PartsCame, PartsCollide}
 use Rattle.pair_state.specs.Growth.{HasGrown, Clash}
 use Rattle.pair_state.specs.Push.{HaveSame, PushesBlock, BlockPushed, block_collides, bodies_collide}
 use Rattle.pair_state.specs.Step.{AreAsked, IsElse, HaveBlobs, IsPushed}
-use Rattle.pair_state.specs.declared.state.State.{State}
+use Rattle.pair_state.specs.declared.state_parts.StateParts.{StateParts}
 use Rattle.pair_state.proofs.BlockLemmas.{HoldMore, HasMore, has-more, parts_of, state-more}
 use Rattle.pair_state.proofs.CommitParts.{none-all, none-else, all-of, new-held, new-walk, new-apart, HoldsAll}
 use Rattle.pair_state.proofs.GrowthLemmas.{in-any}
@@ -32,7 +32,7 @@ use Rattle.pair_state.proofs.PushChangeset.{collides, none-collides, agreed-on, 
 use Rattle.git_view.proofs.WalkGrowth.{commits-on}
 
 -- the state with these revisions, objects and agreed changesets
-abbrev pub with_all : State → List Revision → List Object → List Id → State
+abbrev pub with_all : StateParts → List Revision → List Object → List Id → StateParts
 with_all s hg git ids = record {
   known = record { hg = hg; git = git; partners = s.known.partners };
   blocks = s.blocks;
@@ -54,7 +54,7 @@ pub known-of : (agreed : Bool) (git : List Object) (stored : Bool) (id other : I
 known-of agreed git stored id other same is (inl e) = inl e
 known-of agreed git stored id other same is (inr e) = inr (ap (knows_object git) (sym same) ∙ sym is ∙ e)
 
-module _ (s : State) (h : HgBlock) (d : GitDraft) (blocks : List Block) (b : Block) (p : PushesBlock s h d blocks b) where
+module _ (s : StateParts) (h : HgBlock) (d : GitDraft) (blocks : List Block) (b : Block) (p : PushesBlock s h d blocks b) where
   abbrev c : CommitView
   c = b.commit
 
@@ -140,7 +140,7 @@ module _ (s : State) (h : HgBlock) (d : GitDraft) (blocks : List Block) (b : Blo
 
       pub pushed : block_of_id blocks (commit_id c) ≡ None → (links : List Id) → links ≡ map changeset_node b.links → (node : Id) → node ≡ changeset_node b.changeset → (id : Id) → id ≡ commit_id c
           → (ids : List Id) → ((x : Id) → has_id ids x ≡ true → (has_id s.agreed x ≡ true) ⊎ ((agreed ≡ true) × (x ≡ node)))
-          → (next : State) → IsPushed (with_all s hg new ids) next links node id → BlockPushed s next blocks b
+          → (next : StateParts) → IsPushed (with_all s hg new ids) next links node id → BlockPushed s next blocks b
       pushed free links links_are node node_is id id_is ids known next is =
           let held = p.brings.state.held.held in
           let more : HoldMore hg new blocks b = record {
@@ -151,6 +151,7 @@ module _ (s : State) (h : HgBlock) (d : GitDraft) (blocks : List Block) (b : Blo
             walks = new-walks s.known.git new grown.kept before blocks held.walks;
             walk = new-walk c (view s.known.git d c p.made) new are holds p.within;
             no_link = p.brings.no_link;
+            sound = are;
           } in
           let m = has-more (with_all s hg new ids) next b links node id is links_are node_is id_is (λ x i.
           subst (λ (os : List Object). IsAgreed next.known.hg os x) (sym is.git) (subst (λ (rs : List Revision). IsAgreed rs new x) (sym is.hg)

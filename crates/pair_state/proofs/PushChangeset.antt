@@ -1,38 +1,44 @@
 -- A commit's changesets come to the store.
-use Rattle.std.proofs.Common.{◌≡◌, ◌≤◌, ◌||◌, Bool, true, false, true≢false, arith, List, [], ◌∷◌, ◌++◌, length, map, Some, None, refl, sym, ap, subst, ◌∙◌, inl, inr}
-use Rattle.std.specs.Prelude.{bytes_eq, is_some, if◌then◌else◌, IsTrue}
-use Rattle.std.specs.List.{list_any}
+use Rattle.std.proofs.Common.{◌≡◌, ◌≤◌, ◌||◌, Bool, true, false, true≢false, arith, List, [], ◌∷◌, ◌++◌, length, map, Option, Some, None, refl, sym, ap, subst, ◌∙◌, inl, inr}
+use Rattle.std.specs.Prelude.{bytes_eq, is_some, if◌then◌else◌, IfSome, IsTrue}
+use Rattle.std.specs.List.{flat_map, list_any}
 use Rattle.std.proofs.lemmas.List.{length-map}
 use Rattle.std.proofs.lemmas.Slice.Eq.{bytes_eq-Decides}
 use Rattle.text_model.specs.Lists.{Each}
+use Rattle.text_model.specs.Text.{Bytes}
 use Rattle.text_model.specs.Id.{Id, is_null, has_id}
+use Rattle.hg_model.specs.Changeset.{changeset_text}
+use Rattle.hg_changeset.specs.Values.{changeset_value}
 use Rattle.text_model.proofs.EachLemmas.{Each-front, Each-rest}
 use Rattle.text_model.proofs.TestLemmas.{or_true}
 use Rattle.hg_model.specs.Revision.{Revision, Changesets, knows, is_otherwise}
 use Rattle.git_model.specs.Object.{Object}
 use Rattle.git_model.specs.Unfold.{walk_fault}
-use Rattle.view_model.specs.View.{ChangesetView, changeset_node, commit_id}
+use Rattle.view_model.specs.View.{ChangesetView, changeset_node, commit_id, rows_text}
 use Rattle.view_model.specs.Held.{IsCommitHeld, IsChangesetHeld, AreChangesetsHeld}
 use Rattle.view_model.specs.Dump.{revisions_of, revisions_in}
 use Rattle.pair_model.specs.Block.{Block, node_of, block_of_node, changesets_in}
 use Rattle.partner_model.specs.Clash.{changeset_side_collides, is_any_saved}
 use Rattle.pair_known.specs.Partners.{git_at}
 use Rattle.pair_known.specs.Ruled.{IsLooseView}
+use Rattle.pair_known.specs.declared.draft_texts.DraftTexts.{DraftTexts}
 use Rattle.pair_known.specs.declared.hg_draft.HgDraft.{HgDraft}
+use Rattle.pair_known.specs.Drafts.{IsHgDraft}
 use Rattle.pair_known.specs.declared.hg_block.HgBlock.{HgBlock}
 use Rattle.pair_state.specs.Blocks.{IsAgreed}
 use Rattle.pair_state.specs.Came.{IsWithinHg, ArePartsOf, PartsCame, PartsCollide, is_any_among}
-use Rattle.pair_state.specs.Push.{AreLinkParts, BringsParts, ChangesetPushed}
-use Rattle.pair_state.specs.Step.{IsPushed}
-use Rattle.pair_state.specs.declared.state.State.{State}
+use Rattle.pair_state.proofs.PartLemmas.{no-text}
+use Rattle.pair_state.specs.Push.{IsPart, AreLinkParts, BringsParts, ChangesetPushed}
+use Rattle.pair_state.specs.Step.{AreItsTexts, IsPushed, line_of}
+use Rattle.pair_state.specs.declared.state_parts.StateParts.{StateParts}
 use Rattle.pair_state.proofs.BlockLemmas.{HoldMore, HasMore, has-more, has-view, parts_of, state-more, git-some, none-is}
-use Rattle.pair_state.proofs.CameLemmas.{within-all}
+use Rattle.pair_state.proofs.CameLemmas.{lines-are, within-all}
 use Rattle.pair_state.proofs.ChangesetHeld.{CameAs, all-as, changeset-on, changesets-on, new-changeset, or-parts}
 use Rattle.pair_state.proofs.GrowthLemmas.{in-any}
 use Rattle.pair_state.proofs.SlotLemmas.{none-bad}
 
 -- a block of a node has its changeset among those of the blocks
-block-saved : (blocks : List Block) (node : Id) → is_some (block_of_node blocks node) ≡ true → has_id (map changeset_node (changesets_in blocks)) node ≡ true
+pub block-saved : (blocks : List Block) (node : Id) → is_some (block_of_node blocks node) ≡ true → has_id (map changeset_node (changesets_in blocks)) node ≡ true
 block-saved [] node h = absurd (true≢false (sym h))
 block-saved (b ∷ blocks) node h = by (bytes_eq (node_of b) node) refl h (block-saved blocks node)
   where
@@ -86,19 +92,78 @@ link-views known [] (l ∷ ls) h a v = absurd a
 link-views known (d ∷ ds) [] h a v = absurd a
 link-views known (d ∷ ds) (l ∷ ls) h a v = (a.0.made.view, link-views known ds ls h a.2 v)
 
-module _ (s : State) (d : HgBlock) (blocks : List Block) (b : Block) (p : BringsParts s d blocks b) where
+-- ---- texts that were made already
+
+-- the draft with other texts
+abbrev pub bare-draft : HgDraft → DraftTexts → HgDraft
+bare-draft d texts = record { p1 = d.p1; p2 = d.p2; changeset = d.changeset; manifest = d.manifest; rows = d.rows; fresh = d.fresh; texts = texts }
+
+bare-part : (known : List Revision) (d : HgDraft) (h : ChangesetView) → IsPart known d h → (texts : DraftTexts) → texts.changeset ≡ None → texts.manifest ≡ None → IsPart known (bare-draft d texts) h
+bare-part known d h p texts none none' =
+    let draft = p.made.draft in
+    record {
+      made = record {
+        draft = record {
+          parents = draft.parents;
+          fields = draft.fields;
+          manifest = draft.manifest;
+          rows = draft.rows;
+          files = draft.files;
+          texts = record { changeset = no-text texts.changeset _ none; manifest = no-text texts.manifest _ none' };
+        };
+        of_rows = p.made.of_rows;
+        are_new = p.made.are_new;
+        view = p.made.view;
+      };
+      file_parents = p.file_parents;
+      manifest_parents = p.manifest_parents;
+      fits = p.fits;
+    }
+
+same-text : (o : Option Bytes) (a b : Bytes) → a ≡ b → IfSome o (λ text. text ≡ a) → IfSome o (λ text. text ≡ b)
+same-text None a b e h = tt
+same-text (Some text) a b e h = h ∙ e
+
+made-texts : (known : List Revision) (d : HgDraft) (h : ChangesetView) → IsHgDraft known d h → AreItsTexts d d.texts
+made-texts known d h draft = record {
+  changeset = same-text (d.texts).changeset (changeset_text h.fields) (changeset_text (changeset_value d.changeset)) (ap changeset_text draft.fields) draft.texts.changeset;
+  manifest = same-text (d.texts).manifest (rows_text h.rows) (flat_map line_of d.rows) (sym (ap (flat_map line_of) draft.rows ∙ lines-are h.rows)) draft.texts.manifest;
+}
+
+module _ (s : StateParts) (d : HgBlock) (blocks : List Block) (b : Block) (p : BringsParts s d blocks b) where
   abbrev hs : List ChangesetView
   hs = parts_of b
 
-  pub parts : ArePartsOf s.known.hg s.changesets d blocks b.links b.changeset
-  parts = record {
+  -- the block without the texts that were made for its changeset
+  abbrev pub bare : DraftTexts → HgBlock
+  bare texts = record { links = d.links; last = bare-draft d.last texts }
+
+  -- a changeset of a block is known
+  known-parents : (q : Id) → IsTrue (is_some (block_of_node blocks q)) → (has_id s.changesets q ≡ true) × (knows s.known.hg Changesets q ≡ true)
+  known-parents q some =
+      let there = block-saved blocks q some in
+      (ap (λ (ns : List Id). has_id ns q) p.state.changesets ∙ there, saved-known s.known.hg (changesets_in blocks) q (p.state.held.held).changesets there)
+
+  pub parts : (texts none : DraftTexts) → texts ≡ none → none.changeset ≡ None → none.manifest ≡ None → ArePartsOf s.known.hg s.changesets (bare texts) blocks b.links b.changeset
+  parts texts none is no_changeset no_manifest = record {
+    links = p.links;
+    last = bare-part s.known.hg d.last b.changeset p.last texts (ap (λ (t : DraftTexts). t.changeset) is ∙ no_changeset) (ap (λ (t : DraftTexts). t.manifest) is ∙ no_manifest);
+    linked = p.parents;
+    stands = known-parents;
+  }
+
+  pub whole-parts : ArePartsOf s.known.hg s.changesets d blocks b.links b.changeset
+  whole-parts = record {
     links = p.links;
     last = p.last;
     linked = p.parents;
-    stands = λ q some.
-        let there = block-saved blocks q some in
-        (ap (λ (ns : List Id). has_id ns q) p.state.changesets ∙ there, saved-known s.known.hg (changesets_in blocks) q (p.state.held.held).changesets there);
+    stands = known-parents;
   }
+
+  pub its-texts : (texts : DraftTexts) → AreItsTexts (bare texts).last (d.last).texts
+  its-texts texts =
+      let made = made-texts s.known.hg d.last b.changeset p.last.made.draft in
+      record { changeset = made.changeset; manifest = made.manifest }
 
   -- ---- collisions
 
@@ -116,7 +181,7 @@ module _ (s : State) (d : HgBlock) (blocks : List Block) (b : Block) (p : Brings
   -- ---- all came
 
   -- the state with these revisions
-  abbrev pub with_revisions : List Revision → State
+  abbrev pub with_revisions : List Revision → StateParts
   with_revisions hg = record {
     known = record { hg = hg; git = s.known.git; partners = s.known.partners };
     blocks = s.blocks;
@@ -166,7 +231,7 @@ module _ (s : State) (d : HgBlock) (blocks : List Block) (b : Block) (p : Brings
     -- the block of a commit that is stored
     pub pushed : (id : Id) → IsCommitHeld s.known.git id b.commit → walk_fault s.known.git ((b.commit).value).tree_id ≡ None → commit_id b.commit ≡ id
         → (links : List Id) → links ≡ map changeset_node b.links → (node : Id) → node ≡ changeset_node b.changeset
-        → (next : State) → IsPushed (with_revisions new) next links node id → ChangesetPushed s next blocks b
+        → (next : StateParts) → IsPushed (with_revisions new) next links node id → ChangesetPushed s next blocks b
     pushed id commit_held walk id_is links links_are node node_is next is =
         let held = p.state.held.held in
         let more : HoldMore new s.known.git blocks b = record {
@@ -177,6 +242,7 @@ module _ (s : State) (d : HgBlock) (blocks : List Block) (b : Block) (p : Brings
           walks = held.walks;
           walk = walk;
           no_link = p.no_link;
+          sound = p.state.sound;
         } in
         let m = has-more (with_revisions new) next b links node id is links_are node_is (sym id_is) (λ x i.
         subst (λ (os : List Object). IsAgreed next.known.hg os x) (sym is.git) (subst (λ (rs : List Revision). IsAgreed rs s.known.git x) (sym is.hg)

@@ -22,14 +22,14 @@ use Rattle.pair_state.specs.Blocks.{body_blob, IsAgreed}
 use Rattle.pair_state.specs.Growth.{HasGrown, Clash}
 use Rattle.pair_state.specs.Push.{HaveSame, PushesCommit, CommitPushed}
 use Rattle.pair_state.specs.Step.{AreAsked, IsElse, IsPushed}
-use Rattle.pair_state.specs.declared.state.State.{State}
+use Rattle.pair_state.specs.declared.state_parts.StateParts.{StateParts}
 use Rattle.pair_state.proofs.BlockLemmas.{HoldMore, HasMore, has-more, held-append, any-saved, state-more}
 use Rattle.pair_state.proofs.CommitParts.{own, blob-of, HoldsAll, new-walk, new-held, new-apart, clash-collides, of-map, all-of}
 use Rattle.pair_state.proofs.KeptLemmas.{blobs-on}
 use Rattle.pair_state.proofs.MadeCommit.{some-body, each-of_map, each-to_map, same-blobs, with_objects, file-id, parts-clash, among-all, knows-new, all, all-among, old-walks, new-walks}
 use Rattle.git_view.proofs.WalkGrowth.{commits-on}
 
-module _ (s : State) (h : HgDraft) (links : List Id) (d : GitDraft) (node : Id) (blocks : List Block) (b : Block) (p : PushesCommit s h links d node blocks b) where
+module _ (s : StateParts) (h : HgDraft) (links : List Id) (d : GitDraft) (node : Id) (blocks : List Block) (b : Block) (p : PushesCommit s h links d node blocks b) where
   abbrev c : CommitView
   c = b.commit
 
@@ -96,7 +96,7 @@ module _ (s : State) (h : HgDraft) (links : List Id) (d : GitDraft) (node : Id) 
       holds = all s.known.git d c p.ruled.made new grown before are blobs
 
       -- the agreed changesets and this one
-      agreed-more : (next : State) → next.known.hg ≡ s.known.hg → next.known.git ≡ new → (x : Id) → (has_id s.agreed x ≡ true) ⊎ (x ≡ node) → IsAgreed next.known.hg next.known.git x
+      agreed-more : (next : StateParts) → next.known.hg ≡ s.known.hg → next.known.git ≡ new → (x : Id) → (has_id s.agreed x ≡ true) ⊎ (x ≡ node) → IsAgreed next.known.hg next.known.git x
       agreed-more next hg git x known =
           subst (λ (os : List Object). IsAgreed next.known.hg os x) (sym git) (subst (λ (rs : List Revision). IsAgreed rs new x) (sym hg) (by known))
         where
@@ -106,7 +106,7 @@ module _ (s : State) (h : HgDraft) (links : List Id) (d : GitDraft) (node : Id) 
 
       pub pushed : changeset_node v ≡ node → block_of_id blocks (commit_id c) ≡ None → list_any (has_id s.changesets) links ≡ false → (id : Id) → id ≡ commit_id c
           → (ids : List Id) → ((x : Id) → has_id ids x ≡ true → (has_id s.agreed x ≡ true) ⊎ (x ≡ node))
-          → (next : State) → IsPushed (with_objects s new ids) next links node id → CommitPushed s next blocks b
+          → (next : StateParts) → IsPushed (with_objects s new ids) next links node id → CommitPushed s next blocks b
       pushed node_is free apart id id_is ids agreed next is =
           let held = p.state.held.held in
           let more : HoldMore s.known.hg new blocks b = record {
@@ -118,6 +118,7 @@ module _ (s : State) (h : HgDraft) (links : List Id) (d : GitDraft) (node : Id) 
             walks = new-walks s.known.git new grown.kept before blocks held.walks;
             walk = new-walk c view new are holds p.ruled.fits.rows;
             no_link = p.no_link;
+            sound = are;
           } in
           let m = has-more (with_objects s new ids) next b links node id is p.links_are (sym node_is) id_is (λ x i. agreed-more next is.hg is.git x (agreed x (sym (ap (λ (l : List Id). has_id l x) is.agreed) ∙ i))) in
           let has : HasMore s next b = record { partners = m.partners; blocks = m.blocks; changesets = m.changesets; commits = m.commits; added = m.added; one = m.one; agreed = m.agreed } in

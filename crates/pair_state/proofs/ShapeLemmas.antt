@@ -6,7 +6,7 @@ use Rattle.std.proofs.lemmas.Slice.Eq.{bytes_eq-Decides}
 use Rattle.text_model.specs.Lists.{In, first_of_each, with_inserted, in_order}
 use Rattle.text_model.specs.Text.{Bytes}
 use Rattle.text_model.specs.Id.{Id, blob, tree, object_id}
-use Rattle.git_model.specs.Tree.{Mode, File, Exec, Link, Directory, is_directory, is_blob_mode, TreeEntry, tree_text, is_entry_below, GroupFile, Gitlink}
+use Rattle.git_model.specs.Tree.{Mode, Directory, is_directory, is_blob_mode, TreeEntry, tree_text, is_entry_below}
 use Rattle.git_model.specs.Object.{Object, object_of}
 use Rattle.git_model.specs.Shape.{Leaf, first_name_of, first_names, cut_name, leaves_below, is_named, leaf_named, leaf_object, shape_entries, shape_objects}
 use Rattle.text_model.proofs.Options.{none_some, some_is}
@@ -14,6 +14,7 @@ use Rattle.git_view.proofs.Shapes.{filled, below-filled, entries-filled}
 use Rattle.tree_shape.specs.Shapes.{entry_of, is_tree, trees_below}
 use Rattle.tree_shape.proofs.Elements.{in-left, in-right, in-append, in-flat, of-flat, in-filter}
 use Rattle.tree_shape.proofs.Leaves.{same}
+use Rattle.tree_shape.proofs.VisitLemmas.{no-dir}
 
 abbrev pub leaf_blob : Leaf → Object
 leaf_blob leaf = record { id = leaf.id; kind = blob; content = leaf.content }
@@ -229,14 +230,6 @@ is-named name [] h = absurd (true≢false (sym h))
 is-named name (first ∷ []) h = ap (λ (n : Bytes). n ∷ []) ((bytes_eq-Decides first name).0 h)
 is-named name (first ∷ next ∷ names) h = absurd (true≢false (sym h))
 
-no-directory : (m : Mode) → is_blob_mode m ≡ true → is_directory m ≡ false
-no-directory File h = refl
-no-directory GroupFile h = refl
-no-directory Exec h = refl
-no-directory Link h = refl
-no-directory Directory h = absurd (true≢false (sym h))
-no-directory Gitlink h = refl
-
 below-apart : (name : Bytes) (leaves : List Leaf) → Apart leaves → Apart (leaves_below name leaves)
 below-apart name leaves apart a b i j more e =
     let x = of-filter_map (λ (leaf : Leaf). cut_name name leaf leaf.names) leaves a i in
@@ -318,7 +311,7 @@ blob-in depth leaves leaf apart i some short file =
         → (is_blob_mode l.mode ≡ true) × (record { id = l.id; kind = blob; content = l.content } ≡ leaf_blob leaf) → leaf_named name leaves ≡ Some l → 0 ≤ depth
         → In (leaf_blob leaf) (trees_below depth leaves (record { mode = l.mode; name = name; id = l.id }))
     base depth leaves l name apart i e file at d =
-        subst (λ (t : Bool). In (leaf_blob leaf) (if t then shape_objects depth (leaves_below name leaves) else leaf_object (leaf_named name leaves))) (sym (no-directory l.mode file.0))
+        subst (λ (t : Bool). In (leaf_blob leaf) (if t then shape_objects depth (leaves_below name leaves) else leaf_object (leaf_named name leaves))) (sym (no-dir l.mode file.0))
         (subst (λ (o : Option Leaf). In (leaf_blob leaf) (leaf_object o)) (sym at)
         (subst (λ (t : Bool). In (leaf_blob leaf) (if t then leaf_blob l ∷ [] else [])) (sym file.0) (inl (sym file.1))))
 

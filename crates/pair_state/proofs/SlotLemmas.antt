@@ -10,7 +10,7 @@ use Rattle.hg_model.proofs.RevisionLemmas.{same_group-is}
 use Rattle.hg_model.specs.Revision.{Revision, Group, Changesets, Manifests, FilesAt, same_group, same_revision, same_parents, revision_of, knows, known_after, is_otherwise}
 use Rattle.tree_shape.proofs.Elements.{in-left, in-append, each-in}
 use Rattle.pair_state.specs.Came.{AreClean}
-use Rattle.pair_state.specs.Push.{known_with_all}
+use Rattle.history_model.specs.Pull.{all_known}
 use Rattle.pair_state.proofs.ChangesetHeld.{CameAs, all-as, either-way, or-parts}
 use Rattle.pair_state.proofs.CommitParts.{none-all}
 use Rattle.pair_state.proofs.GrowthLemmas.{none-any}
@@ -45,20 +45,20 @@ parents-like Manifests p q x y u v a b = pair-is p q x y (pair-like p q x y u v 
 parents-like (FilesAt path) p q x y u v a b = pair-is p q x y (pair-like p q x y u v (either-way p q u v a) (either-way x y u v b))
 
 module _ (known rs : List Revision) (clean : AreClean known rs) where
-  came : (r : Revision) → In r rs → CameAs (known_with_all known rs) r
-  came r i = each-in (CameAs (known_with_all known rs)) rs r (all-as known rs clean) i
+  came : (r : Revision) → In r rs → CameAs (all_known known rs) r
+  came r i = each-in (CameAs (all_known known rs)) rs r (all-as known rs clean) i
 
   none-other : (r x : Revision) → In r rs → In x rs → is_otherwise r x ≡ false
   none-other r x i j = by (same_revision r x) refl
     where
-      a : CameAs (known_with_all known rs) r
+      a : CameAs (all_known known rs) r
       a = came r i
 
-      b : CameAs (known_with_all known rs) x
+      b : CameAs (all_known known rs) x
       b = came x j
 
       found : r.group ≡ x.group → r.node ≡ x.node → a.found ≡ b.found
-      found g n = some_is (sym a.at ∙ (λ i. revision_of (known_with_all known rs) (g i) (n i)) ∙ b.at)
+      found g n = some_is (sym a.at ∙ (λ i. revision_of (all_known known rs) (g i) (n i)) ∙ b.at)
         where
           some_is : {y z : Revision} → Some y ≡ Some z → y ≡ z
           some_is e = cc

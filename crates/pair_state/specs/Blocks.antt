@@ -4,6 +4,7 @@ use Rattle.text_model.specs.Lists.{Each}
 use Rattle.text_model.specs.Id.{Id, has_id}
 use Rattle.hg_model.specs.Revision.{Revision}
 use Rattle.git_model.specs.Object.{Object}
+use Rattle.git_store.specs.Known.{AreKnown}
 use Rattle.tree_shape.specs.Laws.{IsKnown}
 use Rattle.view_model.specs.View.{ChangesetView, Row, changeset_node}
 use Rattle.view_model.specs.Held.{IsChangesetHeld}
@@ -13,7 +14,7 @@ use Rattle.pair_model.specs.Rule.{tree_row_of}
 use Rattle.pair_known.specs.Blocks.{IsHistoryHeld}
 use Rattle.pair_known.specs.Ruled.{blob_of_row}
 use Rattle.pair_state.specs.declared.blocks.Block.{Block}
-use Rattle.pair_state.specs.declared.state.State.{State}
+use Rattle.pair_state.specs.declared.state_parts.StateParts.{StateParts}
 
 -- a pair, with the number of its links
 pub record BlockValue : Type 0 where
@@ -41,9 +42,11 @@ pub record IsAgreed (hg : List Revision) (git : List Object) (node : Id) : Type 
   pub held : IsChangesetHeld hg node view
   pub blobs : HasBlobs git view
 
--- The members of the blocks are stored, and these are their ids in order. Each agreed changeset has bodies that are stored blobs.
-pub record IsStateOf (s : State) (blocks : List model.Block) : Type 0 where
+-- The members of the blocks are stored, and these are their ids in order. The objects are sound, and each agreed changeset has bodies that are
+-- stored blobs.
+pub record IsStateOf (s : StateParts) (blocks : List model.Block) : Type 0 where
   pub held : IsHistoryHeld s.known blocks
+  pub sound : AreKnown s.known.git
   pub blocks_are : map value_of s.blocks ≡ map block_value blocks
   pub changesets : s.changesets ≡ map changeset_node (changesets_in blocks)
   pub commits : s.commits ≡ map id_of blocks

@@ -16,7 +16,8 @@ use Rattle.pair_model.specs.Block.{Block, block_of_node}
 use Rattle.pair_known.specs.Ruled.{HasFileParents}
 use Rattle.pair_known.specs.declared.hg_block.HgBlock.{HgBlock}
 use Rattle.pair_known.specs.declared.hg_draft.HgDraft.{HgDraft}
-use Rattle.pair_state.specs.Push.{known_with_all, HasParents, IsPart, AreLinkParts, AreLinked}
+use Rattle.history_model.specs.Pull.{all_known}
+use Rattle.pair_state.specs.Push.{HasParents, IsPart, AreLinkParts, AreLinked}
 
 -- the node is null, or known with another text or other parents
 abbrev pub is_bad : List Revision → Revision → Bool
@@ -35,7 +36,7 @@ AreClean known (r ∷ rs) = (is_bad known r ≡ false) × AreClean (known_after 
 
 -- the revisions came, and none was bad
 pub record HaveCome (old new rs : List Revision) : Type 0 where
-  pub are : new ≡ known_with_all old rs
+  pub are : new ≡ all_known old rs
   pub clean : AreClean old rs
 
 -- one of the revisions is bad, over the store or the others

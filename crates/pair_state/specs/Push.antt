@@ -5,7 +5,7 @@ use Rattle.text_model.specs.Lists.{In, Each}
 use Rattle.text_model.specs.Id.{Id, null}
 use Rattle.hg_model.specs.Changeset.{changeset_text}
 use Rattle.hg_model.specs.FileText.{file_text}
-use Rattle.hg_model.specs.Revision.{Revision, Changesets, known_after, is_known_parent}
+use Rattle.hg_model.specs.Revision.{Revision, Changesets, is_known_parent}
 use Rattle.git_model.specs.Object.{Object, knows_object, is_other_content}
 use Rattle.git_model.specs.Unfold.{walk_fault, rows_limit}
 use Rattle.tree_shape.specs.Laws.{IsKnown}
@@ -15,23 +15,19 @@ use Rattle.view_model.specs.Dump.{revisions_in}
 use Rattle.pair_model.specs.Block.{Block, id_of, block_of_node, block_of_id}
 use Rattle.pair_model.specs.Collision.{commit_collides}
 use Rattle.pair_model.specs.Octopus.{is_link_view}
+use Rattle.history_model.specs.Pull.{all_known}
 use Rattle.partner_model.specs.Clash.{commit_side_collides, changeset_side_collides}
 use Rattle.pair_known.specs.declared.hg_draft.HgDraft.{HgDraft}
 use Rattle.pair_known.specs.declared.hg_block.HgBlock.{HgBlock}
 use Rattle.pair_known.specs.declared.git_draft.GitDraft.{GitDraft}
 use Rattle.pair_known.specs.Drafts.{IsHgDraft}
 use Rattle.pair_known.specs.Ruled.{IsMadeCommit, IsRuledCommit, blob_of_row, IsMadeChangeset, HasFileParents, HasManifestParents}
-use Rattle.pair_state.specs.declared.state.State.{State}
+use Rattle.pair_state.specs.declared.state_parts.StateParts.{StateParts}
 use Rattle.pair_state.specs.Blocks.{IsStateOf, body_blob}
 
 -- both lists have the same elements
 abbrev pub HaveSame : {X : Type 0} → List X → List X → Type 0
 HaveSame {X} xs ys = ((x : X) → In x xs → In x ys) × ((x : X) → In x ys → In x xs)
-
--- the known revisions after all these, one after the other
-abbrev pub known_with_all : List Revision → List Revision → List Revision
-known_with_all known [] = known
-known_with_all known (r ∷ rs) = known_with_all (known_after known r) rs
 
 -- a commit of at most 64 parents has at most 62 links
 abbrev pub HasFewLinks : Block → Type 0
@@ -40,7 +36,7 @@ HasFewLinks b = length b.links ≤ 62
 -- ---- the commit of a changeset
 
 -- a changeset that is stored and in no block, with the stored links and the commit of its block, which has its bodies
-pub record PushesCommit (s : State) (h : HgDraft) (links : List Id) (d : GitDraft) (node : Id) (blocks : List Block) (b : Block) : Type 0 where
+pub record PushesCommit (s : StateParts) (h : HgDraft) (links : List Id) (d : GitDraft) (node : Id) (blocks : List Block) (b : Block) : Type 0 where
   pub state : IsStateOf s blocks
   pub draft : IsHgDraft s.known.hg h b.changeset
   pub held : IsChangesetHeld s.known.hg node b.changeset
@@ -53,7 +49,7 @@ pub record PushesCommit (s : State) (h : HgDraft) (links : List Id) (d : GitDraf
   pub bodies : HasBodiesOf (b.changeset).rows (b.commit).rows
 
 -- the block came behind the others
-pub record CommitPushed (s next : State) (blocks : List Block) (b : Block) : Type 0 where
+pub record CommitPushed (s next : StateParts) (blocks : List Block) (b : Block) : Type 0 where
   pub apart : commit_side_collides s.known.git blocks b ≡ false
   pub state : IsStateOf next (blocks ++ b ∷ [])
   pub tags : next.tags ≡ s.tags
@@ -100,7 +96,7 @@ AreLinkParts known (d ∷ ds) (l ∷ ls) = IsPart known d l × (d.fresh ≡ []) 
 AreLinkParts known _ _ = ⊥
 
 -- the drafts stand for the changesets of a block over a state
-pub record BringsParts (s : State) (h : HgBlock) (blocks : List Block) (b : Block) : Type 0 where
+pub record BringsParts (s : StateParts) (h : HgBlock) (blocks : List Block) (b : Block) : Type 0 where
   pub state : IsStateOf s blocks
   pub links : AreLinkParts s.known.hg h.links b.links
   pub last : IsPart s.known.hg h.last b.changeset
@@ -109,19 +105,19 @@ pub record BringsParts (s : State) (h : HgBlock) (blocks : List Block) (b : Bloc
   pub no_link : is_link_view b.changeset ≡ false
 
 -- a commit that is stored and in no block, with the changesets of its block
-pub record PushesChangeset (s : State) (h : HgBlock) (id : Id) (blocks : List Block) (b : Block) : Type 0 where
+pub record PushesChangeset (s : StateParts) (h : HgBlock) (id : Id) (blocks : List Block) (b : Block) : Type 0 where
   pub brings : BringsParts s h blocks b
   pub held : IsCommitHeld s.known.git id b.commit
   pub walks : walk_fault s.known.git ((b.commit).value).tree_id ≡ None
   pub free : block_of_id blocks id ≡ None
 
 -- the block came behind the others
-pub record ChangesetPushed (s next : State) (blocks : List Block) (b : Block) : Type 0 where
+pub record ChangesetPushed (s next : StateParts) (blocks : List Block) (b : Block) : Type 0 where
   pub apart : changeset_side_collides s.known.hg blocks b ≡ false
   pub state : IsStateOf next (blocks ++ b ∷ [])
   pub tags : next.tags ≡ s.tags
   pub names : next.names ≡ s.names
-  pub revisions : next.known.hg ≡ known_with_all s.known.hg (revisions_in (b.links ++ b.changeset ∷ []))
+  pub revisions : next.known.hg ≡ all_known s.known.hg (revisions_in (b.links ++ b.changeset ∷ []))
   pub objects : next.known.git ≡ s.known.git
 
 -- ---- both sides
@@ -131,7 +127,7 @@ abbrev pub AreContents : List Object → List Row → List TreeRow → Type 0
 AreContents known files rows = Each (λ t. IsKnown known (blob_of_row t) ⊎ In (blob_of_row t) (map body_blob files)) (files_among rows)
 
 -- A block, either side of which may be stored already. A commit that is stored has the contents that are stored.
-pub record PushesBlock (s : State) (h : HgBlock) (d : GitDraft) (blocks : List Block) (b : Block) : Type 0 where
+pub record PushesBlock (s : StateParts) (h : HgBlock) (d : GitDraft) (blocks : List Block) (b : Block) : Type 0 where
   pub brings : BringsParts s h blocks b
   pub made : IsMadeCommit s.known.git d b.commit
   pub within : rows_size b.commit ≤ rows_limit
@@ -149,10 +145,10 @@ block_collides revisions objects blocks b =
     changeset_side_collides revisions blocks b || (commit_collides objects blocks b.commit || (not (knows_object objects (id_of b)) && bodies_collide objects b))
 
 -- the block came behind the others
-pub record BlockPushed (s next : State) (blocks : List Block) (b : Block) : Type 0 where
+pub record BlockPushed (s next : StateParts) (blocks : List Block) (b : Block) : Type 0 where
   pub apart : block_collides s.known.hg s.known.git blocks b ≡ false
   pub state : IsStateOf next (blocks ++ b ∷ [])
   pub tags : next.tags ≡ s.tags
   pub names : next.names ≡ s.names
-  pub revisions : next.known.hg ≡ known_with_all s.known.hg (revisions_in (b.links ++ b.changeset ∷ []))
+  pub revisions : next.known.hg ≡ all_known s.known.hg (revisions_in (b.links ++ b.changeset ∷ []))
   pub objects : HaveSame next.known.git (s.known.git ++ commit_objects b.commit)

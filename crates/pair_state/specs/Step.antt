@@ -1,5 +1,6 @@
 -- One pair more, and files whose bodies are asked of a store.
-use Rattle.std.specs.Prelude.{◌≡◌, true, List, length, ◌++◌, ◌∷◌, [], map, Some, IsTrue}
+use Rattle.std.specs.Prelude.{◌≡◌, true, List, length, ◌++◌, ◌∷◌, [], map, Some, IfSome, IsTrue}
+use Rattle.std.specs.List.{flat_map}
 use Rattle.text_model.specs.Lists.{Each, In}
 use Rattle.text_model.specs.Id.{Id, has_id}
 use Rattle.text_model.specs.Text.{Bytes}
@@ -9,13 +10,17 @@ use Rattle.git_model.specs.Object.{Object, object_at, knows_object, is_other_con
 use Rattle.view_model.specs.View.{Row, ChangesetView, entry_of_row}
 use Rattle.view_model.specs.Held.{IsFileHeld, IsChangesetHeld}
 use Rattle.pair_known.specs.Rows.{RowValue, row_value}
+use Rattle.hg_model.specs.Changeset.{changeset_text}
+use Rattle.hg_changeset.specs.Values.{changeset_value}
 use Rattle.hg_store.specs.Known.{AreAdded}
+use Rattle.pair_known.specs.declared.draft_texts.DraftTexts.{DraftTexts}
+use Rattle.pair_known.specs.declared.hg_draft.HgDraft.{HgDraft}
 use Rattle.pair_known.specs.Partners.{ArePartners}
 use Rattle.pair_state.specs.Blocks.{value_of, body_blob}
-use Rattle.pair_state.specs.declared.state.State.{State}
+use Rattle.pair_state.specs.declared.state_parts.StateParts.{StateParts}
 
 -- the links, the changeset and the commit stand behind the others, and all else is as it was
-pub record IsPushed (old new : State) (links : List Id) (node id : Id) : Type 0 where
+pub record IsPushed (old new : StateParts) (links : List Id) (node id : Id) : Type 0 where
   pub hg : new.known.hg ≡ old.known.hg
   pub git : new.known.git ≡ old.known.git
   pub partners : new.known.partners ≡ old.known.partners ++ (node, id) ∷ []
@@ -41,6 +46,11 @@ IsElse git o = (other : Object) × In other git × (is_other_content o other ≡
 -- the line of a file in a manifest
 abbrev pub line_of : RowValue → Bytes
 line_of v = entry_text (record { path = v.path; node = v.node; flag = v.flag })
+
+-- the texts are those of the draft's changeset and of its manifest, where they were made
+pub record AreItsTexts (d : HgDraft) (t : DraftTexts) : Type 0 where
+  pub changeset : IfSome t.changeset (λ text. text ≡ changeset_text (changeset_value d.changeset))
+  pub manifest : IfSome t.manifest (λ text. text ≡ flat_map line_of d.rows)
 
 -- each line is that of a file whose revision is known and whose body is a blob of the store
 abbrev pub AreBlobs : List Revision → List Object → List ManifestEntry → Type 0

@@ -13,9 +13,11 @@ mod parts;
 mod push;
 mod revisions;
 mod state;
+mod state_parts;
 
 pub use blocks::{Block, Blocks};
 pub use fault::PushFault;
 pub use names::{NameRow, Names};
 pub use node_list::NodeList;
 pub use state::State;
+pub use state_parts::StateParts;

@@ -5,7 +5,7 @@ ghost use Rattle.text_model.specs.Id.{object_id};
 ghost use Rattle.text_model.specs.Lists.{Each};
 ghost use Rattle.bridge_text.specs.Kinds.{object_kind};
 ghost use Rattle.git_model.specs.Object.{content_fault};
-ghost use Rattle.git_store.specs.Known.{object_with};
+ghost use Rattle.git_store.specs.Known.{AreKnown, object_with};
 ghost use Rattle.pair_state.specs.Growth.{IsRight, HasGrown, Clash};
 ghost use Rattle.pair_state.specs.declared.fault.PushFault.TheVariants.{Collision};
 
@@ -20,9 +20,9 @@ pub fn add_object(git: &mut GitStore, id: Id, kind: Kind, content: Vec<u8>) -> R
     requires its_id { object_id (object_kind kind) content.items ≡ id }
     requires fits { content_fault (object_kind kind) content.items ≡ None }
     ensures ok { OnOk result (HasGrown git.old git.new (object_with id kind content.items ∷ [])) }
+    ensures sound { OnOk result (AreKnown git.new) }
     ensures collision { result ≡ Err Collision → Clash git.old (object_with id kind content.items ∷ []) }
 {
-    git.check();
     match git.add(id, kind, content) {
         Ok(_) => Ok(()),
         Err(GitAddFault::Collision) => Err(PushFault::Collision),

@@ -1,20 +1,21 @@
 // The changesets of a block that come to a store.
-ghost use Rattle.std.specs.Prelude.{◌≡◌, ◌++◌, ◌∷◌, [], true, false, Err, IfOk, List, map};
+ghost use Rattle.std.specs.Prelude.{◌≡◌, ◌++◌, ◌∷◌, [], true, false, Err, IfOk, IfSome, List, map};
 ghost use Rattle.hg_model.specs.Changeset.{changeset_text};
 ghost use Rattle.hg_model.specs.Revision.{Revision};
 ghost use Rattle.hg_changeset.specs.Values.{changeset_value};
 ghost use Rattle.view_model.specs.View.{ChangesetView, changeset_node};
 ghost use Rattle.pair_model.specs.Block.{Block};
 ghost use Rattle.pair_state.specs.Came.{IsPartOver, ArePartsOf, PartsCame, PartsCollide};
+ghost use Rattle.pair_state.specs.Step.{AreItsTexts};
 ghost use Rattle.pair_state.specs.declared.fault.PushFault.TheVariants.{Collision};
 
 use crate::fault::PushFault;
 use crate::node_list::NodeList;
 use crate::revisions::add_changeset;
-use bridge_text::{Id, IdList, NoMemory, node_id};
+use bridge_text::{Bytes, Id, IdList, NoMemory, node_id};
 use hg_changeset::Changeset;
 use hg_store::HgStore;
-use pair_known::{HgBlock, HgDraft};
+use pair_known::{DraftTexts, HgBlock, HgDraft};
 use std::alloc::Global;
 
 /// The nodes of a block's changesets.
@@ -26,14 +27,16 @@ pub struct PartNodes {
     pub last: Id,
 }
 
-// Adds the revisions of the changesets of a block, none of which is saved.
+// Adds the revisions of the changesets of a block, none of which is saved. The texts were made for the last of them.
 pub fn add_parts(
     alloc: Global,
     hg: &mut HgStore,
     saved: &NodeList,
     block: &HgBlock,
+    texts: DraftTexts,
 ) -> Result<PartNodes, PushFault>
     requires parts { (blocks : List Block) × (ls : List ChangesetView) × (h : ChangesetView) × ArePartsOf hg.old saved.now block.now blocks ls h }
+    requires texts { AreItsTexts block.now.last texts }
     ensures links { IfOk result (λ nodes. (blocks : List Block) (ls : List ChangesetView) (h : ChangesetView) → ArePartsOf hg.old saved.now block.now blocks ls h
         → nodes.links ≡ map changeset_node ls) }
     ensures last { IfOk result (λ nodes. (blocks : List Block) (ls : List ChangesetView) (h : ChangesetView) → ArePartsOf hg.old saved.now block.now blocks ls h
@@ -46,32 +49,48 @@ pub fn add_parts(
     let mut links = IdList::new(alloc);
     let list = block.links.as_slice();
     for link in list {
-        let node = add_part(alloc, hg, saved, link)?;
+        let node = add_part(alloc, hg, saved, link, DraftTexts::none())?;
         links.push(node)?;
     }
-    let last = add_part(alloc, hg, saved, &block.last)?;
+    let last = add_part(alloc, hg, saved, &block.last, texts)?;
     Ok(PartNodes { links, last })
 }
 
 // Adds the revisions of a changeset that isn't saved, and gives its node.
-fn add_part(alloc: Global, hg: &mut HgStore, saved: &NodeList, d: &HgDraft) -> Result<Id, PushFault>
+fn add_part(
+    alloc: Global,
+    hg: &mut HgStore,
+    saved: &NodeList,
+    d: &HgDraft,
+    texts: DraftTexts,
+) -> Result<Id, PushFault>
     requires part { (base : List Revision) × (k : ChangesetView) × IsPartOver base hg.old d.now k }
+    requires texts { AreItsTexts d.now texts }
     ensures node { IfOk result (λ node. (base : List Revision) (k : ChangesetView) → IsPartOver base hg.old d.now k → node ≡ changeset_node k) }
     ensures came { IfOk result (λ node. (base : List Revision) (k : ChangesetView) → IsPartOver base hg.old d.now k → PartsCame hg.old hg.new saved.now (k ∷ [])) }
     ensures collision { result ≡ Err Collision → (base : List Revision) (k : ChangesetView) → IsPartOver base hg.old d.now k → PartsCollide hg.old saved.now (k ∷ []) }
 {
-    let text = text_of_changeset(alloc, &d.changeset)?;
+    let text = text_of_changeset(alloc, &d.changeset, texts.changeset)?;
     let node = node_id(&d.p1, &d.p2, &text);
     if saved.contains(&node) {
         return Err(PushFault::Collision);
     }
-    add_changeset(alloc, hg, d, node, text)?;
+    add_changeset(alloc, hg, d, node, text, texts.manifest)?;
     Ok(node)
 }
 
-fn text_of_changeset(alloc: Global, changeset: &Changeset) -> Result<Vec<u8>, NoMemory>
+// The text of a changeset: the one that was made, or else a new one.
+fn text_of_changeset(
+    alloc: Global,
+    changeset: &Changeset,
+    made: Option<Bytes>,
+) -> Result<Vec<u8>, NoMemory>
+    requires made { IfSome made (λ text. text ≡ changeset_text (changeset_value changeset.now)) }
     ensures { IfOk result (λ text. text.items ≡ changeset_text (changeset_value changeset.now)) }
 {
+    if let Some(text) = made {
+        return Ok(text.into_vec());
+    }
     let mut text = Vec::new(alloc);
     changeset.write_into(&mut text)?;
     Ok(text)

@@ -5,6 +5,7 @@ ghost use Rattle.text_model.specs.Id as kinds;
 ghost use Rattle.text_model.specs.Id.{has_id, object_id};
 ghost use Rattle.git_model.specs.Object.{content_fault, knows_object};
 ghost use Rattle.git_model.specs.Commit.{commit_text};
+ghost use Rattle.git_store.specs.Known.{AreKnown};
 ghost use Rattle.pair_model.specs.Block as model;
 ghost use Rattle.partner_model.specs.Clash.{commit_side_collides, changeset_side_collides};
 ghost use Rattle.pair_known.specs.Partners.{git_at, hg_at};
@@ -20,12 +21,13 @@ use crate::node_list::NodeList;
 use crate::objects::{add_blobs, add_object, add_trees};
 use crate::parts::add_parts;
 use crate::state::State;
+use crate::state_parts::StateParts;
 use bridge_text::{Id, IdList, IdSet, Kind, NoMemory, object_id};
 use git_object::{Commit, Objects};
 use git_store::GitStore;
 use git_view::commits_are_held;
 use hg_view::views_are_held;
-use pair_known::{GitDraft, HgBlock, HgDraft};
+use pair_known::{DraftTexts, GitDraft, HgBlock, HgDraft};
 use std::alloc::Global;
 
 impl State {
@@ -33,17 +35,19 @@ impl State {
     /// of the block is known otherwise or is another part of it, where its changeset, a link or its commit stands in a block, or
     /// where the commit is new and a body of the changeset has the id of a blob with another content. After a fault the state is
     /// given up.
-    pub fn push(self, block: &HgBlock, commit: GitDraft) -> Result<State, PushFault>
-        requires block { (blocks : List model.Block) × (b : model.Block) × PushesBlock self block.now commit blocks b }
-        ensures ok { IfOk result (λ next. (blocks : List model.Block) (b : model.Block) → PushesBlock self block.now commit blocks b → BlockPushed self next blocks b) }
-        ensures collision { result ≡ Err Collision → (blocks : List model.Block) (b : model.Block) → PushesBlock self block.now commit blocks b
+    pub fn push(self, block: HgBlock, commit: GitDraft) -> Result<State, PushFault>
+        requires block { (blocks : List model.Block) × (b : model.Block) × PushesBlock self block commit blocks b }
+        ensures ok { IfOk result (λ next. (blocks : List model.Block) (b : model.Block) → PushesBlock self block commit blocks b → BlockPushed self next blocks b) }
+        ensures collision { result ≡ Err Collision → (blocks : List model.Block) (b : model.Block) → PushesBlock self block commit blocks b
             → IsTrue (block_collides self.known.hg self.known.git blocks b) }
     {
-        let mut state = self;
-        state.put(block, commit)?;
-        Ok(state)
+        let mut parts = self.into_parts();
+        parts.put(&block, commit)?;
+        Ok(State::from_parts(parts))
     }
+}
 
+impl StateParts {
     /// Adds the block of a changeset that is stored and stands in none, with its commit and the links of that commit.
     /// Collision comes exactly where an object of the commit is known with another content, or is another part of the commit,
     /// or where the commit or a link stands in a block. After a fault the state is given up.
@@ -53,7 +57,7 @@ impl State {
         h: &HgDraft,
         links: &IdList,
         commit: GitDraft,
-    ) -> Result<State, PushFault>
+    ) -> Result<StateParts, PushFault>
         requires block { (blocks : List model.Block) × (b : model.Block) × PushesCommit self h.now links.now commit node blocks b }
         ensures ok { IfOk result (λ next. (blocks : List model.Block) (b : model.Block) → PushesCommit self h.now links.now commit node blocks b
             → CommitPushed self next blocks b) }
@@ -68,10 +72,10 @@ impl State {
     /// Adds the block of a commit that is stored and stands in none, with its links and its changeset. Collision comes exactly
     /// where a revision of these is null or known with another text or other parents, or is another part of the block, or where
     /// one of the changesets stands in a block. After a fault the state is given up.
-    pub fn push_changeset(self, id: Id, block: &HgBlock) -> Result<State, PushFault>
-        requires block { (blocks : List model.Block) × (b : model.Block) × PushesChangeset self block.now id blocks b }
-        ensures ok { IfOk result (λ next. (blocks : List model.Block) (b : model.Block) → PushesChangeset self block.now id blocks b → ChangesetPushed self next blocks b) }
-        ensures collision { result ≡ Err Collision → (blocks : List model.Block) (b : model.Block) → PushesChangeset self block.now id blocks b
+    pub fn push_changeset(self, id: Id, block: HgBlock) -> Result<StateParts, PushFault>
+        requires block { (blocks : List model.Block) × (b : model.Block) × PushesChangeset self block id blocks b }
+        ensures ok { IfOk result (λ next. (blocks : List model.Block) (b : model.Block) → PushesChangeset self block id blocks b → ChangesetPushed self next blocks b) }
+        ensures collision { result ≡ Err Collision → (blocks : List model.Block) (b : model.Block) → PushesChangeset self block id blocks b
             → IsTrue (changeset_side_collides self.known.hg blocks b) }
     {
         let mut state = self;
@@ -79,23 +83,27 @@ impl State {
         Ok(state)
     }
 
-    // The same on a state that is kept.
+    // Adds a block to a state that is kept.
     fn put(&mut self, block: &HgBlock, commit: GitDraft) -> Result<(), PushFault>
         requires block { (blocks : List model.Block) × (b : model.Block) × PushesBlock self.old block.now commit blocks b }
         ensures ok { OnOk result ((blocks : List model.Block) (b : model.Block) → PushesBlock self.old block.now commit blocks b → BlockPushed self.old self.new blocks b) }
         ensures collision { result ≡ Err Collision → (blocks : List model.Block) (b : model.Block) → PushesBlock self.old block.now commit blocks b
             → IsTrue (block_collides self.old.known.hg self.old.known.git blocks b) }
     {
-        self.known.git.check();
-        let text = text_of_commit(self.alloc(), &commit.commit)?;
+        let text = text_of_commit(self.alloc, &commit.commit)?;
         let id = object_id(Kind::Commit, &text);
         if self.known.partners.hg_of(&id).is_some() {
             return Err(PushFault::Collision);
         }
         let stored = is_stored(&self.known.git, &id);
-        let nodes = add_parts(self.alloc(), &mut self.known.hg, &self.changesets, block)?;
+        let nodes = add_parts(
+            self.alloc,
+            &mut self.known.hg,
+            &self.changesets,
+            block,
+            DraftTexts::none(),
+        )?;
         add_commit(&mut self.known.git, commit, id, text)?;
-        self.known.git.check();
         let agreed = have_bodies(&self.known, &self.agreed, &block.last);
         check_bodies(agreed, stored)?;
         put_where(&mut self.agreed, nodes.last, agreed)?;
@@ -118,17 +126,15 @@ impl State {
             → IsTrue (commit_side_collides self.old.known.git blocks b) }
     {
         views_are_held(&self.known.hg, &node);
-        self.known.git.check();
         if self.changesets.contains_any(links.as_slice()) {
             return Err(PushFault::Collision);
         }
-        let text = text_of_commit(self.alloc(), &commit.commit)?;
+        let text = text_of_commit(self.alloc, &commit.commit)?;
         let id = object_id(Kind::Commit, &text);
         if self.known.partners.hg_of(&id).is_some() {
             return Err(PushFault::Collision);
         }
         add_commit(&mut self.known.git, commit, id, text)?;
-        self.known.git.check();
         if !have_bodies(&self.known, &self.agreed, h) {
             return Err(PushFault::Collision);
         }
@@ -138,14 +144,22 @@ impl State {
     }
 
     // The same on a state that is kept.
-    fn put_changeset(&mut self, id: Id, block: &HgBlock) -> Result<(), PushFault>
-        requires block { (blocks : List model.Block) × (b : model.Block) × PushesChangeset self.old block.now id blocks b }
-        ensures ok { OnOk result ((blocks : List model.Block) (b : model.Block) → PushesChangeset self.old block.now id blocks b → ChangesetPushed self.old self.new blocks b) }
-        ensures collision { result ≡ Err Collision → (blocks : List model.Block) (b : model.Block) → PushesChangeset self.old block.now id blocks b
+    fn put_changeset(&mut self, id: Id, block: HgBlock) -> Result<(), PushFault>
+        requires block { (blocks : List model.Block) × (b : model.Block) × PushesChangeset self.old block id blocks b }
+        ensures ok { OnOk result ((blocks : List model.Block) (b : model.Block) → PushesChangeset self.old block id blocks b → ChangesetPushed self.old self.new blocks b) }
+        ensures collision { result ≡ Err Collision → (blocks : List model.Block) (b : model.Block) → PushesChangeset self.old block id blocks b
             → IsTrue (changeset_side_collides self.old.known.hg blocks b) }
     {
         commits_are_held(&self.known.git, &id);
-        let nodes = add_parts(self.alloc(), &mut self.known.hg, &self.changesets, block)?;
+        let mut block = block;
+        let texts = std::mem::replace(&mut block.last.texts, DraftTexts::none());
+        let nodes = add_parts(
+            self.alloc,
+            &mut self.known.hg,
+            &self.changesets,
+            &block,
+            texts,
+        )?;
         self.insert(nodes.links.as_slice(), nodes.last, id)?;
         Ok(())
     }
@@ -229,6 +243,7 @@ fn add_commit(git: &mut GitStore, commit: GitDraft, id: Id, text: Vec<u8>) -> Re
     requires its_id { object_id kinds.commit text.items ≡ id }
     requires fits { content_fault kinds.commit text.items ≡ None }
     ensures ok { OnOk result (HasGrown git.old git.new (commit.fresh ++ commit.trees ++ record { id = id; kind = kinds.commit; content = text.items } ∷ [])) }
+    ensures sound { OnOk result (AreKnown git.new) }
     ensures collision { result ≡ Err Collision → Clash git.old (commit.fresh ++ commit.trees ++ record { id = id; kind = kinds.commit; content = text.items } ∷ []) }
 {
     add_blobs(git, commit.fresh)?;

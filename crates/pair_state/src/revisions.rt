@@ -1,24 +1,19 @@
 // Revisions of a changeset that come to a store.
-ghost use Rattle.std.specs.Prelude.{◌≡◌, ◌≤◌, ◌-◌, ◌^◌, min, true, ◌++◌, ◌∷◌, [], Err, OnOk, IfOk, IfSome, IsTrue, List, map, length};
+ghost use Rattle.std.specs.Prelude.{◌≡◌, ◌≤◌, true, ◌∷◌, [], Err, OnOk, IfOk, IfSome, List, length};
 ghost use Rattle.std.specs.List.{flat_map};
-ghost use Rattle.std.specs.Io.{StartsWith};
-ghost use Rattle.text_model.specs.Id.{node_id};
 ghost use Rattle.hg_model.specs.Revision.{Revision};
-ghost use Rattle.hg_model.specs.Manifest.{flag_text, entry_text, manifest_text};
-ghost use Rattle.hg_manifest.specs.Values.{file_flag};
 ghost use Rattle.hg_store.specs.Groups.{group_value, revision_value};
 ghost use Rattle.hg_store.specs.Known.{text_limit, HasFitPath, HasBlob};
-ghost use Rattle.view_model.specs.View.{ChangesetView, rows_text, Row};
+ghost use Rattle.view_model.specs.View.{ChangesetView};
 ghost use Rattle.view_model.specs.Dump.{manifest_revision, revisions_of};
-ghost use Rattle.pair_known.specs.Rows.{row_value};
 ghost use Rattle.pair_state.specs.Came.{is_bad, IsReady, HaveCome, HasBad, IsAsked, IsAskedOver};
 ghost use Rattle.pair_state.specs.Step.{line_of};
 ghost use Rattle.pair_state.specs.declared.fault.PushFault.TheVariants.{Collision};
 
 use crate::fault::PushFault;
 use crate::files::add_files;
-use bridge_text::{Id, NoMemory};
-use hg_manifest::Flag;
+use bridge_text::{Bytes, Id, NoMemory};
+use hg_manifest::{line_len, put_line};
 use hg_store::{AddFault, Addition, Group, HgStore};
 use mark_code::ManifestRev;
 use pair_known::{HgDraft, HgRow, HgRows};
@@ -52,15 +47,18 @@ pub fn add_revision(
     }
 }
 
-// Adds the revisions of a changeset: its own with this node and text, its manifest's and its files'.
+// Adds the revisions of a changeset: its own with this node and text, its manifest's and its files'. The lines are those of the
+// manifest, where they were made.
 pub fn add_changeset(
     alloc: Global,
     hg: &mut HgStore,
     d: &HgDraft,
     node: Id,
     text: Vec<u8>,
+    lines: Option<Bytes>,
 ) -> Result<(), PushFault>
     requires asked { (base : List Revision) × (k : ChangesetView) × IsAsked base hg.old d.now node text.items k }
+    requires lines { IfSome lines (λ made. made ≡ flat_map line_of d.now.rows) }
     ensures ok { OnOk result ((base : List Revision) (k : ChangesetView) → IsAsked base hg.old d.now node text.items k → HaveCome hg.old hg.new (revisions_of k)) }
     ensures collision { result ≡ Err Collision → (base : List Revision) (k : ChangesetView) → IsAsked base hg.old d.now node text.items k
         → HasBad hg.old (revisions_of k) }
@@ -74,20 +72,27 @@ pub fn add_changeset(
         text,
     };
     add_revision(hg, own, None)?;
-    add_manifest(alloc, hg, d, node)?;
+    add_manifest(alloc, hg, d, node, lines)?;
     add_files(alloc, hg, d, node)
 }
 
-// Adds the manifest of a changeset, where it has one.
-pub fn add_manifest(alloc: Global, hg: &mut HgStore, d: &HgDraft, link: Id) -> Result<(), PushFault>
+// Adds the manifest of a changeset, where it has one, with its lines where they were made.
+pub fn add_manifest(
+    alloc: Global,
+    hg: &mut HgStore,
+    d: &HgDraft,
+    link: Id,
+    lines: Option<Bytes>,
+) -> Result<(), PushFault>
     requires asked { (base : List Revision) × (k : ChangesetView) × IsAskedOver base hg.old d.now link k }
+    requires lines { IfSome lines (λ made. made ≡ flat_map line_of d.now.rows) }
     ensures ok { OnOk result ((base : List Revision) (k : ChangesetView) → IsAskedOver base hg.old d.now link k → HaveCome hg.old hg.new (manifest_revision k k.manifest)) }
     ensures collision { result ≡ Err Collision → (base : List Revision) (k : ChangesetView) → IsAskedOver base hg.old d.now link k → HasBad hg.old (manifest_revision k k.manifest) }
 {
     match d.manifest {
         ManifestRev::Null => Ok(()),
         ManifestRev::Over { p, q } => {
-            let text = lines_of(alloc, &d.rows)?;
+            let text = lines_of(alloc, &d.rows, lines)?;
             add_revision(
                 hg,
                 Addition {
@@ -104,54 +109,29 @@ pub fn add_manifest(alloc: Global, hg: &mut HgStore, d: &HgDraft, link: Id) -> R
     }
 }
 
-// The lines of files, in room that is just theirs.
-fn lines_of(alloc: Global, rows: &HgRows) -> Result<Vec<u8>, NoMemory>
-    ensures { IfOk result (λ text. (xs : List Row) → rows.now ≡ map row_value xs → text.items ≡ rows_text xs) }
+// The lines of files: those that were made, or else new ones.
+fn lines_of(alloc: Global, rows: &HgRows, made: Option<Bytes>) -> Result<Vec<u8>, NoMemory>
+    requires made { IfSome made (λ text. text ≡ flat_map line_of rows.now) }
+    ensures { IfOk result (λ text. text.items ≡ flat_map line_of rows.now) }
 {
+    if let Some(text) = made {
+        return Ok(text.into_vec());
+    }
     let list = rows.as_slice();
-    let mut text = Vec::with_capacity(alloc, lines_len(list))?;
+    let mut text = room_for(alloc, list)?;
     for row in list {
-        put_line(&mut text, row)?;
+        put_line(&mut text, row.path.as_slice(), &row.node, row.flag)?;
     }
     Ok(text)
 }
 
-// How long the lines of files are together; or the greatest number, where that is less.
-fn lines_len(rows: &[HgRow]) -> usize
-    ensures { result ≡ min (length (flat_map line_of rows.now)) (2 ^ 64 - 1) }
+// No bytes, with room for the lines of files, so that none are moved while others are added.
+fn room_for(alloc: Global, rows: &[HgRow]) -> Result<Vec<u8>, NoMemory>
+    ensures { IfOk result (λ out. out.items ≡ []) }
 {
-    let mut len: usize = 0;
+    let mut room: usize = 0;
     for row in rows {
-        len = len.saturating_add(line_len(row));
+        room = room.saturating_add(line_len(row.path.as_slice(), row.flag));
     }
-    len
-}
-
-// How long the line of a file is: beside its path and its flag it has NUL, the 40 digits of its node, and LF.
-fn line_len(row: &HgRow) -> usize
-    ensures { result ≡ length (line_of row.now) }
-{
-    let _bytes = row.node.bytes();
-    row.path.as_slice().len() + flag_bytes(row.flag).len() + 42
-}
-
-fn put_line(out: &mut Vec<u8>, row: &HgRow) -> Result<(), NoMemory>
-    ensures { OnOk result (out.new.items ≡ out.old.items ++ line_of row.now) }
-{
-    out.extend_from_slice(row.path.as_slice())?;
-    out.push(b'\0')?;
-    out.extend_from_slice(&row.node.hex())?;
-    out.extend_from_slice(flag_bytes(row.flag))?;
-    out.push(b'\n')?;
-    Ok(())
-}
-
-fn flag_bytes(flag: Flag) -> &'static [u8]
-    ensures { result.now ≡ flag_text (file_flag flag) }
-{
-    match flag {
-        Flag::Plain => b"",
-        Flag::Exec => b"x",
-        Flag::Link => b"l",
-    }
+    Ok(Vec::with_capacity(alloc, room)?)
 }

@@ -1,91 +1,126 @@
-ghost use Rattle.std.specs.Prelude.{◌≡◌, [], ◌==◌, length};
+ghost use Rattle.std.specs.Prelude.{◌≡◌, [], ◌==◌, List, length};
+ghost use Rattle.pair_model.specs.Block.{Block};
 ghost use Rattle.pair_known.specs.Partners.{git_at, hg_at};
-ghost use Rattle.pair_state.specs.Blocks.{IsStateOf};
+ghost use Rattle.pair_state.specs.AllBlocks.{HasAllBlocks};
 
 use crate::blocks::Blocks;
 use crate::names::Names;
-use crate::node_list::NodeList;
-use bridge_text::{Id, IdList, IdSet};
-use git_store::GitStore;
-use hg_store::HgStore;
-use pair_known::{Known, Partners};
+use crate::state_parts::StateParts;
+use bridge_text::{Id, IdList};
+use pair_known::Known;
 use std::alloc::Global;
+use std::marker::Model;
 
 /// What both sides hold, the pairs of their history in its order, and the tags and names that are kept.
+///
+/// Each changeset that it holds stands in a block of its history. Contracts see its parts.
 #[derive(Drop)]
 pub struct State {
-    /// Mercurial's revisions, Git's objects and the partners of changesets and commits.
-    pub known: Known,
-    /// The pairs, in the order of the history.
-    pub blocks: Blocks,
-    /// The nodes of the changesets in the same order, links just before their changeset.
-    pub changesets: NodeList,
-    /// The ids of the commits, in the order of the pairs.
-    pub commits: IdList,
-    /// The ids of the kept tags, in the order in which they came.
-    pub tags: IdList,
-    /// The names of commits and kept tags.
-    pub names: Names,
-    /// The nodes of changesets whose bodies were compared with the blobs of their commits.
-    pub agreed: IdSet,
-    alloc: Global,
+    parts: StateParts,
+}
+
+impl Model for State {
+    ghost use Rattle.std.specs.Prelude.{List};
+    ghost use Rattle.pair_model.specs.Block.{Block};
+    ghost use Rattle.pair_state.specs.declared.state_parts.StateParts.{StateParts};
+
+    ghost Value = { StateParts };
+
+    ghost use Rattle.pair_state.specs.AllBlocks.{HasAllBlocks};
+
+    ghost view = { λ s. s.parts };
+
+    ghost invariant = { λ s. (blocks : List Block) × HasAllBlocks s.parts blocks };
 }
 
 impl State {
     /// A state without revisions, objects, pairs, tags and names.
     pub fn empty(alloc: Global) -> State
-        ensures state { IsStateOf result [] }
+        ensures state { HasAllBlocks result [] }
         ensures revisions { result.known.hg ≡ [] }
         ensures objects { result.known.git ≡ [] }
         ensures tags { result.tags ≡ [] }
         ensures names { result.names ≡ [] }
     {
-        State {
-            known: Known {
-                hg: HgStore::new(alloc),
-                git: GitStore::new(alloc),
-                partners: Partners::new(alloc),
-            },
-            blocks: Blocks::new(alloc),
-            changesets: NodeList::new(alloc),
-            commits: IdList::new(alloc),
-            tags: IdList::new(alloc),
-            names: Names::new(alloc),
-            agreed: IdSet::new(alloc),
-            alloc,
-        }
+        State::from_parts(StateParts::empty(alloc))
+    }
+
+    /// The state of these parts, which stand for a history that has each of their changesets.
+    pub fn from_parts(parts: StateParts) -> State
+        requires history { (blocks : List Block) × HasAllBlocks parts blocks }
+        ensures { result ≡ parts }
+    {
+        State { parts }
+    }
+
+    /// The parts of the state, to be changed.
+    pub fn into_parts(self) -> StateParts
+        ensures parts { result ≡ self }
+        ensures history { (blocks : List Block) × HasAllBlocks result blocks }
+    {
+        self.parts
     }
 
     /// The allocator from which the state takes its memory.
-    pub fn alloc(&self) -> Global {
-        self.alloc
+    pub fn alloc(&self) -> Global
+        ensures { result ≡ self.now.alloc }
+    {
+        self.parts.alloc
+    }
+
+    /// Both stores, and the partners of changesets and commits.
+    pub fn known(&self) -> &Known
+        ensures { result.now ≡ self.now.known }
+    {
+        &self.parts.known
+    }
+
+    /// The pairs, in the order of the history.
+    pub fn blocks(&self) -> &Blocks
+        ensures { result.now ≡ self.now.blocks }
+    {
+        &self.parts.blocks
+    }
+
+    /// The ids of the kept tags, in the order in which they came.
+    pub fn tags(&self) -> &IdList
+        ensures { result.now ≡ self.now.tags }
+    {
+        &self.parts.tags
+    }
+
+    /// The names of commits and kept tags.
+    pub fn names(&self) -> &Names
+        ensures { result.now ≡ self.now.names }
+    {
+        &self.parts.names
     }
 
     /// The commit whose partner is the changeset with this node; `None` exactly where it has none.
     pub fn git_of(&self, node: &Id) -> Option<Id>
         ensures { result ≡ git_at self.now.known.partners node.now }
     {
-        self.known.partners.git_of(node)
+        self.parts.known.partners.git_of(node)
     }
 
     /// The changeset whose partner is the commit with this id; `None` exactly where it has none.
     pub fn hg_of(&self, id: &Id) -> Option<Id>
         ensures { result ≡ hg_at self.now.known.partners id.now }
     {
-        self.known.partners.hg_of(id)
+        self.parts.known.partners.hg_of(id)
     }
 
     /// How many pairs there are.
     pub fn len(&self) -> usize
         ensures { result ≡ length self.now.blocks }
     {
-        self.blocks.len()
+        self.parts.blocks.len()
     }
 
     /// Whether there are no pairs.
     pub fn is_empty(&self) -> bool
         ensures { result ≡ (length self.now.blocks == 0) }
     {
-        self.blocks.is_empty()
+        self.parts.blocks.is_empty()
     }
 }

@@ -16,17 +16,18 @@ use Rattle.hg_bundle.specs.Arrivals.{arrival_of, kind_of}
 use Rattle.hg_dump.proofs.HeldLemmas.{node-is}
 use Rattle.view_model.specs.Dump.{objects_in}
 use Rattle.pair_model.specs.Block.{Block, node_of, commits_in}
-use Rattle.history_model.specs.Pull.{BringBlocks, ChangesetRefused, IsChangesetRefusal, all_known, changesets_among, revisions_among, is_changesets, is_saved}
-use Rattle.pair_state.specs.declared.state.State.{State}
+use Rattle.history_model.specs.Pull.{BringBlocks, ChangesetRefused, IsChangesetRefusal, all_known, changesets_among, revisions_among, is_changesets}
+use Rattle.pair_state.specs.declared.state_parts.StateParts.{StateParts}
 use Rattle.pair_state.specs.Blocks.{IsStateOf}
 use Rattle.pair_state.specs.Push.{HaveSame}
 use Rattle.pull_outcome.specs.declared.refused.PullFault.{PullFault}
 use Rattle.pull_outcome.specs.declared.refused.PullFault.TheVariants.{Refused, Read, Memory}
 use Rattle.pull_outcome.specs.Refused.{IsRefusedBy}
 use Rattle.bridge_text.specs.Refusals.{refusal_value}
-use Rattle.pull_outcome.specs.AllBlocks.{state_value}
-use Rattle.pull_bundle.specs.Takes.{AreSaved, Comes, Takes, TakesArrivals, IsRefusedArrival, Starts}
-use Rattle.pull_bundle.proofs.Known.{all_known-append, grown, are_saved-more, are_saved-after, saved-more, saved-last}
+use Rattle.pair_state.specs.AllBlocks.{state_value, stands_in}
+use Rattle.pair_state.proofs.AllBlocks.{stands-more, saved-stands}
+use Rattle.pull_bundle.specs.Takes.{AreStanding, Comes, Takes, TakesArrivals, IsRefusedArrival, Starts}
+use Rattle.pull_bundle.proofs.Known.{all_known-append, grown, standing-more, standing-after, saved-last}
 use Rattle.pull_bundle.proofs.Blocks.{brings-none, brings-append, brings-same, objects_in-more, same-more, same-then, refused-same}
 
 -- ---- which entries are changesets
@@ -59,7 +60,7 @@ among-one a rest h = rw h refl
 
 -- ---- one entry
 
-abbrev takes-at : (s next : State) (blocks : List Block) (rs rs' : List Revision) → rs ≡ rs' → Takes s next blocks rs → Takes s next blocks rs'
+abbrev takes-at : (s next : StateParts) (blocks : List Block) (rs rs' : List Revision) → rs ≡ rs' → Takes s next blocks rs → Takes s next blocks rs'
 takes-at s next blocks rs rs' e t = record {
   new = t.new;
   brings = subst (λ (l : List Revision). BringBlocks s.known.hg s.known.git blocks l t.new) e t.brings;
@@ -70,7 +71,7 @@ takes-at s next blocks rs rs' e t = record {
   names = t.names;
 }
 
-abbrev takes-none : (s : State) (blocks : List Block) → IsStateOf s blocks → Takes s s blocks []
+abbrev takes-none : (s : StateParts) (blocks : List Block) → IsStateOf s blocks → Takes s s blocks []
 takes-none s blocks state = record {
   new = [];
   brings = brings-none s.known.hg s.known.git blocks;
@@ -81,40 +82,40 @@ takes-none s blocks state = record {
   names = refl;
 }
 
-pub none-taken : (s : State) (base : List Revision) (blocks : List Block) → IsStateOf s blocks → AreSaved blocks base → TakesArrivals s s base blocks []
-none-taken s base blocks state saved = record { takes = takes-none s blocks state; saved = are_saved-more blocks [] base saved }
+pub none-taken : (s : StateParts) (base : List Revision) (blocks : List Block) → IsStateOf s blocks → AreStanding blocks base → TakesArrivals s s base blocks []
+none-taken s base blocks state saved = record { takes = takes-none s blocks state; saved = standing-more blocks [] base saved }
 
-pub other-taken : (s : State) (before : List Revision) (blocks : List Block) (a : Arrival) → is_changesets (a.revision).group ≡ false → Comes s blocks before a.revision → TakesArrivals s s before blocks (a ∷ [])
+pub other-taken : (s : StateParts) (before : List Revision) (blocks : List Block) (a : Arrival) → is_changesets (a.revision).group ≡ false → Comes s blocks before a.revision → TakesArrivals s s before blocks (a ∷ [])
 other-taken s before blocks a other comes = record {
   takes = takes-at s s blocks [] (revisions_among (changesets_among (a ∷ []))) (sym (ap revisions_among (among-other a other))) (takes-none s blocks comes.state);
-  saved = are_saved-after (blocks ++ []) before a.revision (are_saved-more blocks [] before comes.saved) (λ g. absurd (true≢false (sym (ap is_changesets g) ∙ other)));
+  saved = standing-after (blocks ++ []) before a.revision (standing-more blocks [] before comes.saved) (λ g. absurd (true≢false (sym (ap is_changesets g) ∙ other)));
 }
 
-brings-saves : (s : State) → AreAdded s.known.hg → (objects : List Object) (blocks : List Block) (r : Revision) (new : List Block) → BringBlocks s.known.hg objects blocks (r ∷ []) new → is_saved (blocks ++ new) r.node ≡ true
+brings-saves : (s : StateParts) → AreAdded s.known.hg → (objects : List Object) (blocks : List Block) (r : Revision) (new : List Block) → BringBlocks s.known.hg objects blocks (r ∷ []) new → stands_in (blocks ++ new) r.node ≡ true
 unfolding BringBlocks
-brings-saves s added objects blocks r new (inl h) = saved-more blocks new r.node h.0
+brings-saves s added objects blocks r new (inl h) = stands-more blocks new r.node (saved-stands blocks r.node h.0)
 brings-saves s added objects blocks r new (inr (free, b, rest, is, gives, later)) =
     let node : node_of b ≡ r.node = ap node_of gives.block ∙ node-is s.known.hg added r.node gives.view gives.is_held in
     let one : new ≡ b ∷ [] = is ∙ ap (λ (l : List Block). b ∷ l) later in
-    ap (λ (l : List Block). is_saved (blocks ++ l) r.node) one ∙ saved-last blocks b r.node node
+    ap (λ (l : List Block). stands_in (blocks ++ l) r.node) one ∙ saved-stands (blocks ++ b ∷ []) r.node (saved-last blocks b r.node node)
 
-pub changeset-taken : (s next : State) (before : List Revision) (blocks : List Block) (a : Arrival) → is_changesets (a.revision).group ≡ true → Comes s blocks before a.revision → Takes s next blocks (a.revision ∷ [])
+pub changeset-taken : (s next : StateParts) (before : List Revision) (blocks : List Block) (a : Arrival) → is_changesets (a.revision).group ≡ true → Comes s blocks before a.revision → Takes s next blocks (a.revision ∷ [])
     → TakesArrivals s next before blocks (a ∷ [])
 changeset-taken s next before blocks a one comes t = record {
   takes = takes-at s next blocks (a.revision ∷ []) (revisions_among (changesets_among (a ∷ []))) (sym (ap revisions_among (among-one a [] one))) t;
-  saved = are_saved-after (blocks ++ t.new) before a.revision (are_saved-more blocks t.new before comes.saved) (λ g. brings-saves s comes.state.held.added s.known.git blocks a.revision t.new t.brings);
+  saved = standing-after (blocks ++ t.new) before a.revision (standing-more blocks t.new before comes.saved) (λ g. brings-saves s comes.state.held.added s.known.git blocks a.revision t.new t.brings);
 }
 
 -- ---- one entry behind others
 
-takes-append : (start mid next : State) (blocks : List Block) (rs rs' : List Revision) (t : Takes start mid blocks rs) (u : Takes mid next (blocks ++ t.new) rs')
+takes-append : (start mid next : StateParts) (blocks : List Block) (rs rs' : List Revision) (t : Takes start mid blocks rs) (u : Takes mid next (blocks ++ t.new) rs')
     → BringBlocks start.known.hg start.known.git blocks (rs ++ rs') (t.new ++ u.new)
 takes-append start mid next blocks rs rs' t u =
     brings-append start.known.hg start.known.git blocks rs rs' t.new u.new t.brings
     (brings-same start.known.hg mid.known.git (start.known.git ++ objects_in (commits_in t.new)) (blocks ++ t.new) rs' u.new t.objects
     (subst (λ (l : List Revision). BringBlocks l mid.known.git (blocks ++ t.new) rs' u.new) t.revisions u.brings))
 
-takes-objects : (start mid next : State) (blocks : List Block) (rs rs' : List Revision) (t : Takes start mid blocks rs) (u : Takes mid next (blocks ++ t.new) rs')
+takes-objects : (start mid next : StateParts) (blocks : List Block) (rs rs' : List Revision) (t : Takes start mid blocks rs) (u : Takes mid next (blocks ++ t.new) rs')
     → HaveSame next.known.git (start.known.git ++ objects_in (commits_in (t.new ++ u.new)))
 takes-objects start mid next blocks rs rs' t u =
     let mine = objects_in (commits_in t.new) in
@@ -130,7 +131,7 @@ among-more came more =
 known-more : (base : List Revision) (came : List Arrival) (a : Arrival) → known_after (all_known base (revisions_among came)) a.revision ≡ all_known base (revisions_among (came ++ a ∷ []))
 known-more base came a = sym (ap (all_known base) (map_append (λ x. x.revision) came (a ∷ [])) ∙ all_known-append base (revisions_among came) (a.revision ∷ []))
 
-pub arrivals-append : (start mid next : State) (base : List Revision) (blocks : List Block) (came : List Arrival) (a : Arrival) (t : TakesArrivals start mid base blocks came)
+pub arrivals-append : (start mid next : StateParts) (base : List Revision) (blocks : List Block) (came : List Arrival) (a : Arrival) (t : TakesArrivals start mid base blocks came)
     → TakesArrivals mid next (all_known base (revisions_among came)) (blocks ++ (t.takes).new) (a ∷ []) → TakesArrivals start next base blocks (came ++ a ∷ [])
 arrivals-append start mid next base blocks came a t u = record {
   takes = record {
@@ -143,8 +144,8 @@ arrivals-append start mid next base blocks came a t u = record {
     tags = (u.takes).tags ∙ (t.takes).tags;
     names = (u.takes).names ∙ (t.takes).names;
   };
-  saved = subst (λ (l : List Block). AreSaved l (all_known base (revisions_among (came ++ a ∷ [])))) (append_assoc blocks (t.takes).new (u.takes).new)
-      (subst (AreSaved ((blocks ++ (t.takes).new) ++ (u.takes).new)) (known-more base came a) u.saved);
+  saved = subst (λ (l : List Block). AreStanding l (all_known base (revisions_among (came ++ a ∷ [])))) (append_assoc blocks (t.takes).new (u.takes).new)
+      (subst (AreStanding ((blocks ++ (t.takes).new) ++ (u.takes).new)) (known-more base came a) u.saved);
 }
 
 -- ---- the entry at a place
@@ -165,7 +166,7 @@ entry-at (a ∷ came) (suc i) list h = let r = entry-at came i list h in record 
 parted : (came : List Arrival) (i : ℕ) (a : Arrival) → slice_get came i ≡ Some a → came ≡ take i came ++ a ∷ drop (i + 1) came
 parted came i a at = sym (take-append-drop i came) ∙ ap (λ (l : List Arrival). take i came ++ l) (drop_next came i a at)
 
-module _ (start mid : State) (base : List Revision) (blocks : List Block) (list : List listed.Arrival) (came : List Arrival) (starts : Starts start base blocks list came) (i : ℕ) (a : Arrival) (at : slice_get came i ≡ Some a) (t : TakesArrivals start mid base blocks (take i came)) where
+module _ (start mid : StateParts) (base : List Revision) (blocks : List Block) (list : List listed.Arrival) (came : List Arrival) (starts : Starts start base blocks list came) (i : ℕ) (a : Arrival) (at : slice_get came i ≡ Some a) (t : TakesArrivals start mid base blocks (take i came)) where
   pub comes-next : Comes mid (blocks ++ (t.takes).new) (all_known base (revisions_among (take i came))) a.revision
   comes-next =
       let rest = revisions_among (drop (i + 1) came) in
@@ -181,7 +182,7 @@ module _ (start mid : State) (base : List Revision) (blocks : List Block) (list 
             ∙ all_known-append base (revisions_among (take i came)) (a.revision ∷ rest) ∙ later.1;
       }
 
-  pub taken-next : (next : State) → TakesArrivals mid next (all_known base (revisions_among (take i came))) (blocks ++ (t.takes).new) (a ∷ []) → TakesArrivals start next base blocks (take (i + 1) came)
+  pub taken-next : (next : StateParts) → TakesArrivals mid next (all_known base (revisions_among (take i came))) (blocks ++ (t.takes).new) (a ∷ []) → TakesArrivals start next base blocks (take (i + 1) came)
   taken-next next u = subst (TakesArrivals start next base blocks) (sym (take_push came i a at)) (arrivals-append start mid next base blocks (take i came) a t u)
 
   refusal-next : (why : Refusal) → IsRefusedArrival mid (blocks ++ (t.takes).new) a why → IsChangesetRefusal start.known.hg (state_value start blocks) (changesets_among came) why
@@ -196,8 +197,8 @@ module _ (start mid : State) (base : List Revision) (blocks : List Block) (list 
     brings = (t.takes).brings;
     is_new = x.refused.is_new;
     name = x.name;
-    fault = refused-same mid.known.git (start.known.git ++ objects_in (commits_in (t.takes).new)) (t.takes).objects start.known.hg (blocks ++ (t.takes).new) a.revision x.name
-        (subst (λ (l : List Revision). ChangesetRefused l mid.known.git (blocks ++ (t.takes).new) a.revision x.name) (t.takes).revisions x.refused.fault);
+    fault = refused-same mid.known.git (start.known.git ++ objects_in (commits_in (t.takes).new)) (t.takes).objects start.known.hg (blocks ++ (t.takes).new) (a.revision).node x.name
+        (subst (λ (l : List Revision). ChangesetRefused l mid.known.git (blocks ++ (t.takes).new) (a.revision).node x.name) (t.takes).revisions x.refused.fault);
     is = x.is;
   }
 

@@ -3,6 +3,7 @@ use Rattle.std.proofs.Common.{◌≡◌, ◌⊎◌, inl, inr, ◌||◌, Bool, tr
 use Rattle.std.specs.Prelude.{is_some}
 use Rattle.std.specs.List.{list_any}
 use Rattle.text_model.specs.Lists.{In}
+use Rattle.text_model.specs.Id.{Id}
 use Rattle.text_model.specs.Fault.{FaultName}
 use Rattle.text_model.proofs.TestLemmas.{or_true}
 use Rattle.text_model.proofs.Elements.{flat_map_append, map_append}
@@ -89,19 +90,21 @@ module _ (xs ys : List Object) (same : HaveSame xs ys) where
   view-same blocks h name (inr (na, inl b)) = inr (na, inl b)
   view-same blocks h name (inr (na, inr (nb, inl c))) = inr (na, inr (nb, inl c))
   view-same blocks h name (inr (na, inr (nb, inr (nc, inl d)))) = inr (na, inr (nb, inr (nc, inl d)))
-  view-same blocks h name (inr (na, inr (nb, inr (nc, inr (nd, inl e))))) = inr (na, inr (nb, inr (nc, inr (nd, inl (sym (collides-same xs ys blocks _ same) ∙ e.0, e.1)))))
-  view-same blocks h name (inr (na, inr (nb, inr (nc, inr (nd, inr e))))) = absurd e.1
+  view-same blocks h name (inr (na, inr (nb, inr (nc, inr (nd, inl e))))) = inr (na, inr (nb, inr (nc, inr (nd, inl e))))
+  view-same blocks h name (inr (na, inr (nb, inr (nc, inr (nd, inr (ne, inl f)))))) =
+      inr (na, inr (nb, inr (nc, inr (nd, inr (ne, inl (sym (collides-same xs ys blocks _ same) ∙ f.0, f.1))))))
+  view-same blocks h name (inr (na, inr (nb, inr (nc, inr (nd, inr (ne, inr f)))))) = absurd f.1
 
-  pub refused-same : (known : List Revision) (blocks : List Block) (r : Revision) (name : FaultName) → ChangesetRefused known xs blocks r name → ChangesetRefused known ys blocks r name
-  refused-same known blocks r name (inl a) = inl a
-  refused-same known blocks r name (inr (na, inl b)) = inr (na, inl b)
-  refused-same known blocks r name (inr (na, inr (nb, (h, held, why)))) = inr (na, inr (nb, (h, held, view-same blocks h name why)))
+  pub refused-same : (known : List Revision) (blocks : List Block) (node : Id) (name : FaultName) → ChangesetRefused known xs blocks node name → ChangesetRefused known ys blocks node name
+  refused-same known blocks node name (r, at, inl a) = (r, at, inl a)
+  refused-same known blocks node name (r, at, inr (na, inl b)) = (r, at, inr (na, inl b))
+  refused-same known blocks node name (r, at, inr (na, inr (nb, (h, held, why)))) = (r, at, inr (na, inr (nb, (h, held, view-same blocks h name why))))
 
-  gives-same : (known : List Revision) (blocks : List Block) (r : Revision) (b : Block) → GivesBlock known xs blocks r b → GivesBlock known ys blocks r b
-  gives-same known blocks r b g = record {
+  gives-same : (known : List Revision) (blocks : List Block) (node : Id) (b : Block) → GivesBlock known xs blocks node b → GivesBlock known ys blocks node b
+  gives-same known blocks node b g = record {
     view = g.view;
     is_held = g.is_held;
-    passes = record { no_clash = g.passes.no_clash; fits = g.passes.fits; plain = g.passes.plain; apart = sym (collides-same xs ys blocks _ same) ∙ g.passes.apart };
+    passes = record { no_clash = g.passes.no_clash; parents = g.passes.parents; fits = g.passes.fits; plain = g.passes.plain; apart = sym (collides-same xs ys blocks _ same) ∙ g.passes.apart };
     block = g.block;
   }
 
@@ -110,7 +113,7 @@ unfolding BringBlocks
 brings-same known xs ys blocks [] new same h = h
 brings-same known xs ys blocks (r ∷ rs) new same (inl h) = inl (h.0, brings-same known xs ys blocks rs new same h.1)
 brings-same known xs ys blocks (r ∷ rs) new same (inr (free, b, rest, is, gives, later)) =
-    inr (free, b, rest, is, gives-same xs ys same known blocks r b gives, brings-same known (xs ++ commit_objects b.commit) (ys ++ commit_objects b.commit) (blocks ++ b ∷ []) rs rest (same-more xs ys (commit_objects b.commit) same) later)
+    inr (free, b, rest, is, gives-same xs ys same known blocks r.node b gives, brings-same known (xs ++ commit_objects b.commit) (ys ++ commit_objects b.commit) (blocks ++ b ∷ []) rs rest (same-more xs ys (commit_objects b.commit) same) later)
 
 -- ---- one behind another
 
@@ -122,7 +125,7 @@ pub brings-saved : (known : List Revision) (objects : List Object) (blocks : Lis
 unfolding BringBlocks
 brings-saved known objects blocks r h = inl (h, refl)
 
-pub brings-one : (known : List Revision) (objects : List Object) (blocks : List Block) (r : Revision) (b : Block) → is_saved blocks r.node ≡ false → GivesBlock known objects blocks r b → BringBlocks known objects blocks (r ∷ []) (b ∷ [])
+pub brings-one : (known : List Revision) (objects : List Object) (blocks : List Block) (r : Revision) (b : Block) → is_saved blocks r.node ≡ false → GivesBlock known objects blocks r.node b → BringBlocks known objects blocks (r ∷ []) (b ∷ [])
 unfolding BringBlocks
 brings-one known objects blocks r b free gives = inr (free, b, [], refl, gives, refl)
 

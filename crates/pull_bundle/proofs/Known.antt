@@ -1,21 +1,19 @@
 -- Known revisions, and what stays held as more come.
-use Rattle.std.proofs.Common.{◌≡◌, ◌⊎◌, inl, inr, ◌||◌, ◌&&◌, Bool, true, false, true≢false, not, List, [], ◌∷◌, ◌++◌, Option, Some, None, refl, sym, ap, subst, ◌∙◌, append_assoc, append-nil}
+use Rattle.std.proofs.Common.{◌≡◌, Bool, true, false, true≢false, List, [], ◌∷◌, ◌++◌, Option, Some, None, refl, sym, ap, ◌∙◌, append_assoc, append-nil}
 use Rattle.std.specs.Prelude.{is_some, bytes_eq, IsTrue}
 use Rattle.std.proofs.lemmas.Slice.Eq.{bytes_eq-Decides}
-use Rattle.text_model.specs.Lists.{Each}
-use Rattle.text_model.specs.Id.{Id, is_null}
-use Rattle.text_model.specs.Fault.{FaultName}
+use Rattle.text_model.specs.Id.{Id}
 use Rattle.text_model.proofs.EachLemmas.{Each-append, Each-weaker}
-use Rattle.text_model.proofs.TestLemmas.{both}
-use Rattle.hg_model.specs.Revision.{Group, Changesets, Manifests, FilesAt, Revision, is_of, revision_of, knows, known_after, is_known_parent, is_bad_link, order_fault, named_if, first_name, ancestry_fault, text_fault, addition_fault}
+use Rattle.hg_model.specs.Revision.{Group, Changesets, Manifests, FilesAt, Revision, is_of, revision_of, knows, known_after}
+use Rattle.hg_model.proofs.RevisionLemmas.{is_of-self}
 use Rattle.hg_bundle.specs.Arrivals.{known_after_all}
-use Rattle.hg_store.specs.Known.{IsAddedTo, AreAddedTo, AreAdded}
-use Rattle.hg_dump_law.proofs.Known.{some_true, is_of-is, knows-cons}
 use Rattle.view_model.specs.View.{Row, file_node, ManifestParents, NoManifest, Over, ChangesetView}
 use Rattle.view_model.specs.Held.{IsFileHeld, IsManifestHeld, IsChangesetHeld, AreChangesetsHeld}
-use Rattle.pair_model.specs.Block.{Block, node_of, block_of_node, not_null}
+use Rattle.pair_model.specs.Block.{Block, node_of}
 use Rattle.history_model.specs.Pull.{all_known, is_saved}
-use Rattle.pull_bundle.specs.Takes.{AreSaved}
+use Rattle.pair_state.specs.AllBlocks.{stands_in}
+use Rattle.pair_state.proofs.AllBlocks.{stands-more}
+use Rattle.pull_bundle.specs.Takes.{AreStanding}
 
 pub known-is : (known rs : List Revision) → known_after_all known rs ≡ all_known known rs
 known-is known [] = refl
@@ -85,14 +83,6 @@ module _ (known more : List Revision) where
 
 -- ---- changesets that stand in blocks
 
-pub saved-more : (blocks new : List Block) (node : Id) → is_saved blocks node ≡ true → is_saved (blocks ++ new) node ≡ true
-saved-more [] new node h = absurd (true≢false (sym h))
-saved-more (b ∷ blocks) new node h = by (bytes_eq (node_of b) node) refl (saved-more blocks new node)
-  where
-    by : (t : Bool) → bytes_eq (node_of b) node ≡ t → (is_saved blocks node ≡ true → is_saved (blocks ++ new) node ≡ true) → is_saved (b ∷ (blocks ++ new)) node ≡ true
-    by true e later = rw e refl
-    by false e later = rw e (later (sym (rw e refl) ∙ h))
-
 pub saved-last : (blocks : List Block) (b : Block) (node : Id) → node_of b ≡ node → is_saved (blocks ++ b ∷ []) node ≡ true
 saved-last [] b node is = rw ((bytes_eq-Decides (node_of b) node).1 is) refl
 saved-last (x ∷ blocks) b node is = by (bytes_eq (node_of x) node) refl (saved-last blocks b node is)
@@ -101,87 +91,26 @@ saved-last (x ∷ blocks) b node is = by (bytes_eq (node_of x) node) refl (saved
     by true e later = rw e refl
     by false e later = rw e later
 
-pub are_saved-more : (blocks new : List Block) (known : List Revision) → AreSaved blocks known → AreSaved (blocks ++ new) known
-are_saved-more blocks new known h = Each-weaker (λ r. r.group ≡ Changesets → IsTrue (is_saved blocks r.node)) (λ r. r.group ≡ Changesets → IsTrue (is_saved (blocks ++ new) r.node)) (λ r f g. saved-more blocks new r.node (f g)) known h
+pub standing-more : (blocks new : List Block) (known : List Revision) → AreStanding blocks known → AreStanding (blocks ++ new) known
+standing-more blocks new known h =
+    Each-weaker (λ r. r.group ≡ Changesets → IsTrue (stands_in blocks r.node)) (λ r. r.group ≡ Changesets → IsTrue (stands_in (blocks ++ new) r.node)) (λ r f g. stands-more blocks new r.node (f g)) known h
 
-pub are_saved-after : (blocks : List Block) (known : List Revision) (r : Revision) → AreSaved blocks known → (r.group ≡ Changesets → IsTrue (is_saved blocks r.node)) → AreSaved blocks (known_after known r)
-are_saved-after blocks known r h f = by (knows known r.group r.node) refl
+pub standing-after : (blocks : List Block) (known : List Revision) (r : Revision) → AreStanding blocks known → (r.group ≡ Changesets → IsTrue (stands_in blocks r.node)) → AreStanding blocks (known_after known r)
+standing-after blocks known r h f = by (knows known r.group r.node) refl
   where
-    by : (b : Bool) → knows known r.group r.node ≡ b → AreSaved blocks (known_after known r)
+    by : (b : Bool) → knows known r.group r.node ≡ b → AreStanding blocks (known_after known r)
     by true e = rw e h
-    by false e = rw e (Each-append (λ r. r.group ≡ Changesets → IsTrue (is_saved blocks r.node)) known (r ∷ []) h (f, tt))
+    by false e = rw e (Each-append (λ r. r.group ≡ Changesets → IsTrue (stands_in blocks r.node)) known (r ∷ []) h (f, tt))
 
-pub saved-knows : (blocks : List Block) (known : List Revision) (node : Id) → AreSaved blocks known → knows known Changesets node ≡ true → is_saved blocks node ≡ true
-saved-knows blocks [] node h k = absurd (true≢false (sym k))
-saved-knows blocks (r ∷ known) node h k = by (some_true (is_of Changesets node r) (knows known Changesets node) (sym (knows-cons r known Changesets node) ∙ k)) (saved-knows blocks known node h.1)
+-- ---- a revision that came is known
+
+-- what is found under the group and the node of a revision that came
+pub came-found : (known later : List Revision) (r : Revision) → (found : Revision) × (revision_of (known_after known r ++ later) r.group r.node ≡ Some found)
+came-found known later r = by (revision_of known r.group r.node) refl
   where
-    by : ((is_of Changesets node r ≡ true) ⊎ (knows known Changesets node ≡ true)) → (knows known Changesets node ≡ true → is_saved blocks node ≡ true) → is_saved blocks node ≡ true
-    by (inl a) later = let is = is_of-is Changesets node r a in ap (is_saved blocks) is.node_is ∙ h.0 (sym is.group_is)
-    by (inr b) later = later b
+    self : is_of r.group r.node r ≡ true
+    self = is_of-self r
 
--- ---- the parents of a changeset that was added to those known
-
-added-at : (known xs ys : List Revision) (r : Revision) → AreAddedTo known (xs ++ r ∷ ys) → IsAddedTo (known ++ xs) r
-added-at known [] ys r h = subst (λ (l : List Revision). IsAddedTo l r) (sym (append-nil known)) h.0
-added-at known (x ∷ xs) ys r h = subst (λ (l : List Revision). IsAddedTo l r) (append_assoc known (x ∷ []) xs) (added-at (known ++ x ∷ []) xs ys r h.1)
-
-two : (a b : Option FaultName) → first_name (a ∷ b ∷ []) ≡ None → a ≡ None
-two None b h = refl
-two (Some n) b h = absurd cc
-
-second : (a b c : Option FaultName) → first_name (a ∷ b ∷ c ∷ []) ≡ None → b ≡ None
-second None None c h = refl
-second None (Some n) c h = absurd cc
-second (Some n) b c h = absurd cc
-
-not_named : (b : Bool) (n : FaultName) → named_if (not b) n ≡ None → b ≡ true
-not_named true n h = refl
-not_named false n h = absurd cc
-
-known-parents : (known : List Revision) (r : Revision) → addition_fault known r ≡ None → (is_known_parent known r.group r.p ≡ true) × (is_known_parent known r.group r.q ≡ true)
-unfolding ancestry_fault
-known-parents known r h =
-    both (is_known_parent known r.group r.p) (is_known_parent known r.group r.q)
-    (not_named (is_known_parent known r.group r.p && is_known_parent known r.group r.q) _
-    (second (order_fault r.group r) (named_if (not (is_known_parent known r.group r.p && is_known_parent known r.group r.q)) _) (named_if (is_bad_link known r.group r) _)
-    (two (ancestry_fault known r) (text_fault known r) h)))
-
-each-saved : (blocks : List Block) (p q : Id) → (is_null p ≡ false → is_saved blocks p ≡ true) → (is_null q ≡ false → is_saved blocks q ≡ true) → Each (λ p. IsTrue (is_some (block_of_node blocks p))) (not_null (p ∷ q ∷ []))
-each-saved blocks p q f g = by (is_null p) refl (is_null q) refl
-  where
-    by : (t : Bool) → is_null p ≡ t → (u : Bool) → is_null q ≡ u → Each (λ p. IsTrue (is_some (block_of_node blocks p))) (not_null (p ∷ q ∷ []))
-    by true d true e = rw (d, e) tt
-    by true d false e = rw (d, e) (g e, tt)
-    by false d true e = rw (d, e) (f d, tt)
-    by false d false e = rw (d, e) (f d, (g e, tt))
-
-parent-saved : (blocks : List Block) (known : List Revision) (p : Id) → AreSaved blocks known → is_known_parent known Changesets p ≡ true → is_null p ≡ false → is_saved blocks p ≡ true
-parent-saved blocks known p h k n = saved-knows blocks known p h (ap (λ (t : Bool). t || knows known Changesets p) (sym n) ∙ k)
-
--- the changeset came when those before it were known
-pub record CameNew (blocks : List Block) (store : List Revision) (r : Revision) : Type 0 where
-  pub is_held : revision_of store Changesets r.node ≡ Some r
-  pub parents : Each (λ p. IsTrue (is_some (block_of_node blocks p))) (not_null (r.p ∷ r.q ∷ []))
-
-pub came-new : (blocks : List Block) (store before later : List Revision) (r : Revision) → AreAdded store → AreSaved blocks before → store ≡ known_after before r ++ later → r.group ≡ Changesets → is_saved blocks r.node ≡ false
-    → CameNew blocks store r
-came-new blocks store before later r added saved is group free =
-    let fresh : knows before Changesets r.node ≡ false = unknown (knows before Changesets r.node) refl in
-    let fresh' : knows before r.group r.node ≡ false = ap (λ (g : Group). knows before g r.node) group ∙ fresh in
-    let last : known_after before r ≡ before ++ r ∷ [] = rw fresh' refl in
-    let whole : store ≡ (before ++ r ∷ []) ++ later = is ∙ ap (λ (l : List Revision). l ++ later) last in
-    let one = added-at [] before later r (subst AreAdded (whole ∙ append_assoc before (r ∷ []) later) added) in
-    let parents = known-parents before r one.faultless in
-    record {
-      is_held = ap (λ (l : List Revision). revision_of l Changesets r.node) whole ∙ revision-more (before ++ r ∷ []) later Changesets r.node r (revision-last before Changesets r.node r fresh (self r group));
-      parents = each-saved blocks r.p r.q
-          (parent-saved blocks before r.p saved (ap (λ (g : Group). is_known_parent before g r.p) (sym group) ∙ parents.0))
-          (parent-saved blocks before r.q saved (ap (λ (g : Group). is_known_parent before g r.q) (sym group) ∙ parents.1));
-    }
-  where
-    unknown : (b : Bool) → knows before Changesets r.node ≡ b → knows before Changesets r.node ≡ false
-    unknown true e = absurd (true≢false (sym (saved-knows blocks before r.node saved e) ∙ free))
-    unknown false e = e
-
-    self : (r : Revision) → r.group ≡ Changesets → is_of Changesets r.node r ≡ true
-    self r g = rw (g, (bytes_eq-Decides r.node r.node).1 refl) refl
+    by : (o : Option Revision) → revision_of known r.group r.node ≡ o → (found : Revision) × (revision_of (known_after known r ++ later) r.group r.node ≡ Some found)
+    by (Some found) e = (found, rw e (revision-more known later r.group r.node found e))
+    by None e = (r, rw e (revision-more (known ++ r ∷ []) later r.group r.node r (revision-last known r.group r.node r (ap is_some e) self)))

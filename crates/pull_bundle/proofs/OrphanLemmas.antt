@@ -9,10 +9,10 @@ use Rattle.text_model.specs.Id.{Id}
 use Rattle.text_model.proofs.Elements.{drop_next, take_push}
 use Rattle.view_model.specs.Held.{AreChangesetsHeld}
 use Rattle.pair_model.specs.Block.{Block, changesets_in}
-use Rattle.pair_state.specs.declared.state.State.{State}
+use Rattle.pair_state.specs.declared.state_parts.StateParts.{StateParts}
 use Rattle.pair_state.specs.Blocks.{IsStateOf}
 
-pub state-held : (s : State) (nodes : List Id) (blocks : List Block) → IsStateOf s blocks → nodes ≡ s.changesets → AreChangesetsHeld s.known.hg nodes (changesets_in blocks)
+pub state-held : (s : StateParts) (nodes : List Id) (blocks : List Block) → IsStateOf s blocks → nodes ≡ s.changesets → AreChangesetsHeld s.known.hg nodes (changesets_in blocks)
 state-held s nodes blocks state is = subst (λ (l : List Id). AreChangesetsHeld s.known.hg l (changesets_in blocks)) (sym (is ∙ state.changesets)) state.held.held.changesets
 
 module _ {X : Type 0} (test : X → Bool) (xs : List X) (i : ℕ) (x : X) (at : slice_get xs i ≡ Some x) (none : find test (take i xs) ≡ None) where

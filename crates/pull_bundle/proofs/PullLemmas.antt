@@ -20,7 +20,7 @@ use Rattle.view_model.specs.Held.{AreCommitsHeld}
 use Rattle.view_model.specs.Dump.{git_increment, objects_in}
 use Rattle.pair_model.specs.Block.{Block, id_of, commits_in}
 use Rattle.history_model.specs.Pull.{BringBlocks, ChangesetRefused, IsChangesetRefusal, known_with, changesets_among, revisions_among, is_orphan}
-use Rattle.pair_state.specs.declared.state.State.{State}
+use Rattle.pair_state.specs.declared.state_parts.StateParts.{StateParts}
 use Rattle.pair_state.specs.Blocks.{IsStateOf, value_of, block_value}
 use Rattle.pull_outcome.specs.declared.refused.PullFault.{PullFault}
 use Rattle.pull_outcome.specs.declared.refused.PullFault.TheVariants.{Refused, Read, Memory}
@@ -28,14 +28,14 @@ use Rattle.pull_outcome.specs.declared.pulled.Pulled.{Pulled}
 use Rattle.pull_outcome.specs.Refused.{IsRefusedBy, FaultCause}
 use Rattle.bridge_text.specs.Refusals.{refusal_value}
 use Rattle.pull_outcome.specs.Pulls.{GoesOnHg, PulledHg, RefusesHg}
-use Rattle.pull_outcome.specs.AllBlocks.{HasAllBlocks, state_value}
+use Rattle.pair_state.specs.AllBlocks.{HasAllBlocks, state_value}
 use Rattle.pull_bundle.specs.Faults.{IsNoRead}
-use Rattle.pull_bundle.specs.Takes.{AreSaved, HasRead, Starts, TakesArrivals}
+use Rattle.pull_bundle.specs.Takes.{AreStanding, HasRead, Starts, TakesArrivals}
 use Rattle.pull_bundle.specs.Orphans.{IsFirstOrphan}
 
 -- ---- faults
 
-pub memory-refused : (o : Option Bytes) (s : State) → IfSome o (λ bytes. (blocks : List Block) → HasAllBlocks s blocks → RefusesHg s blocks bytes Memory)
+pub memory-refused : (o : Option Bytes) (s : StateParts) → IfSome o (λ bytes. (blocks : List Block) → HasAllBlocks s blocks → RefusesHg s blocks bytes Memory)
 memory-refused None s = tt
 memory-refused (Some bytes) s = λ blocks has. tt
 
@@ -46,27 +46,27 @@ no-read_cause before now Memory h same = same
 
 -- ---- after the reading
 
-pub starts-read : (s read : State) (list : List listed.Arrival) (came : List Arrival) (blocks : List Block) → HasAllBlocks s blocks → HasRead s read list came → Starts read s.known.hg blocks list came
+pub starts-read : (s read : StateParts) (list : List listed.Arrival) (came : List Arrival) (blocks : List Block) → HasAllBlocks s blocks → HasRead s read list came → Starts read s.known.hg blocks list came
 starts-read s read list came blocks has r = record { are = r.are; state = r.state blocks has.state; saved = has.saved; store = r.store }
 
-abbrev pub Told : Option Bytes → State → State → List listed.Arrival → Type 0
+abbrev pub Told : Option Bytes → StateParts → StateParts → List listed.Arrival → Type 0
 Told o s read list = IfSome o (λ bytes. (came : List Arrival) × (bundle_reading s.known.hg bytes ≡ Ok came) × HasRead s read list came)
 
-abbrev pub TakeDue : State → List listed.Arrival → PullFault → Type 0
+abbrev pub TakeDue : StateParts → List listed.Arrival → PullFault → Type 0
 TakeDue read list e = (base : List Revision) (blocks : List Block) (came : List Arrival) → Starts read base blocks list came
     → IsRefusedBy (IsChangesetRefusal read.known.hg (state_value read blocks) (changesets_among came)) e
 
-abbrev pub OrphanDue : State → List listed.Arrival → PullFault → Type 0
+abbrev pub OrphanDue : StateParts → List listed.Arrival → PullFault → Type 0
 OrphanDue next list e = (blocks : List Block) (came : List Arrival) → IsStateOf next blocks → list ≡ map arrival_of came → IsRefusedBy (IsFirstOrphan blocks came) e
 
-abbrev pub Taken : State → State → List listed.Arrival → Type 0
+abbrev pub Taken : StateParts → StateParts → List listed.Arrival → Type 0
 Taken read next list = (base : List Revision) (blocks : List Block) (came : List Arrival) → Starts read base blocks list came → TakesArrivals read next base blocks came
 
-module _ (s read : State) (list : List listed.Arrival) (came : List Arrival) (r : HasRead s read list came) (blocks : List Block) (rs : List Revision) where
+module _ (s read : StateParts) (list : List listed.Arrival) (came : List Arrival) (r : HasRead s read list came) (blocks : List Block) (rs : List Revision) where
   pub brings-told : (new : List Block) → BringBlocks read.known.hg read.known.git blocks rs new → BringBlocks (known_with (state_value s blocks) came) s.known.git blocks rs new
   brings-told new h = subst (λ (l : List Revision). BringBlocks l s.known.git blocks rs new) r.store (subst (λ (l : List Object). BringBlocks read.known.hg l blocks rs new) r.git h)
 
-refusal-told : (s read : State) (list : List listed.Arrival) (came : List Arrival) → HasRead s read list came → (blocks : List Block) (why : Refusal) → IsChangesetRefusal read.known.hg (state_value read blocks) (changesets_among came) why
+refusal-told : (s read : StateParts) (list : List listed.Arrival) (came : List Arrival) → HasRead s read list came → (blocks : List Block) (why : Refusal) → IsChangesetRefusal read.known.hg (state_value read blocks) (changesets_among came) why
     → IsChangesetRefusal (known_with (state_value s blocks) came) (state_value s blocks) (changesets_among came) why
 refusal-told s read list came r blocks why x = record {
   before = x.before;
@@ -78,19 +78,19 @@ refusal-told s read list came r blocks why x = record {
   is_new = x.is_new;
   name = x.name;
   fault =
-      subst (λ (l : List Revision). ChangesetRefused l (s.known.git ++ objects_in (commits_in x.new)) (blocks ++ x.new) (x.refused).revision x.name) r.store
-      (subst (λ (l : List Object). ChangesetRefused read.known.hg (l ++ objects_in (commits_in x.new)) (blocks ++ x.new) (x.refused).revision x.name) r.git x.fault);
+      subst (λ (l : List Revision). ChangesetRefused l (s.known.git ++ objects_in (commits_in x.new)) (blocks ++ x.new) ((x.refused).revision).node x.name) r.store
+      (subst (λ (l : List Object). ChangesetRefused read.known.hg (l ++ objects_in (commits_in x.new)) (blocks ++ x.new) ((x.refused).revision).node x.name) r.git x.fault);
   is = x.is;
 }
 
-pub take-refused : (o : Option Bytes) (s read : State) (list : List listed.Arrival) (e : PullFault) → Told o s read list → TakeDue read list e → IfSome o (λ bytes. (blocks : List Block) → HasAllBlocks s blocks → RefusesHg s blocks bytes e)
+pub take-refused : (o : Option Bytes) (s read : StateParts) (list : List listed.Arrival) (e : PullFault) → Told o s read list → TakeDue read list e → IfSome o (λ bytes. (blocks : List Block) → HasAllBlocks s blocks → RefusesHg s blocks bytes e)
 take-refused None s read list e told due = tt
 take-refused (Some bytes) s read list Memory told due = λ blocks has. tt
 take-refused (Some bytes) s read list Read told due = λ blocks has. tt
 take-refused (Some bytes) s read list (Refused why) told due = λ blocks has.
     inr (told.0, told.1, inl (refusal-told s read list told.0 told.2 blocks (refusal_value why) (due s.known.hg blocks told.0 (starts-read s read list told.0 blocks has told.2))))
 
-pub orphan-refused : (o : Option Bytes) (s read next : State) (list : List listed.Arrival) (e : PullFault) → Told o s read list → Taken read next list → OrphanDue next list e
+pub orphan-refused : (o : Option Bytes) (s read next : StateParts) (list : List listed.Arrival) (e : PullFault) → Told o s read list → Taken read next list → OrphanDue next list e
     → IfSome o (λ bytes. (blocks : List Block) → HasAllBlocks s blocks → RefusesHg s blocks bytes e)
 orphan-refused None s read next list e told taken due = tt
 orphan-refused (Some bytes) s read next list Memory told taken due = λ blocks has. tt
@@ -111,16 +111,16 @@ walks-are : (known : List Object) (blocks : List Block) → Each (λ b. walk_fau
 walks-are known [] h = tt
 walks-are known (b ∷ blocks) h = (h.0, walks-are known blocks h.1)
 
-pub walkable : (s : State) (blocks : List Block) → IsStateOf s blocks → AreWalkableCommits s.known.git s.commits (commits_in blocks)
+pub walkable : (s : StateParts) (blocks : List Block) → IsStateOf s blocks → AreWalkableCommits s.known.git s.commits (commits_in blocks)
 walkable s blocks state = (
   subst (λ (l : List Id). AreCommitsHeld s.known.git l (commits_in blocks)) (ids-are blocks ∙ sym state.commits) state.held.held.commits,
   walks-are s.known.git blocks state.held.held.walks,
 )
 
-count-is : (s : State) (blocks : List Block) → IsStateOf s blocks → length s.blocks ≡ length blocks
+count-is : (s : StateParts) (blocks : List Block) → IsStateOf s blocks → length s.blocks ≡ length blocks
 count-is s blocks state = sym (length-map s.blocks value_of) ∙ ap length state.blocks_are ∙ length-map blocks block_value
 
-pub count-within : (s next : State) (blocks new : List Block) (n : ℕ) → n ≡ length s.blocks → IsStateOf s blocks → IsStateOf next (blocks ++ new)
+pub count-within : (s next : StateParts) (blocks new : List Block) (n : ℕ) → n ≡ length s.blocks → IsStateOf s blocks → IsStateOf next (blocks ++ new)
     → n ≤ length next.commits
 count-within s next blocks new n is state after =
     let mine = count-is s blocks state in
@@ -136,13 +136,13 @@ written blocks new n is =
 
 -- ---- a pull that is accepted
 
-abbrev pub Written : State → ℕ → Bytes → Type 0
+abbrev pub Written : StateParts → ℕ → Bytes → Type 0
 Written next n made = (cs : List CommitView) → AreWalkableCommits next.known.git next.commits cs → made ≡ git_increment (take n cs) (drop n cs)
 
-abbrev pub NoOrphan : State → List listed.Arrival → Type 0
+abbrev pub NoOrphan : StateParts → List listed.Arrival → Type 0
 NoOrphan next list = (blocks : List Block) (came : List Arrival) → IsStateOf next blocks → list ≡ map arrival_of came → find (is_orphan blocks) came ≡ None
 
-module _ (s read next : State) (list : List listed.Arrival) (n : ℕ) (made : Bytes) (count : n ≡ length s.blocks) (taken : Taken read next list)
+module _ (s read next : StateParts) (list : List listed.Arrival) (n : ℕ) (made : Bytes) (count : n ≡ length s.blocks) (taken : Taken read next list)
     (write : Written next n made) where
   abbrev outcome : Pulled
   outcome = record { state = next; first_new = n; made = made }
@@ -157,7 +157,7 @@ module _ (s read next : State) (list : List listed.Arrival) (n : ℕ) (made : By
     after : HasAllBlocks next (blocks ++ took.takes.new)
     after = record {
       state = took.takes.state;
-      saved = subst (AreSaved (blocks ++ took.takes.new)) (sym (took.takes.revisions ∙ r.store)) took.saved;
+      saved = subst (AreStanding (blocks ++ took.takes.new)) (sym (took.takes.revisions ∙ r.store)) took.saved;
     }
 
     writes : made ≡ git_increment (commits_in blocks) (commits_in took.takes.new)

@@ -1,5 +1,5 @@
 -- What the reading of a bundle leaves of a state.
-use Rattle.std.proofs.Common.{◌≡◌, ◌++◌, ℕ, List, Option, Some, None, Ok, Err, refl, sym, ap, subst, ◌∙◌, map}
+use Rattle.std.proofs.Common.{◌≡◌, ◌++◌, ℕ, inl, List, Option, Some, None, Ok, Err, refl, sym, ap, subst, ◌∙◌, map}
 use Rattle.std.specs.Prelude.{IfSome, IsTrue, Result}
 use Rattle.text_model.specs.Text.{Bytes}
 use Rattle.text_model.specs.Id.{Id, has_id}
@@ -13,6 +13,7 @@ use Rattle.hg_bundle.specs.declared.fault.BundleFault.{BundleFault}
 use Rattle.hg_bundle.specs.declared.fault.BundleFault.TheVariants as bundle
 use Rattle.hg_bundle.specs.Faults as read
 use Rattle.hg_bundle.specs.Arrivals.{Reads, refused, arrival_of, known_after_all, revisions_of}
+use Rattle.git_store.specs.Known.{AreKnown}
 use Rattle.hg_store.specs.Known.{AreAdded}
 use Rattle.view_model.specs.View.{changeset_node}
 use Rattle.view_model.specs.Held.{AreChangesetsHeld}
@@ -20,14 +21,15 @@ use Rattle.pair_model.specs.Block.{Block, changesets_in}
 use Rattle.history_model.specs.Pull.{all_known}
 use Rattle.pair_known.specs.declared.known.Known.{Known}
 use Rattle.pair_known.specs.Blocks.{IsHistoryHeld}
-use Rattle.pair_state.specs.declared.state.State.{State}
+use Rattle.pair_state.specs.declared.state_parts.StateParts.{StateParts}
 use Rattle.pair_state.specs.Blocks.{IsAgreed, IsStateOf, value_of}
+use Rattle.pull_outcome.specs.Names.{IsOfPullHg}
 use Rattle.pull_outcome.specs.Refused.{IsRefusedBy, FaultCause, bundle_refused}
 use Rattle.pull_bundle.specs.Takes.{HasRead}
 use Rattle.pull_bundle.proofs.Known.{known-is, grown, changeset-more, changesets-more}
 
 -- the next state has another store of revisions, and all else as it was
-pub record HasStore (s next : State) (hg : List Revision) : Type 0 where
+pub record HasStore (s next : StateParts) (hg : List Revision) : Type 0 where
   pub known : next.known ≡ record { hg = hg; git = s.known.git; partners = s.known.partners }
   pub blocks : next.blocks ≡ s.blocks
   pub changesets : next.changesets ≡ s.changesets
@@ -36,7 +38,7 @@ pub record HasStore (s next : State) (hg : List Revision) : Type 0 where
   pub names : next.names ≡ s.names
   pub agreed : next.agreed ≡ s.agreed
 
-module _ (s next : State) (hg rs : List Revision) (has : HasStore s next hg) (is : hg ≡ known_after_all s.known.hg rs) (added : AreAdded hg) where
+module _ (s next : StateParts) (hg rs : List Revision) (has : HasStore s next hg) (is : hg ≡ known_after_all s.known.hg rs) (added : AreAdded hg) where
   abbrev more : List Revision
   more = (grown s.known.hg rs).0
 
@@ -65,6 +67,7 @@ module _ (s next : State) (hg rs : List Revision) (has : HasStore s next hg) (is
           added = added;
           partners = state.held.partners;
         });
+        sound = subst (λ (k : Known). AreKnown k.git) (sym has.known) state.sound;
         blocks_are = ap (map value_of) has.blocks ∙ state.blocks_are;
         changesets = has.changesets ∙ state.changesets;
         commits = has.commits ∙ state.commits;
@@ -82,7 +85,7 @@ module _ (s next : State) (hg rs : List Revision) (has : HasStore s next hg) (is
     names = has.names;
   }
 
-pub told : (o : Option Bytes) (s next : State) (hg : List Revision) (list : List listed.Arrival) → HasStore s next hg → AreAdded hg → IfSome o (λ bytes. Reads s.known.hg bytes (Ok (hg, list)))
+pub told : (o : Option Bytes) (s next : StateParts) (hg : List Revision) (list : List listed.Arrival) → HasStore s next hg → AreAdded hg → IfSome o (λ bytes. Reads s.known.hg bytes (Ok (hg, list)))
     → IfSome o (λ bytes. (came : List Arrival) × (bundle_reading s.known.hg bytes ≡ Ok came) × HasRead s next list came)
 told None s next hg list has added h = h
 told (Some bytes) s next hg list has added h = (h.0, h.1, has-read s next hg (revisions_of h.0) has h.3 added list h.0 h.2 refl)
@@ -104,3 +107,8 @@ pub fault-cause : (before now : ℕ) (fault : BundleFault) → read.FaultCause b
 fault-cause before now (bundle.Refused why) h = h
 fault-cause before now bundle.Read h = h
 fault-cause before now bundle.Memory h = h
+
+pub fault-names : (fault : BundleFault) → read.IsReadFault fault → IsOfPullHg (bundle_refused fault)
+fault-names (bundle.Refused why) h = inl h
+fault-names bundle.Read h = tt
+fault-names bundle.Memory h = tt

@@ -1,19 +1,19 @@
 -- One changeset: why it is refused, and the block that it gets.
 use Rattle.std.proofs.Common.{◌≡◌, inl, inr, Bool, true, false, List, [], ◌∷◌, ◌++◌, map, Option, Some, refl, sym, ap, subst, ◌∙◌, append-nil, arith}
-use Rattle.std.specs.Prelude.{Result, Ok, Err, IfOk, IfErr, is_some, IsTrue, bytes_eq}
-use Rattle.text_model.specs.Lists.{Each, rises}
+use Rattle.std.specs.Prelude.{Result, Ok, Err, IfOk, IfErr, is_some, IsTrue}
+use Rattle.text_model.specs.Lists.{rises}
 use Rattle.text_model.specs.Text.{Bytes, is_below}
 use Rattle.text_model.specs.Id.{Id}
 use Rattle.text_model.specs.Fault.{FaultName}
 use Rattle.text_model.specs.Fault as fault
-use Rattle.text_model.proofs.Options.{some_is, none_is, or_false}
+use Rattle.text_model.proofs.Options.{none_is, or_false}
 use Rattle.hg_model.specs.Revision.{Revision, Changesets, revision_of}
 use Rattle.git_model.specs.Object.{Object}
 use Rattle.git_model.specs.Residue.{ResidueItem}
 use Rattle.git_model.proofs.SortLemmas.{rises-ascends}
 use Rattle.view_model.specs.View.{Row, TreeRow, ChangesetView, IsChangesetView, HaveSameBodies, HasBodiesOf, commit_objects}
 use Rattle.view_model.specs.Held.{IsChangesetHeld, AreChangesetsHeld}
-use Rattle.pair_model.specs.Block.{Block, node_of, id_of, block_of_node, not_null}
+use Rattle.pair_model.specs.Block.{Block, block_of_node}
 use Rattle.pair_model.specs.Rule.{rule_commit, tree_row_of, tree_row_with, carried_to}
 use Rattle.pair_model.specs.Plain.{block_of_changeset}
 use Rattle.pair_model.specs.Collision.{commit_collides}
@@ -22,19 +22,20 @@ use Rattle.history_model.specs.Pull.{ChangesetRefused, ViewRefused, is_saved}
 use Rattle.bridge_text.specs.Refusals.{fault_name}
 use Rattle.pair_known.specs.declared.hg_draft.HgDraft.{HgDraft}
 use Rattle.pair_known.specs.Drafts.{IsHgDraft}
-use Rattle.pair_known.specs.Over.{IsChangesetOver}
+use Rattle.pair_known.specs.Over.{IsChangesetIn}
 use Rattle.pair_known.specs.Partners.{git_at}
 use Rattle.pair_known.specs.declared.git_draft.GitDraft.{GitDraft}
 use Rattle.commit_rule.proofs.FileLemmas.{all-blobs, same-paths}
 use Rattle.commit_rule.proofs.Handed.{files-with}
-use Rattle.pair_state.specs.declared.state.State.{State}
+use Rattle.pair_state.specs.declared.state_parts.StateParts.{StateParts}
 use Rattle.pair_state.specs.Blocks.{IsStateOf}
+use Rattle.pair_state.proofs.BlockLemmas.{git-some}
 use Rattle.pair_state.specs.Push.{HaveSame, CommitPushed, PushesCommit}
 use Rattle.pull_bundle.specs.declared.fault.TakeFault.{TakeFault}
 use Rattle.pull_bundle.specs.declared.fault.TakeFault.TheVariants.{Refused, Memory}
 use Rattle.pull_bundle.specs.Faults.{IsTakeFault, ViewLacks, RuleRefuses}
 use Rattle.pull_bundle.specs.Takes.{IsRuled, Comes, IsNew, GetsBlock, Takes, IsRefusedNew}
-use Rattle.pull_bundle.proofs.Known.{came-new}
+use Rattle.pull_bundle.proofs.Known.{came-found}
 use Rattle.pull_bundle.proofs.Lacks.{no-manifest_lacks, no-file_lacks}
 use Rattle.pull_bundle.proofs.Blocks.{brings-saved, brings-one}
 
@@ -56,32 +57,33 @@ ruled-bodies blocks v view =
     (subst (λ (paths : List Bytes). IsTrue (rises is_below paths)) (sym (same-paths v.rows)) view.in_order) in
     subst (HaveSameBodies v.rows) (sym (files-with (carried_to blocks v) (map tree_row_of v.rows) up (all-blobs v.rows))) (with-bodies (carried_to blocks v) v.rows)
 
-module _ (s : State) (node : Id) (blocks : List Block) (r : Revision) (is : r.node ≡ node) (new : IsNew s blocks r) where
-  at : revision_of s.known.hg Changesets node ≡ Some r
+module _ (s : StateParts) (node : Id) (blocks : List Block) (r : Revision) (is : r.node ≡ node) (new : IsNew s blocks r) where
+  at : revision_of s.known.hg Changesets node ≡ Some new.found
   at = ap (revision_of s.known.hg Changesets) (sym is) ∙ new.is_held
 
   free : is_saved blocks r.node ≡ false
   free = ap is_some new.free
 
   pub view-refused : (name : FaultName) → ((r' : Revision) → revision_of s.known.hg Changesets node ≡ Some r' → ViewLacks s.known.hg r' name) → IsRefusedNew s blocks r name
-  view-refused name lacks = record { is_new = free; fault = by (lacks r at) }
+  view-refused name lacks = record { is_new = free; fault = by (lacks new.found at) }
     where
-      by : ViewLacks s.known.hg r name → ChangesetRefused s.known.hg s.known.git blocks r name
-      by (inl a) = inl a
-      by (inr (na, inl b)) = inr (na, inl b)
+      by : ViewLacks s.known.hg new.found name → ChangesetRefused s.known.hg s.known.git blocks r.node name
+      by (inl a) = (new.found, new.is_held, inl a)
+      by (inr (na, inl b)) = (new.found, new.is_held, inr (na, inl b))
       by (inr (na, inr b)) = absurd b.1
 
   module _ (v : ChangesetView) (held : IsChangesetHeld s.known.hg node v) where
-    same : held.revision ≡ r
-    same = some_is (sym held.is_held ∙ at)
-
     held-here : IsChangesetHeld s.known.hg r.node v
     held-here = subst (λ (n : Id). IsChangesetHeld s.known.hg n v) (sym is) held
 
     refused-by : (name : FaultName) → ViewRefused s.known.git blocks v name → IsRefusedNew s blocks r name
     refused-by name why = record {
       is_new = free;
-      fault = inr (no-manifest_lacks s.known.hg node r v held at, inr (no-file_lacks s.known.hg node r v held at, (v, held-here, why)));
+      fault = (
+        new.found,
+        new.is_held,
+        inr (no-manifest_lacks s.known.hg node new.found v held at, inr (no-file_lacks s.known.hg node new.found v held at, (v, held-here, why))),
+      );
     }
 
     pub rule-refused : (name : FaultName) → RuleRefuses blocks v name → IsRefusedNew s blocks r name
@@ -89,7 +91,8 @@ module _ (s : State) (node : Id) (blocks : List Block) (r : Revision) (is : r.no
     rule-refused name (inr (na, inl b)) = refused-by name (inr (na, inl b))
     rule-refused name (inr (na, inr (nb, inl c))) = refused-by name (inr (na, inr (nb, inl c)))
     rule-refused name (inr (na, inr (nb, inr (nc, inl d)))) = refused-by name (inr (na, inr (nb, inr (nc, inl d))))
-    rule-refused name (inr (na, inr (nb, inr (nc, inr d)))) = absurd d.1
+    rule-refused name (inr (na, inr (nb, inr (nc, inr (nd, inl e))))) = refused-by name (inr (na, inr (nb, inr (nc, inr (nd, inl e)))))
+    rule-refused name (inr (na, inr (nb, inr (nc, inr (nd, inr e))))) = absurd e.1
 
     pub collision-refused : (d : GitDraft) → IsRuled s.known.git d blocks v → IsTrue (commit_side_collides s.known.git blocks (block_of_changeset blocks v))
         → IsRefusedNew s blocks r fault.Collision
@@ -99,10 +102,13 @@ module _ (s : State) (node : Id) (blocks : List Block) (r : Revision) (is : r.no
           inr (
             (λ t. clash t ruled.plain.no_link),
             inr (
-              (λ k. k ruled.ruled.fits),
+              (λ k. k ruled.parents),
               inr (
-                (λ k. k ruled.plain),
-                inl (sym (or_false (commit_collides s.known.git blocks (rule_commit blocks v))) ∙ collides, refl),
+                (λ k. k ruled.ruled.fits),
+                inr (
+                  (λ k. k ruled.plain),
+                  inl (sym (or_false (commit_collides s.known.git blocks (rule_commit blocks v))) ∙ collides, refl),
+                ),
               ),
             ),
           ),
@@ -111,20 +117,14 @@ module _ (s : State) (node : Id) (blocks : List Block) (r : Revision) (is : r.no
         clash : {b : Bool} → b ≡ true → b ≡ false → ⊥
         clash t f = absurd cc
 
-    pub over-it : (d : HgDraft) → IsHgDraft s.known.hg d v → IsChangesetView v → IsChangesetOver s.known blocks d v
-    over-it d draft view = record {
-      inside = record { history = new.state.held; draft = draft; view = view };
-      parents = subst (λ (ids : List Id). Each (λ p. IsTrue (is_some (block_of_node blocks p))) (not_null ids)) ids new.parents;
-    }
-      where
-        ids : r.p ∷ r.q ∷ [] ≡ v.p ∷ v.q ∷ []
-        ids = sym (λ i. (held.parents.0 ∙ ap (λ (x : Revision). x.p) same) i ∷ (held.parents.1 ∙ ap (λ (x : Revision). x.q) same) i ∷ [])
+    pub inside-it : (d : HgDraft) → IsHgDraft s.known.hg d v → IsChangesetView v → IsChangesetIn s.known blocks d v
+    inside-it d draft view = record { history = new.state.held; draft = draft; view = view }
 
-    pub pushes : (h : HgDraft) (links : List Id) (d : GitDraft) → links ≡ [] → IsChangesetOver s.known blocks h v → IsRuled s.known.git d blocks v
+    pub pushes : (h : HgDraft) (links : List Id) (d : GitDraft) → links ≡ [] → IsChangesetIn s.known blocks h v → IsRuled s.known.git d blocks v
         → PushesCommit s h links d node blocks (block_of_changeset blocks v)
-    pushes h links d none over ruled = record {
+    pushes h links d none inside ruled = record {
       state = new.state;
-      draft = over.inside.draft;
+      draft = inside.draft;
       held = held;
       links_held = subst (λ (ids : List Id). AreChangesetsHeld s.known.hg ids []) (sym none) tt;
       links_are = none;
@@ -132,10 +132,10 @@ module _ (s : State) (node : Id) (blocks : List Block) (r : Revision) (is : r.no
       no_link = ruled.plain.no_link;
       free = ap (block_of_node blocks) (sym is) ∙ new.free;
       ruled = ruled.ruled;
-      bodies = ruled-bodies blocks v over.inside.view;
+      bodies = ruled-bodies blocks v inside.view;
     }
 
-    pub gets-block : (next : State) (d : GitDraft) → IsRuled s.known.git d blocks v → CommitPushed s next blocks (block_of_changeset blocks v) → GetsBlock s next blocks r
+    pub gets-block : (next : StateParts) (d : GitDraft) → IsRuled s.known.git d blocks v → CommitPushed s next blocks (block_of_changeset blocks v) → GetsBlock s next blocks r
     gets-block next d ruled pushed = record {
       block = block_of_changeset blocks v;
       gives = record {
@@ -143,6 +143,7 @@ module _ (s : State) (node : Id) (blocks : List Block) (r : Revision) (is : r.no
         is_held = held-here;
         passes = record {
           no_clash = ruled.no_clash;
+          parents = ruled.parents;
           fits = ruled.ruled.fits;
           plain = ruled.plain;
           apart = sym (or_false (commit_collides s.known.git blocks (rule_commit blocks v))) ∙ pushed.apart;
@@ -158,41 +159,32 @@ module _ (s : State) (node : Id) (blocks : List Block) (r : Revision) (is : r.no
 
 -- ---- what faults say
 
-abbrev pub ViewDue : State → Id → FaultName → Type 0
+abbrev pub ViewDue : StateParts → Id → FaultName → Type 0
 ViewDue s node name = (r : Revision) → revision_of s.known.hg Changesets node ≡ Some r → ViewLacks s.known.hg r name
 
-abbrev pub RuleDue : State → HgDraft → FaultName → Type 0
-RuleDue s d name = (blocks : List Block) (v : ChangesetView) → IsChangesetOver s.known blocks d v → RuleRefuses blocks v name
+abbrev pub RuleDue : StateParts → HgDraft → FaultName → Type 0
+RuleDue s d name = (blocks : List Block) (v : ChangesetView) → IsChangesetIn s.known blocks d v → RuleRefuses blocks v name
 
-abbrev pub NewDue : State → Id → FaultName → Type 0
+abbrev pub NewDue : StateParts → Id → FaultName → Type 0
 NewDue s node name = (blocks : List Block) (r : Revision) → r.node ≡ node → IsNew s blocks r → IsRefusedNew s blocks r name
 
-abbrev pub ComesDue : State → Id → FaultName → Type 0
+abbrev pub ComesDue : StateParts → Id → FaultName → Type 0
 ComesDue s node name = (blocks : List Block) (before : List Revision) (r : Revision) → r.node ≡ node → r.group ≡ Changesets → Comes s blocks before r → IsRefusedNew s blocks r name
 
-pub view-fault : (s : State) (node : Id) (f : TakeFault) → IsTakeFault (ViewDue s node) f → IsTakeFault (NewDue s node) f
+pub view-fault : (s : StateParts) (node : Id) (f : TakeFault) → IsTakeFault (ViewDue s node) f → IsTakeFault (NewDue s node) f
 view-fault s node f h = fault-map (ViewDue s node) (NewDue s node) (λ name lacks blocks r is new. view-refused s node blocks r is new name lacks) f h
 
-pub rule-fault : (s : State) (node : Id) (d : HgDraft) (v : ChangesetView) → IsChangesetHeld s.known.hg node v → IsHgDraft s.known.hg d v → IsChangesetView v → (f : TakeFault) → IsTakeFault (RuleDue s d) f → IsTakeFault (NewDue s node) f
+pub rule-fault : (s : StateParts) (node : Id) (d : HgDraft) (v : ChangesetView) → IsChangesetHeld s.known.hg node v → IsHgDraft s.known.hg d v → IsChangesetView v → (f : TakeFault) → IsTakeFault (RuleDue s d) f → IsTakeFault (NewDue s node) f
 rule-fault s node d v held draft view f h =
-    fault-map (RuleDue s d) (NewDue s node) (λ name why blocks r is new. rule-refused s node blocks r is new v held name (why blocks v (over-it s node blocks r is new v held d draft view))) f h
+    fault-map (RuleDue s d) (NewDue s node) (λ name why blocks r is new. rule-refused s node blocks r is new v held name (why blocks v (inside-it s node blocks r is new v held d draft view))) f h
 
 -- ---- a changeset that stands in a block, and one that doesn't
 
-partner-saved : (blocks : List Block) (node : Id) → is_some (git_at (map (λ b. (node_of b, id_of b)) blocks) node) ≡ is_saved blocks node
-partner-saved [] node = refl
-partner-saved (b ∷ blocks) node = by (bytes_eq (node_of b) node) refl (partner-saved blocks node)
-  where
-    by : (t : Bool) → bytes_eq (node_of b) node ≡ t → is_some (git_at (map (λ b. (node_of b, id_of b)) blocks) node) ≡ is_saved blocks node
-        → is_some (git_at (map (λ b. (node_of b, id_of b)) (b ∷ blocks)) node) ≡ is_saved (b ∷ blocks) node
-    by true e later = rw e refl
-    by false e later = rw e later
-
-pub is-saved : (s : State) (blocks : List Block) (node node' : Id) (o : Option Id) → IsStateOf s blocks → node' ≡ node → o ≡ git_at s.known.partners node → is_saved blocks node' ≡ is_some o
+pub is-saved : (s : StateParts) (blocks : List Block) (node node' : Id) (o : Option Id) → IsStateOf s blocks → node' ≡ node → o ≡ git_at s.known.partners node → is_saved blocks node' ≡ is_some o
 is-saved s blocks node node' o state is at =
-    ap (is_saved blocks) is ∙ sym (partner-saved blocks node) ∙ ap (λ (l : List (Id × Id)). is_some (git_at l node)) (sym state.held.held.partners) ∙ ap is_some (sym at)
+    ap (is_saved blocks) is ∙ sym (git-some s.known blocks state.held node) ∙ ap is_some (sym at)
 
-pub takes-saved : (s : State) (blocks : List Block) (r : Revision) → IsStateOf s blocks → is_saved blocks r.node ≡ true → Takes s s blocks (r ∷ [])
+pub takes-saved : (s : StateParts) (blocks : List Block) (r : Revision) → IsStateOf s blocks → is_saved blocks r.node ≡ true → Takes s s blocks (r ∷ [])
 takes-saved s blocks r state saved = record {
   new = [];
   brings = brings-saved s.known.hg s.known.git blocks r saved;
@@ -203,7 +195,7 @@ takes-saved s blocks r state saved = record {
   names = refl;
 }
 
-pub takes-new : (s next : State) (blocks : List Block) (r : Revision) → is_saved blocks r.node ≡ false → GetsBlock s next blocks r → Takes s next blocks (r ∷ [])
+pub takes-new : (s next : StateParts) (blocks : List Block) (r : Revision) → is_saved blocks r.node ≡ false → GetsBlock s next blocks r → Takes s next blocks (r ∷ [])
 takes-new s next blocks r free got = record {
   new = got.block ∷ [];
   brings = brings-one s.known.hg s.known.git blocks r got.block free got.gives;
@@ -214,10 +206,15 @@ takes-new s next blocks r free got = record {
   names = got.names;
 }
 
-pub is-new : (s : State) (blocks : List Block) (before : List Revision) (r : Revision) → Comes s blocks before r → r.group ≡ Changesets → is_saved blocks r.node ≡ false → IsNew s blocks r
+pub is-new : (s : StateParts) (blocks : List Block) (before : List Revision) (r : Revision) → Comes s blocks before r → r.group ≡ Changesets → is_saved blocks r.node ≡ false → IsNew s blocks r
 is-new s blocks before r comes group free =
-    let came = came-new blocks s.known.hg before comes.later r comes.state.held.added comes.saved comes.store group free in
-    record { state = comes.state; free = none_is (block_of_node blocks r.node) free; is_held = came.is_held; parents = came.parents }
+    let known = came-found before comes.later r in
+    record {
+      state = comes.state;
+      free = none_is (block_of_node blocks r.node) free;
+      found = known.0;
+      is_held = (λ i. revision_of (comes.store i) (sym group i) r.node) ∙ known.1;
+    }
 
 pub ok-map : {T E : Type 0} (P Q : T → Type 0) → ((t : T) → P t → Q t) → (o : Result T E) → IfOk o P → IfOk o Q
 ok-map P Q f (Ok t) h = f t h
@@ -227,17 +224,17 @@ pub err-map : {T E : Type 0} (P Q : E → Type 0) → ((e : E) → P e → Q e) 
 err-map P Q f (Ok t) h = h
 err-map P Q f (Err e) h = f e h
 
-module _ (s : State) (node : Id) (free : (blocks : List Block) (r : Revision) → IsStateOf s blocks → r.node ≡ node → is_saved blocks r.node ≡ false) where
-  abbrev GetsDue : State → Type 0
+module _ (s : StateParts) (node : Id) (free : (blocks : List Block) (r : Revision) → IsStateOf s blocks → r.node ≡ node → is_saved blocks r.node ≡ false) where
+  abbrev GetsDue : StateParts → Type 0
   GetsDue next = (blocks : List Block) (r : Revision) → r.node ≡ node → IsNew s blocks r → GetsBlock s next blocks r
 
-  abbrev TakesDue : State → Type 0
+  abbrev TakesDue : StateParts → Type 0
   TakesDue next = (blocks : List Block) (before : List Revision) (r : Revision) → r.node ≡ node → r.group ≡ Changesets → Comes s blocks before r → Takes s next blocks (r ∷ [])
 
-  pub all-taken : (o : Result State TakeFault) → IfOk o GetsDue → IfOk o TakesDue
+  pub all-taken : (o : Result StateParts TakeFault) → IfOk o GetsDue → IfOk o TakesDue
   all-taken o h = ok-map GetsDue TakesDue (λ next f blocks before r is group comes.
       takes-new s next blocks r (free blocks r comes.state is) (f blocks r is (is-new s blocks before r comes group (free blocks r comes.state is)))) o h
 
-  pub all-refused : (o : Result State TakeFault) → IfErr o (IsTakeFault (NewDue s node)) → IfErr o (IsTakeFault (ComesDue s node))
+  pub all-refused : (o : Result StateParts TakeFault) → IfErr o (IsTakeFault (NewDue s node)) → IfErr o (IsTakeFault (ComesDue s node))
   all-refused o h = err-map (IsTakeFault (NewDue s node)) (IsTakeFault (ComesDue s node)) (λ e k. fault-map (NewDue s node) (ComesDue s node) (λ name f blocks before r is group comes.
       f blocks r is (is-new s blocks before r comes group (free blocks r comes.state is))) e k) o h

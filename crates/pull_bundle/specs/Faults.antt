@@ -8,7 +8,8 @@ use Rattle.pair_model.specs.Block.{Block}
 use Rattle.pair_model.specs.Octopus.{is_link_view}
 use Rattle.pair_model.specs.Plain.{IsPlainChangeset}
 use Rattle.pair_model.specs.Rule.{rule_commit}
-use Rattle.history_model.specs.Pull.{Unless, Nothing, LacksManifest, LacksFile}
+use Rattle.history_model.specs.Pull.{Unless, Nothing, LacksManifest, LacksFile, AreParentsSaved}
+use Rattle.pull_outcome.specs.Names.{IsChangesetName}
 use Rattle.pull_outcome.specs.declared.refused.PullFault.{PullFault}
 use Rattle.pull_outcome.specs.declared.refused.PullFault.TheVariants as pull
 use Rattle.bridge_text.specs.Refusals.{fault_name}
@@ -19,6 +20,11 @@ use Rattle.pull_bundle.specs.declared.fault.TakeFault.TheVariants.{Refused, Memo
 abbrev pub IsTakeFault : (FaultName → Type 0) → TakeFault → Type 0
 IsTakeFault Due (Refused why) = Due (fault_name why)
 IsTakeFault Due Memory = ⊤
+
+-- the fault is one of a changeset
+abbrev pub IsOfChangeset : TakeFault → Type 0
+IsOfChangeset (Refused why) = IsChangesetName why
+IsOfChangeset Memory = ⊤
 
 -- no read has failed
 abbrev pub IsNoRead : PullFault → Type 0
@@ -35,5 +41,6 @@ abbrev pub RuleRefuses : List Block → ChangesetView → FaultName → Type 0
 RuleRefuses blocks h =
     Unless (IsTrue (has_clash (paths_of h.rows))) fault.PathClash
     (Unless (IsTrue (is_link_view h)) fault.NotPlain
+    (Unless (¬ (AreParentsSaved blocks h)) fault.NotPlain
     (Unless (¬ (CommitFits (rule_commit blocks h))) fault.PairLimit
-    (Unless (¬ (IsPlainChangeset blocks h)) fault.NotPlain Nothing)))
+    (Unless (¬ (IsPlainChangeset blocks h)) fault.NotPlain Nothing))))

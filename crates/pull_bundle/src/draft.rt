@@ -5,7 +5,7 @@ ghost use Rattle.hg_model.specs.Revision.{Revision, Changesets, revision_of};
 ghost use Rattle.view_model.specs.View.{ChangesetView};
 ghost use Rattle.view_model.specs.Held.{IsChangesetHeld};
 ghost use Rattle.pair_known.specs.Drafts.{IsHgDraft};
-ghost use Rattle.pull_bundle.specs.Faults.{IsTakeFault, ViewLacks};
+ghost use Rattle.pull_bundle.specs.Faults.{IsTakeFault, IsOfChangeset, ViewLacks};
 
 use crate::fault::TakeFault;
 use bridge_text::Id;
@@ -23,6 +23,7 @@ pub fn draft_of(alloc: Global, known: &Known, node: &Id) -> Result<HgDraft, Take
     ensures draft { IfOk result (λ d. (h : ChangesetView) → IsChangesetHeld known.now.hg node.now h → IsHgDraft known.now.hg d h) }
     ensures nothing_fresh { IfOk result (λ d. d.fresh ≡ []) }
     ensures refused { IfErr result (IsTakeFault (λ name. (r : Revision) → revision_of known.now.hg Changesets node.now ≡ Some r → ViewLacks known.now.hg r name)) }
+    ensures names { IfErr result IsOfChangeset }
 {
     views_are_held(&known.hg, node);
     match read_changeset_draft(alloc, known, node) {

@@ -8,6 +8,7 @@ ghost use Rattle.pair_model.specs.Block.{Block, changesets_in};
 ghost use Rattle.history_model.specs.Pull.{is_orphan};
 ghost use Rattle.hg_dump.specs.Refers.{RefersTo};
 ghost use Rattle.pair_state.specs.Blocks.{IsStateOf};
+ghost use Rattle.pull_outcome.specs.Names.{IsOfPullHg};
 ghost use Rattle.pull_outcome.specs.Refused.{IsRefusedBy};
 ghost use Rattle.pull_bundle.specs.Faults.{IsNoRead};
 ghost use Rattle.pull_bundle.specs.Orphans.{IsFirstOrphan};
@@ -15,16 +16,21 @@ ghost use Rattle.pull_bundle.specs.Orphans.{IsFirstOrphan};
 use hg_bundle::{Arrival, Arrivals, RevKind};
 use hg_dump::Refers;
 use hg_store::Group;
-use pair_state::State;
+use pair_state::StateParts;
 use pull_outcome::{Fault, PullFault, Refusal};
 use std::alloc::Global;
 
 /// Passes where each new manifest and file revision of a bundle belongs to a changeset of the state. Orphan comes exactly at the first that belongs to none.
-pub fn check_orphans(alloc: Global, state: &State, arrivals: &Arrivals) -> Result<(), PullFault>
+pub fn check_orphans(
+    alloc: Global,
+    state: &StateParts,
+    arrivals: &Arrivals,
+) -> Result<(), PullFault>
     requires state { (blocks : List Block) × IsStateOf state.now blocks }
     ensures ok { OnOk result ((blocks : List Block) (came : List model.Arrival) → IsStateOf state.now blocks → arrivals.now ≡ map arrival_of came → find (is_orphan blocks) came ≡ None) }
     ensures refused { IfErr result (λ fault. (blocks : List Block) (came : List model.Arrival) → IsStateOf state.now blocks → arrivals.now ≡ map arrival_of came
         → IsRefusedBy (IsFirstOrphan blocks came) fault) }
+    ensures names { IfErr result IsOfPullHg }
     ensures no_read { IfErr result IsNoRead }
 {
     let refers = Refers::of(

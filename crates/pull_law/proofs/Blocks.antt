@@ -18,7 +18,7 @@ module _ (known : List Revision) (none : HasNoNull known) where
   blocks-one objects blocks (r ∷ rs) xs ys (inl h) (inr k) = absurd (true≢false (sym h.0 ∙ k.0))
   blocks-one objects blocks (r ∷ rs) xs ys (inr h) (inl k) = absurd (true≢false (sym k.0 ∙ h.0))
   blocks-one objects blocks (r ∷ rs) xs ys (inr (free, b, rest, is, gives, later)) (inr (free', c, rest', is', gives', later')) =
-      let same : b ≡ c = block-one known none objects blocks r b c gives gives' in
+      let same : b ≡ c = block-one known none objects blocks r.node b c gives gives' in
       let others : rest ≡ rest' = blocks-one (objects ++ commit_objects b.commit) (blocks ++ b ∷ []) rs rest rest' later
       (subst (λ (x : Block). BringBlocks known (objects ++ commit_objects x.commit) (blocks ++ x ∷ []) rs rest') (sym same) later') in
       is ∙ (λ i. same i ∷ others i) ∙ sym is'
@@ -59,7 +59,7 @@ parts known objects blocks (r ∷ rs) rs' new (inr (free, b, rest, is, gives, la
 pub gives-behind : (known : List Revision) (none : HasNoNull known) (objects : List Object) (blocks : List Block) (rs : List Revision) (r : Revision)
     (later : List Revision) (new all : List Block)
     → BringBlocks known objects blocks (rs ++ r ∷ later) all → BringBlocks known objects blocks rs new → is_saved (blocks ++ new) r.node ≡ false
-    → (b : Block) × GivesBlock known (objects ++ objects_in (commits_in new)) (blocks ++ new) r b
+    → (b : Block) × GivesBlock known (objects ++ objects_in (commits_in new)) (blocks ++ new) r.node b
 unfolding BringBlocks
 gives-behind known none objects blocks rs r later new all h k free =
     let p = parts known objects blocks rs (r ∷ later) all h in
@@ -67,6 +67,6 @@ gives-behind known none objects blocks rs r later new all h k free =
     by p.back (subst (λ (l : List Block). BringBlocks known (objects ++ objects_in (commits_in l)) (blocks ++ l) (r ∷ later) p.back) same p.then)
   where
     by : (back : List Block) → BringBlocks known (objects ++ objects_in (commits_in new)) (blocks ++ new) (r ∷ later) back
-        → (b : Block) × GivesBlock known (objects ++ objects_in (commits_in new)) (blocks ++ new) r b
+        → (b : Block) × GivesBlock known (objects ++ objects_in (commits_in new)) (blocks ++ new) r.node b
     by back (inl x) = absurd (true≢false (sym x.0 ∙ free))
     by back (inr x) = (x.1, x.4)

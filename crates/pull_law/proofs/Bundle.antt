@@ -1,14 +1,12 @@
 -- A pull of a bundle comes to one thing.
-use Rattle.std.proofs.Common.{◌≡◌, inl, inr, Bool, true, false, true≢false, List, [], ◌∷◌, ◌++◌, Result, Ok, Err, refl, sym, ap, subst, ◌∙◌, arith}
+use Rattle.std.proofs.Common.{◌≡◌, inl, inr, false, List, [], ◌∷◌, ◌++◌, Result, Ok, Err, sym, ap, subst, ◌∙◌, arith}
 use Rattle.std.specs.List.{find}
 use Rattle.std.proofs.lemmas.List.{map-append}
-use Rattle.text_model.specs.Lists.{Each}
 use Rattle.text_model.specs.Text.{Bytes}
 use Rattle.text_model.specs.Fault.{FaultName, Refusal, refusal}
 use Rattle.text_model.specs.Fault as fault
-use Rattle.text_model.proofs.EachLemmas.{Each-rest}
 use Rattle.text_model.proofs.Options.{some_is, none_some}
-use Rattle.hg_model.specs.Revision.{Group, Changesets, Manifests, FilesAt, Revision, revision_of}
+use Rattle.hg_model.specs.Revision.{Revision}
 use Rattle.hg_model.specs.Bundle.{bundle_framing}
 use Rattle.hg_model.specs.Reading.{Arrival, bundle_reading}
 use Rattle.hg_bundle.specs.Brought.{AreAdditions}
@@ -16,60 +14,33 @@ use Rattle.hg_bundle.proofs.Reading.{reading_is}
 use Rattle.hg_bundle.proofs.Taken.{all_taken}
 use Rattle.view_model.specs.Dump.{objects_in, git_increment}
 use Rattle.pair_model.specs.Block.{Block, commits_in}
-use Rattle.history_model.specs.Pull.{State, BringBlocks, ChangesetRefused, IsChangesetRefusal, BundleBrings, BundleRefused, PullHgMakes, PullHgRefuses, is_saved, is_orphan, is_changesets, changesets_among, revisions_among, known_with}
+use Rattle.history_model.specs.Pull.{State, BringBlocks, ChangesetRefused, IsChangesetRefusal, BundleBrings, BundleRefused, PullHgMakes, PullHgRefuses, is_saved, is_orphan, changesets_among, revisions_among, known_with}
 use Rattle.pull_law.specs.Sound.{IsSoundState}
-use Rattle.pull_law.proofs.Known.{HasNoNull, IsKnown, all-known, no-null}
+use Rattle.pull_law.proofs.Known.{HasNoNull, no-null}
 use Rattle.pull_law.proofs.Splits.{Splits, Same, First, Second, splits}
 use Rattle.pull_law.proofs.Views.{refusal-one, gives-or_refused}
 use Rattle.pull_law.proofs.Blocks.{blocks-one, gives-behind}
 
--- ---- the changesets of a bundle are known
-
--- it is a changeset, and known with its text
-abbrev IsKnownChangeset : List Revision → Arrival → Type 0
-IsKnownChangeset known a = ((a.revision).group ≡ Changesets) × IsKnown known a.revision
-
-group-is : (g : Group) → is_changesets g ≡ true → g ≡ Changesets
-group-is Changesets h = refl
-group-is Manifests h = absurd (true≢false (sym h))
-group-is (FilesAt path) h = absurd (true≢false (sym h))
-
-changesets-known : (known : List Revision) (arrivals : List Arrival) → Each (IsKnown known) (revisions_among arrivals)
-    → Each (IsKnownChangeset known) (changesets_among arrivals)
-changesets-known known [] h = tt
-changesets-known known (a ∷ arrivals) h = by (is_changesets (a.revision).group) refl (changesets-known known arrivals h.1)
-  where
-    by : (t : Bool) → is_changesets (a.revision).group ≡ t → Each (IsKnownChangeset known) (changesets_among arrivals)
-        → Each (IsKnownChangeset known) (changesets_among (a ∷ arrivals))
-    by true e later = rw e ((group-is (a.revision).group e, h.0), later)
-    by false e later = rw e later
-
 -- ---- one state and the changesets of one bundle
 
-module _ (known : List Revision) (none : HasNoNull known) (s : State) (came : List Arrival) (are : Each (IsKnownChangeset known) came) where
+module _ (known : List Revision) (none : HasNoNull known) (s : State) (came : List Arrival) where
   -- the first changeset that is refused, and the blocks of those before it, give no more blocks
-  stops : (before : List Arrival) (refused : Arrival) (after : List Arrival) (new all : List Block) (name : FaultName) → IsKnownChangeset known refused
+  stops : (before : List Arrival) (refused : Arrival) (after : List Arrival) (new all : List Block) (name : FaultName)
       → BringBlocks known s.objects s.blocks (revisions_among (before ++ refused ∷ after)) all
       → BringBlocks known s.objects s.blocks (revisions_among before) new
       → is_saved (s.blocks ++ new) (refused.revision).node ≡ false
-      → ChangesetRefused known (s.objects ++ objects_in (commits_in new)) (s.blocks ++ new) refused.revision name → ⊥
-  stops before refused after new all name is h k free why =
+      → ChangesetRefused known (s.objects ++ objects_in (commits_in new)) (s.blocks ++ new) (refused.revision).node name → ⊥
+  stops before refused after new all name h k free why =
       let r = refused.revision in
       let whole = subst (λ (l : List Revision). BringBlocks known s.objects s.blocks l all)
       (map-append (λ (a : Arrival). a.revision) before (refused ∷ after)) h in
       let gives = gives-behind known none s.objects s.blocks (revisions_among before) r (revisions_among after) new all whole k free in
-      let text = ap (λ (x : Revision). x.text)
-      (some_is (sym (gives.1.is_held).is_held ∙ ap (λ (g : Group). revision_of known g r.node) (sym is.0) ∙ (is.1).is_held)) ∙ (is.1).text in
-      gives-or_refused known none (s.objects ++ objects_in (commits_in new)) (s.blocks ++ new) r gives.0 name gives.1 text why
-
-  refused-known : (before : List Arrival) (refused : Arrival) (after : List Arrival) → came ≡ before ++ refused ∷ after → IsKnownChangeset known refused
-  refused-known before refused after split =
-      (Each-rest (IsKnownChangeset known) before (refused ∷ after) (subst (λ (l : List Arrival). Each (IsKnownChangeset known) l) split are)).0
+      gives-or_refused known none (s.objects ++ objects_in (commits_in new)) (s.blocks ++ new) r.node gives.0 name gives.1 why
 
   pub brings-or_refused : (all : List Block) (why : Refusal) → BringBlocks known s.objects s.blocks (revisions_among came) all
       → IsChangesetRefusal known s came why → ⊥
   brings-or_refused all why h x =
-      stops x.before x.refused x.after x.new all x.name (refused-known x.before x.refused x.after x.split)
+      stops x.before x.refused x.after x.new all x.name
       (subst (λ (l : List Arrival). BringBlocks known s.objects s.blocks (revisions_among l) all) x.split h) x.brings x.is_new x.fault
 
   pub changeset-refusal_one : (a b : Refusal) → IsChangesetRefusal known s came a → IsChangesetRefusal known s came b → a ≡ b
@@ -77,18 +48,18 @@ module _ (known : List Revision) (none : HasNoNull known) (s : State) (came : Li
     where
       by : Splits x.before y.before x.refused y.refused → a ≡ b
       by (First between is) =
-          absurd (stops x.before x.refused between x.new y.new x.name (refused-known x.before x.refused x.after x.split)
+          absurd (stops x.before x.refused between x.new y.new x.name
           (subst (λ (l : List Arrival). BringBlocks known s.objects s.blocks (revisions_among l) y.new) is y.brings) x.brings x.is_new x.fault)
       by (Second between is) =
-          absurd (stops y.before y.refused between y.new x.new y.name (refused-known y.before y.refused y.after y.split)
+          absurd (stops y.before y.refused between y.new x.new y.name
           (subst (λ (l : List Arrival). BringBlocks known s.objects s.blocks (revisions_among l) x.new) is x.brings) y.brings y.is_new y.fault)
       by (Same fronts elements) =
           let new : x.new ≡ y.new = blocks-one known none s.objects s.blocks (revisions_among x.before) x.new y.new x.brings
           (subst (λ (l : List Arrival). BringBlocks known s.objects s.blocks (revisions_among l) y.new) (sym fronts) y.brings) in
-          let there = λ (l : List Block) (r : Arrival). ChangesetRefused known (s.objects ++ objects_in (commits_in l)) (s.blocks ++ l) r.revision y.name in
+          let there = λ (l : List Block) (r : Arrival). ChangesetRefused known (s.objects ++ objects_in (commits_in l)) (s.blocks ++ l) (r.revision).node y.name in
           let fault = subst (λ (r : Arrival). there x.new r) (sym elements) (subst (λ (l : List Block). there l y.refused) (sym new) y.fault) in
           let name : x.name ≡ y.name = refusal-one known none (s.objects ++ objects_in (commits_in x.new)) (s.blocks ++ x.new)
-          (x.refused).revision x.name y.name x.fault fault in
+          ((x.refused).revision).node x.name y.name x.fault fault in
           x.is ∙ (λ i. refusal (name i) ((elements i).revision).node (elements i).at) ∙ sym y.is
 
 -- ---- one state and one bundle that is read
@@ -102,23 +73,20 @@ module _ (s : State) (sound : IsSoundState s) (bundle : Bytes) (arrivals : List 
   none : HasNoNull (known_with s arrivals)
   none = no-null s.revisions 0 (revisions_among arrivals) sound.no_null additions
 
-  are : Each (IsKnownChangeset (known_with s arrivals)) (changesets_among arrivals)
-  are = changesets-known (known_with s arrivals) arrivals (all-known s.revisions 0 (revisions_among arrivals) additions)
-
   pub new-one : (xs ys : List Block) → BundleBrings s arrivals xs → BundleBrings s arrivals ys → xs ≡ ys
   new-one xs ys x y = blocks-one (known_with s arrivals) none s.objects s.blocks (revisions_among (changesets_among arrivals)) xs ys x.brings y.brings
 
   pub brought-or_refused : (new : List Block) (why : Refusal) → BundleBrings s arrivals new → BundleRefused s arrivals why → ⊥
-  brought-or_refused new why x (inl y) = brings-or_refused (known_with s arrivals) none s (changesets_among arrivals) are new why x.brings y
+  brought-or_refused new why x (inl y) = brings-or_refused (known_with s arrivals) none s (changesets_among arrivals) new why x.brings y
   brought-or_refused new why x (inr (other, brings, a, found, is)) =
       let same : new ≡ other = blocks-one (known_with s arrivals) none s.objects s.blocks
       (revisions_among (changesets_among arrivals)) new other x.brings brings in
       none_some (sym x.no_orphan ∙ ap (λ (l : List Block). find (is_orphan (s.blocks ++ l)) arrivals) same ∙ found)
 
   pub bundle-refusal_one : (a b : Refusal) → BundleRefused s arrivals a → BundleRefused s arrivals b → a ≡ b
-  bundle-refusal_one a b (inl x) (inl y) = changeset-refusal_one (known_with s arrivals) none s (changesets_among arrivals) are a b x y
-  bundle-refusal_one a b (inl x) (inr y) = absurd (brings-or_refused (known_with s arrivals) none s (changesets_among arrivals) are y.0 a y.1 x)
-  bundle-refusal_one a b (inr x) (inl y) = absurd (brings-or_refused (known_with s arrivals) none s (changesets_among arrivals) are x.0 b x.1 y)
+  bundle-refusal_one a b (inl x) (inl y) = changeset-refusal_one (known_with s arrivals) none s (changesets_among arrivals) a b x y
+  bundle-refusal_one a b (inl x) (inr y) = absurd (brings-or_refused (known_with s arrivals) none s (changesets_among arrivals) y.0 a y.1 x)
+  bundle-refusal_one a b (inr x) (inl y) = absurd (brings-or_refused (known_with s arrivals) none s (changesets_among arrivals) x.0 b x.1 y)
   bundle-refusal_one a b (inr (new, brings, o, found, is)) (inr (new', brings', o', found', is')) =
       let same : new ≡ new' = blocks-one (known_with s arrivals) none s.objects s.blocks
       (revisions_among (changesets_among arrivals)) new new' brings brings' in

@@ -10,7 +10,7 @@ use Rattle.hg_bundle.specs.Arrivals.{known_after_all, revisions_of}
 use Rattle.hg_bundle.specs.Brought.{AreOfGroup, AreOfFiles, AreOfBundle, revisions_with}
 use Rattle.history_model.specs.Command.{count_in, is_manifests, is_files, revision_counts}
 use Rattle.history_model.specs.Pull.{is_changesets}
-use Rattle.pull_law.specs.Format.{file_entries, entry_counts}
+use Rattle.pull_law.specs.BundleFormat.{file_entries, entry_counts}
 
 -- ---- the revisions whose groups pass a test
 

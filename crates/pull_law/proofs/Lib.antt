@@ -8,4 +8,5 @@ pub mod Bundle
 pub mod Commits
 pub mod Stream
 pub mod Counts
-pub mod FormatLaws
+pub mod BundleFormatLaws
+pub mod StreamFormatLaws

@@ -1,5 +1,5 @@
 -- A changeset that gives a block isn't refused, and one that is refused has one name.
-use Rattle.std.proofs.Common.{◌≡◌, Bool, true, false, true≢false, List, [], ◌∷◌, map, sym, ap, subst, ◌∙◌, inl, inr}
+use Rattle.std.proofs.Common.{◌≡◌, Bool, true, false, true≢false, List, [], ◌∷◌, map, Some, sym, ap, subst, ◌∙◌, inl, inr}
 use Rattle.std.specs.Prelude.{is_some}
 use Rattle.text_model.specs.Lists.{Each, SomeOf}
 use Rattle.text_model.specs.Fault.{FaultName}
@@ -7,7 +7,8 @@ use Rattle.text_model.specs.Fault as fault
 use Rattle.text_model.proofs.Options.{some_is}
 use Rattle.hg_model.specs.Changeset.{Changeset, IsChangesetText}
 use Rattle.hg_model.specs.Manifest.{ManifestEntry, IsManifestText}
-use Rattle.hg_model.specs.Revision.{Revision, FilesAt, knows}
+use Rattle.text_model.specs.Id.{Id}
+use Rattle.hg_model.specs.Revision.{Revision, Changesets, FilesAt, revision_of, knows}
 use Rattle.hg_model.proofs.ChangesetLemmas.{one_changeset}
 use Rattle.hg_model.proofs.ManifestLemmas.{one_manifest}
 use Rattle.git_model.specs.Object.{Object}
@@ -15,7 +16,7 @@ use Rattle.view_model.specs.View.{Row, ChangesetView, ManifestParents, NoManifes
 use Rattle.view_model.specs.Held.{IsFileHeld, IsManifestHeld, IsChangesetHeld}
 use Rattle.pair_model.specs.Block.{Block}
 use Rattle.pair_model.specs.Plain.{block_of_changeset}
-use Rattle.history_model.specs.Pull.{LacksManifest, LacksFile, ViewRefused, ViewPasses, ChangesetRefused, GivesBlock}
+use Rattle.history_model.specs.Pull.{Unless, LacksManifest, LacksFile, ViewRefused, ViewPasses, ChangesetRefused, GivesBlock}
 use Rattle.hg_view.proofs.One.{one_held}
 use Rattle.pull_law.proofs.Choices.{IsOneName, nothing-one, unless-one, nothing-none, unless-none}
 use Rattle.pull_law.proofs.Known.{HasNoNull}
@@ -27,17 +28,18 @@ not-true e h = true≢false (sym h ∙ e)
 
 pub view-refusal_one : (objects : List Object) (blocks : List Block) (h : ChangesetView) → IsOneName (ViewRefused objects blocks h)
 view-refusal_one objects blocks h =
-    unless-one _ fault.PathClash _ (unless-one _ fault.NotPlain _
-    (unless-one _ fault.PairLimit _ (unless-one _ fault.NotPlain _ (unless-one _ fault.Collision _ nothing-one))))
+    unless-one _ fault.PathClash _ (unless-one _ fault.NotPlain _ (unless-one _ fault.NotPlain _
+    (unless-one _ fault.PairLimit _ (unless-one _ fault.NotPlain _ (unless-one _ fault.Collision _ nothing-one)))))
 
 pub passes-or_refused : (objects : List Object) (blocks : List Block) (h : ChangesetView) (found : FaultName) → ViewPasses objects blocks h
     → ViewRefused objects blocks h found → ⊥
 passes-or_refused objects blocks h found p =
     unless-none _ fault.PathClash _ (not-true p.no_clash)
     (unless-none _ fault.NotPlain _ (not-true p.plain.no_link)
+    (unless-none _ fault.NotPlain _ (λ n. n p.parents)
     (unless-none _ fault.PairLimit _ (λ n. n p.fits)
     (unless-none _ fault.NotPlain _ (λ n. n p.plain)
-    (unless-none _ fault.Collision _ (not-true p.apart) nothing-none)))) found
+    (unless-none _ fault.Collision _ (not-true p.apart) nothing-none))))) found
 
 -- ---- a changeset that is held lacks nothing
 
@@ -49,17 +51,10 @@ all-there known (row ∷ rows) h s = elim s [
   | inr later ↦ all-there known rows h.1 later
 ]
 
--- a changeset with all its files is held under the node, and its text is that of the revision
-pub record IsHeldWith (known : List Revision) (r : Revision) (h : ChangesetView) : Type 0 where
-  pub held : IsChangesetHeld known r.node h
-  pub text : (held.revision).text ≡ r.text
-
-module _ (known : List Revision) (r : Revision) (h : ChangesetView) (with_text : IsHeldWith known r h) where
-  abbrev held : IsChangesetHeld known r.node h
-  held = with_text.held
-
+-- a changeset with all its files is held under the node of a revision
+module _ (known : List Revision) (node : Id) (r : Revision) (at : revision_of known Changesets node ≡ Some r) (h : ChangesetView) (held : IsChangesetHeld known node h) where
   same_fields : (x : Changeset) → IsChangesetText r.text x → x ≡ h.fields
-  same_fields x text = one_changeset r.text x h.fields text (subst (λ t. IsChangesetText t h.fields) with_text.text held.fields)
+  same_fields x text = one_changeset r.text x h.fields text (subst (λ (s : Revision). IsChangesetText s.text h.fields) (some_is (sym held.is_held ∙ at)) held.fields)
 
   pub no-manifest_lacks : LacksManifest known r → ⊥
   no-manifest_lacks l = by h.manifest h.rows
@@ -85,27 +80,34 @@ module _ (known : List Revision) (r : Revision) (h : ChangesetView) (with_text :
 
 -- ---- the block of a changeset, and why there is none
 
-module _ (known : List Revision) (none : HasNoNull known) (objects : List Object) (blocks : List Block) (r : Revision) where
-  pub block-one : (a b : Block) → GivesBlock known objects blocks r a → GivesBlock known objects blocks r b → a ≡ b
-  block-one a b x y = x.block ∙ ap (block_of_changeset blocks) (one_held known none r.node x.view y.view x.is_held y.is_held) ∙ sym y.block
+module _ (known : List Revision) (none : HasNoNull known) (objects : List Object) (blocks : List Block) (node : Id) where
+  pub block-one : (a b : Block) → GivesBlock known objects blocks node a → GivesBlock known objects blocks node b → a ≡ b
+  block-one a b x y = x.block ∙ ap (block_of_changeset blocks) (one_held known none node x.view y.view x.is_held y.is_held) ∙ sym y.block
 
-  view-name_one : IsOneName (λ found. (h : ChangesetView) × IsChangesetHeld known r.node h × ViewRefused objects blocks h found)
+  abbrev ViewRefusedAt : FaultName → Type 0
+  ViewRefusedAt found = (h : ChangesetView) × IsChangesetHeld known node h × ViewRefused objects blocks h found
+
+  -- why the changeset is refused that this revision is
+  abbrev RefusedAs : Revision → FaultName → Type 0
+  RefusedAs r = Unless (LacksManifest known r) fault.ManifestUnknown (Unless (LacksFile known r) fault.FileUnknown ViewRefusedAt)
+
+  view-name_one : IsOneName ViewRefusedAt
   view-name_one a b x y =
       view-refusal_one objects blocks x.0 a b x.2
-      (subst (λ (h : ChangesetView). ViewRefused objects blocks h b) (one_held known none r.node y.0 x.0 y.1 x.1) y.2)
+      (subst (λ (h : ChangesetView). ViewRefused objects blocks h b) (one_held known none node y.0 x.0 y.1 x.1) y.2)
 
-  pub refusal-one : IsOneName (ChangesetRefused known objects blocks r)
-  refusal-one = unless-one (LacksManifest known r) fault.ManifestUnknown _ (unless-one (LacksFile known r) fault.FileUnknown _ view-name_one)
+  pub refusal-one : IsOneName (ChangesetRefused known objects blocks node)
+  refusal-one a b x y =
+      unless-one (LacksManifest known x.0) fault.ManifestUnknown _ (unless-one (LacksFile known x.0) fault.FileUnknown _ view-name_one) a b x.2
+      (subst (λ (r : Revision). RefusedAs r b) (some_is (sym y.1 ∙ x.1)) y.2)
 
-  pub gives-or_refused : (b : Block) (found : FaultName) → (x : GivesBlock known objects blocks r b) → ((x.is_held).revision).text ≡ r.text
-      → ChangesetRefused known objects blocks r found → ⊥
-  gives-or_refused b found x text =
-      let whole : IsHeldWith known r x.view = record { held = x.is_held; text = text } in
-      unless-none (LacksManifest known r) fault.ManifestUnknown _ (no-manifest_lacks known r x.view whole)
-      (unless-none (LacksFile known r) fault.FileUnknown _ (no-file_lacks known r x.view whole)
-      (λ name v. refused-view name v)) found
+  pub gives-or_refused : (b : Block) (found : FaultName) → GivesBlock known objects blocks node b → ChangesetRefused known objects blocks node found → ⊥
+  gives-or_refused b found x why =
+      unless-none (LacksManifest known why.0) fault.ManifestUnknown _ (no-manifest_lacks known node why.0 why.1 x.view x.is_held)
+      (unless-none (LacksFile known why.0) fault.FileUnknown _ (no-file_lacks known node why.0 why.1 x.view x.is_held)
+      (λ name v. refused-view name v)) found why.2
     where
-      refused-view : (name : FaultName) → (h : ChangesetView) × IsChangesetHeld known r.node h × ViewRefused objects blocks h name → ⊥
+      refused-view : (name : FaultName) → ViewRefusedAt name → ⊥
       refused-view name v =
           passes-or_refused objects blocks x.view name x.passes
-          (subst (λ (h : ChangesetView). ViewRefused objects blocks h name) (one_held known none r.node v.0 x.view v.1 x.is_held) v.2)
+          (subst (λ (h : ChangesetView). ViewRefused objects blocks h name) (one_held known none node v.0 x.view v.1 x.is_held) v.2)

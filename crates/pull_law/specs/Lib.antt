@@ -1,2 +1,3 @@
 pub mod Sound
-pub mod Format
+pub mod BundleFormat
+pub mod StreamFormat

@@ -1,3 +1,3 @@
 pub mod Refused
-pub mod AllBlocks
+pub mod Names
 pub mod Pulls

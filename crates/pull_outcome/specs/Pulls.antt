@@ -8,7 +8,7 @@ use Rattle.pair_state.specs.declared.state.State.{State}
 use Rattle.pull_outcome.specs.declared.pulled.Pulled.{Pulled}
 use Rattle.pull_outcome.specs.declared.refused.PullFault.{PullFault}
 use Rattle.pull_outcome.specs.Refused.{IsRefusedBy}
-use Rattle.pull_outcome.specs.AllBlocks.{HasAllBlocks, state_value}
+use Rattle.pair_state.specs.AllBlocks.{HasAllBlocks, state_value}
 
 -- ---- of an input whose bytes are told
 

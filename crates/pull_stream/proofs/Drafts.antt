@@ -19,7 +19,7 @@ use Rattle.pair_model.specs.Block.{Block}
 use Rattle.pair_known.specs.declared.git_draft.GitDraft.{GitDraft}
 use Rattle.pair_known.specs.GitDrafts.{IsGitDraft}
 use Rattle.pair_known.proofs.HeldCommits.{held-at}
-use Rattle.pair_state.specs.declared.state.State.{State}
+use Rattle.pair_state.specs.declared.state_parts.StateParts.{StateParts}
 use Rattle.history_model.specs.Pull.{WalkRefused, CommitRefused}
 use Rattle.pull_stream.specs.Faults.{IsNameDue, tree_refused}
 use Rattle.pull_stream.specs.Taken.{TakesCommit, IsDraftFor}
@@ -53,7 +53,7 @@ module _ (known : List Object) (id : Id) (v : Commit) (at : IsCommitAt known id 
   walk-refused tree.Limit is = walk-named fault.PairLimit is
   walk-refused tree.Memory is = tt
 
-module _ (s : State) (id : Id) (blocks : List Block) where
+module _ (s : StateParts) (id : Id) (blocks : List Block) where
   due : (e : TreeFault) → IsNameDue (WalkRefused s.known.git id) (tree_refused e) → IsNameDue (CommitRefused s.known.hg s.known.git blocks id) (tree_refused e)
   due (tree.ObjectUnknown x) is = inl is
   due tree.PathUnfit is = inl is

@@ -5,3 +5,4 @@ pub mod Drafts
 pub mod Takes
 pub mod Loop
 pub mod Pulls
+pub mod Names

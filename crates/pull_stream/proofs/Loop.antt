@@ -21,7 +21,7 @@ use Rattle.tree_shape.specs.Laws.{IsKnown}
 use Rattle.view_model.specs.View.{ChangesetView}
 use Rattle.view_model.specs.Dump.{revisions_of, revisions_in}
 use Rattle.pair_model.specs.Block.{Block, id_of, block_of_id, changesets_in}
-use Rattle.pair_state.specs.declared.state.State.{State}
+use Rattle.pair_state.specs.declared.state_parts.StateParts.{StateParts}
 use Rattle.pair_state.specs.Blocks.{IsStateOf}
 use Rattle.pull_outcome.specs.declared.refused.PullFault.{PullFault}
 use Rattle.history_model.specs.Pull as model
@@ -121,7 +121,7 @@ at-place ids items i id same below is =
 pub take-at : (ids : List Id) (i : ℕ) (id : Id) → slice_get ids i ≡ Some id → take i ids ++ id ∷ [] ≡ take (i + 1) ids
 take-at ids i id at = sym (take_push ids i id at)
 
-pub taken-none : (s : State) (m : model.State) → IsStateOf s m.blocks → CommitsTaken s s m.blocks [] []
+pub taken-none : (s : StateParts) (m : model.State) → IsStateOf s m.blocks → CommitsTaken s s m.blocks [] []
 taken-none s m state = record {
   brings = brings-none s.known.hg s.known.git m.blocks;
   ids_are = refl;
@@ -132,7 +132,7 @@ taken-none s m state = record {
   names = refl;
 }
 
-pub taken-push : (s next after : State) (blocks : List Block) (ids : List Id) (new : List Block) (id : Id) (b : Block) → CommitsTaken s next blocks ids new → CommitTaken next after id (blocks ++ new) b
+pub taken-push : (s next after : StateParts) (blocks : List Block) (ids : List Id) (new : List Block) (id : Id) (b : Block) → CommitsTaken s next blocks ids new → CommitTaken next after id (blocks ++ new) b
     → CommitsTaken s after blocks (ids ++ id ∷ []) (new ++ b ∷ [])
 taken-push s next after blocks ids new id b so_far one =
     let gives = subst (λ (k : List Revision). CommitGives k s.known.git (blocks ++ new) id b) so_far.revisions (subst (λ (os : List Object). CommitGives next.known.hg os (blocks ++ new) id b) so_far.objects one.gives) in record {
@@ -150,7 +150,7 @@ taken-push s next after blocks ids new id b so_far one =
 
 -- ---- the commit at a place of the order
 
-module _ (s : State) (arrivals : List ObjectArrival) (ordered : List Id) (m : model.State) (came : List Placed) (o : IsInOrder s arrivals ordered m came) (i : ℕ) (id : Id) (below : i < length ordered) (at : slice_get ordered i ≡ Some id) where
+module _ (s : StateParts) (arrivals : List ObjectArrival) (ordered : List Id) (m : model.State) (came : List Placed) (o : IsInOrder s arrivals ordered m came) (i : ℕ) (id : Id) (below : i < length ordered) (at : slice_get ordered i ≡ Some id) where
   abbrev next : Next came (saved_ids m) (take i ordered) id
   next = next-is came (saved_ids m) (take i ordered) id (sym at ∙ (o.order).places i below)
 
@@ -181,7 +181,7 @@ module _ (s : State) (arrivals : List ObjectArrival) (ordered : List Id) (m : mo
   pub its-arrival : (at : ℕ) × (place_among arrivals id ≡ Some at)
   its-arrival = let p = its-place in (p.0, arrival-at p.0 p.1)
 
-  module _ (now : State) (new : List Block) (taken : CommitsTaken s now m.blocks (take i ordered) new) where
+  module _ (now : StateParts) (new : List Block) (taken : CommitsTaken s now m.blocks (take i ordered) new) where
     stands : (x : Id) → is_some (block_of_id (m.blocks ++ new) x) ≡ (has (saved_ids m) x || has (take i ordered) x)
     stands x =
         has-block (m.blocks ++ new) x

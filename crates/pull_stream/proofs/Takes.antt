@@ -8,7 +8,7 @@ use Rattle.text_model.specs.Id.{Id, null, is_null}
 use Rattle.text_model.specs.Fault.{FaultName}
 use Rattle.text_model.proofs.Options.{or_false}
 use Rattle.text_model.proofs.TestLemmas.{or_true}
-use Rattle.hg_model.specs.Revision.{Revision, Changesets, is_known_parent, is_otherwise, knows, known_after}
+use Rattle.hg_model.specs.Revision.{Revision, Changesets, is_known_parent, is_otherwise, knows}
 use Rattle.view_model.specs.View.{CommitView, ChangesetView, ChangesetFits, changeset_node}
 use Rattle.view_model.specs.Dump.{revisions_of, revisions_in}
 use Rattle.pair_model.specs.Block.{Block, block_of_id, changesets_in, hg_partner, Parents, parents_among, view_at}
@@ -22,20 +22,15 @@ use Rattle.pair_known.specs.declared.known.Known.{Known}
 use Rattle.pair_known.specs.declared.hg_draft.HgDraft.{HgDraft}
 use Rattle.pair_known.specs.declared.git_draft.GitDraft.{GitDraft}
 use Rattle.changeset_rule.proofs.ParentLemmas.{parents-are, partner-held}
-use Rattle.pair_state.specs.declared.state.State.{State}
+use Rattle.pair_state.specs.declared.state_parts.StateParts.{StateParts}
 use Rattle.pair_state.specs.declared.fault.PushFault.{PushFault}
 use Rattle.pair_state.specs.declared.fault.PushFault.TheVariants as push
-use Rattle.pair_state.specs.Push.{known_with_all, AreLinkParts, HasParents, HasShortTexts, IsPart, PushesChangeset, ChangesetPushed}
+use Rattle.pair_state.specs.Push.{AreLinkParts, HasParents, HasShortTexts, IsPart, PushesChangeset, ChangesetPushed}
 use Rattle.history_model.specs.Pull.{all_known, CommitRefused}
 use Rattle.pull_stream.specs.declared.fault.TakeFault.{TakeFault}
 use Rattle.pull_stream.specs.declared.fault.TakeFault.TheVariants.{Refused, Memory}
 use Rattle.pull_stream.specs.Faults.{IsNameDue, push_refused}
 use Rattle.pull_stream.specs.Taken.{TakesCommit, IsDraftFor, IsChangesetFor, RuleRefused, CommitTaken}
-
--- the two words for the same revisions
-pub known-same : (known rs : List Revision) → known_with_all known rs ≡ all_known known rs
-known-same known [] = refl
-known-same known (r ∷ rs) = known-same (known_after known r) rs
 
 weaker : (P Q : FaultName → Type 0) → ((name : FaultName) → P name → Q name) → (f : TakeFault) → IsNameDue P f → IsNameDue Q f
 weaker P Q h (Refused why) due = h _ due
@@ -94,7 +89,7 @@ module _ (k : Known) (blocks : List Block) (history : IsHistoryHeld k blocks) wh
   second-known (a ∷ b ∷ []) few all = partner-known b all.1.0
   second-known (a ∷ b ∷ c ∷ ps) few all = absurd (grind (arith, few))
 
-module _ (s : State) (id : Id) (blocks : List Block) (d : GitDraft) (v : CommitView) (f : IsDraftFor s id blocks d v) where
+module _ (s : StateParts) (id : Id) (blocks : List Block) (d : GitDraft) (v : CommitView) (f : IsDraftFor s id blocks d v) where
   rule-due : (name : FaultName) → RuleRefused blocks v name → CommitRefused s.known.hg s.known.git blocks id name
   rule-due name (inl r) = inr (v, f.held, f.walks, inr (no_more (length (v.value).parents) f.few, inl r))
   rule-due name (inr (fits, inl r)) = inr (v, f.held, f.walks, inr (no_more (length (v.value).parents) f.few, inr (fits, inl r)))
@@ -160,7 +155,7 @@ module _ (s : State) (id : Id) (blocks : List Block) (d : GitDraft) (v : CommitV
         inr (v, f.held, f.walks, inr (no_more (length (v.value).parents) f.few, later))
     push-refused push.Memory clash = tt
 
-    pub taken : (next : State) → ChangesetPushed s next blocks (block_of_commit blocks v) → (b : Block) × CommitTaken s next id blocks b
+    pub taken : (next : StateParts) → ChangesetPushed s next blocks (block_of_commit blocks v) → (b : Block) × CommitTaken s next id blocks b
     taken next p = (
       block_of_commit blocks v,
       record {
@@ -173,7 +168,7 @@ module _ (s : State) (id : Id) (blocks : List Block) (d : GitDraft) (v : CommitV
         };
         id_is = f.id_is;
         state = p.state;
-        revisions = p.revisions ∙ ap (known_with_all s.known.hg) (append-nil (revisions_of k)) ∙ known-same s.known.hg (revisions_of k);
+        revisions = p.revisions ∙ ap (all_known s.known.hg) (append-nil (revisions_of k));
         objects = p.objects;
         tags = p.tags;
         names = p.names;

@@ -10,6 +10,7 @@ use Rattle.pair_state.specs.declared.fault.PushFault.{PushFault}
 use Rattle.pair_state.specs.declared.fault.PushFault.TheVariants as push
 use Rattle.bridge_text.specs.Refusals.{fault_name, refusal_value}
 use Rattle.bridge_text.specs.declared.fault.Fault.TheVariants as name
+use Rattle.pull_outcome.specs.Names.{IsCommitName}
 use Rattle.pull_outcome.specs.declared.refused.PullFault.{PullFault}
 use Rattle.pull_outcome.specs.declared.refused.PullFault.TheVariants as pull
 use Rattle.pull_stream.specs.declared.fault.TakeFault.{TakeFault}
@@ -33,6 +34,11 @@ push_refused push.Memory = Memory
 abbrev pub IsNameDue : (FaultName → Type 0) → TakeFault → Type 0
 IsNameDue Due (Refused why) = Due (fault_name why)
 IsNameDue Due Memory = ⊤
+
+-- the fault is one of a commit
+abbrev pub IsOfCommit : TakeFault → Type 0
+IsOfCommit (Refused why) = IsCommitName why
+IsOfCommit Memory = ⊤
 
 -- the refusal is one that is due, and no input was read; of memory nothing is told
 abbrev pub IsJudgement : (Refusal → Type 0) → PullFault → Type 0

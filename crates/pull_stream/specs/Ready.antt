@@ -17,11 +17,11 @@ use Rattle.pull_outcome.specs.declared.refused.PullFault.{PullFault}
 use Rattle.pull_outcome.specs.declared.refused.PullFault.TheVariants as pull
 use Rattle.history_model.specs.Pull as model
 use Rattle.history_model.specs.Pull.{objects_with, ancestries, saved_ids, place_of}
-use Rattle.pair_state.specs.declared.state.State.{State}
+use Rattle.pair_state.specs.declared.state_parts.StateParts.{StateParts}
 use Rattle.pair_state.specs.Blocks.{IsStateOf}
 
 -- the state has these blocks, and holds what these objects brought to what was known
-pub record IsReady (s : State) (arrivals : List ObjectArrival) (m : model.State) (came : List Placed) : Type 0 where
+pub record IsReady (s : StateParts) (arrivals : List ObjectArrival) (m : model.State) (came : List Placed) : Type 0 where
   pub state : IsStateOf s m.blocks
   pub revisions : s.known.hg ≡ m.revisions
   pub objects : s.known.git ≡ objects_with m came
@@ -29,7 +29,7 @@ pub record IsReady (s : State) (arrivals : List ObjectArrival) (m : model.State)
   pub held : Each (λ o. IsKnown s.known.git o.object) came
 
 -- the same, with the order of the commits
-pub record IsInOrder (s : State) (arrivals : List ObjectArrival) (ordered : List Id) (m : model.State) (came : List Placed) : Type 0 where
+pub record IsInOrder (s : StateParts) (arrivals : List ObjectArrival) (ordered : List Id) (m : model.State) (came : List Placed) : Type 0 where
   pub ready : IsReady s arrivals m came
   pub order : IsOrder (ancestries came) (saved_ids m) ordered
 

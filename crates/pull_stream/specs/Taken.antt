@@ -19,11 +19,11 @@ use Rattle.pair_known.specs.Ruled.{IsRuledChangeset}
 use Rattle.view_model.specs.Dump.{revisions_of, revisions_in}
 use Rattle.pair_model.specs.Block.{Block, id_of, block_of_id, changesets_in}
 use Rattle.history_model.specs.Pull.{Unless, Nothing, all_known, CommitGives, CommitsBring}
-use Rattle.pair_state.specs.declared.state.State.{State}
+use Rattle.pair_state.specs.declared.state_parts.StateParts.{StateParts}
 use Rattle.pair_state.specs.Blocks.{IsStateOf}
 
 -- a commit that is held and stands in no block, and whose parents stand in blocks
-pub record TakesCommit (s : State) (id : Id) (blocks : List Block) : Type 0 where
+pub record TakesCommit (s : StateParts) (id : Id) (blocks : List Block) : Type 0 where
   pub state : IsStateOf s blocks
   pub content : Bytes
   pub held : content_at commit s.known.git id ≡ Some content
@@ -31,7 +31,7 @@ pub record TakesCommit (s : State) (id : Id) (blocks : List Block) : Type 0 wher
   pub free : block_of_id blocks id ≡ None
 
 -- the draft stands for the commit, with all its files and at most two parents
-pub record IsDraftFor (s : State) (id : Id) (blocks : List Block) (d : GitDraft) (v : CommitView) : Type 0 where
+pub record IsDraftFor (s : StateParts) (id : Id) (blocks : List Block) (d : GitDraft) (v : CommitView) : Type 0 where
   pub held : IsCommitHeld s.known.git id v
   pub walks : walk_fault s.known.git (v.value).tree_id ≡ None
   pub id_is : commit_id v ≡ id
@@ -50,7 +50,7 @@ RuleRefused blocks v =
     (Unless (¬ (IsPlainCommit blocks v)) fault.NotPlain Nothing)
 
 -- the block of the commit came behind the others
-pub record CommitTaken (s next : State) (id : Id) (blocks : List Block) (b : Block) : Type 0 where
+pub record CommitTaken (s next : StateParts) (id : Id) (blocks : List Block) (b : Block) : Type 0 where
   pub gives : CommitGives s.known.hg s.known.git blocks id b
   pub id_is : id_of b ≡ id
   pub state : IsStateOf next (blocks ++ b ∷ [])
@@ -60,7 +60,7 @@ pub record CommitTaken (s next : State) (id : Id) (blocks : List Block) (b : Blo
   pub names : next.names ≡ s.names
 
 -- the same of commits one after the other
-pub record CommitsTaken (s next : State) (blocks : List Block) (ids : List Id) (new : List Block) : Type 0 where
+pub record CommitsTaken (s next : StateParts) (blocks : List Block) (ids : List Id) (new : List Block) : Type 0 where
   pub brings : CommitsBring s.known.hg s.known.git blocks ids new
   pub ids_are : map id_of new ≡ ids
   pub state : IsStateOf next (blocks ++ new)

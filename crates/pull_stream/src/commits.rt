@@ -4,7 +4,8 @@ ghost use Rattle.git_model.specs.Stream.{Placed};
 ghost use Rattle.pair_model.specs.Block.{Block};
 ghost use Rattle.history_model.specs.Pull as model;
 ghost use Rattle.history_model.specs.Pull.{IsCommitRefusal};
-ghost use Rattle.pull_stream.specs.Faults.{IsJudgement, placed_fault};
+ghost use Rattle.pull_outcome.specs.Names.{IsOfPullGit};
+ghost use Rattle.pull_stream.specs.Faults.{IsJudgement, IsOfCommit, placed_fault};
 ghost use Rattle.pull_stream.specs.Ready.{IsInOrder, place_among};
 ghost use Rattle.pull_stream.specs.Taken.{CommitsTaken};
 
@@ -13,20 +14,21 @@ use crate::place::first_place;
 use crate::take::take_commit;
 use bridge_text::{Id, IdList};
 use git_batch::ObjectArrivals;
-use pair_state::State;
+use pair_state::StateParts;
 use pull_outcome::{PullFault, Refusal};
 
 /// Takes the commits of a stream in their order, each over the blocks before it. The fault is that of the first that is refused.
 pub fn take_commits(
-    state: State,
+    state: StateParts,
     came: &ObjectArrivals,
     ordered: &IdList,
-) -> Result<State, PullFault>
+) -> Result<StateParts, PullFault>
     requires order { (m : model.State) × (placed : List Placed) × IsInOrder state came.now ordered.now m placed }
     ensures ok { IfOk result (λ next. (m : model.State) (placed : List Placed) → IsInOrder state came.now ordered.now m placed
         → (new : List Block) × CommitsTaken state next m.blocks ordered.now new) }
     ensures refused { IfErr result (λ fault. (m : model.State) (placed : List Placed) → IsInOrder state came.now ordered.now m placed
         → IsJudgement (IsCommitRefusal m placed ordered.now) fault) }
+    ensures names { IfErr result IsOfPullGit }
 {
     let mut next = state;
     for id in ordered.as_slice() {
@@ -41,7 +43,8 @@ pub fn take_commits(
 // The fault of a commit that came, with its place.
 fn refused_at(came: &ObjectArrivals, id: &Id, fault: TakeFault) -> PullFault
     requires { (at : ℕ) × (place_among came.now id.now ≡ Some at) }
-    ensures { (at : ℕ) → place_among came.now id.now ≡ Some at → result ≡ placed_fault id.now at fault }
+    ensures placed { (at : ℕ) → place_among came.now id.now ≡ Some at → result ≡ placed_fault id.now at fault }
+    ensures names { IsOfCommit fault → IsOfPullGit result }
 {
     match fault {
         TakeFault::Refused(fault) => PullFault::Refused(Refusal {

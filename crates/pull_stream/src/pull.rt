@@ -1,9 +1,10 @@
 ghost use Rattle.std.specs.Prelude.{◌≡◌, List, IfSome, IfOk, IfErr, OnOk};
 ghost use Rattle.std.specs.Io.KnownBytes.{IsAtEnd};
 ghost use Rattle.pair_model.specs.Block.{Block};
+ghost use Rattle.pull_outcome.specs.Names.{IsOfPullGit};
 ghost use Rattle.pull_outcome.specs.Pulls.{PulledGit, GoesOnGit, RefusesGit};
 ghost use Rattle.pull_outcome.specs.Refused.{AnswerCause};
-ghost use Rattle.pull_outcome.specs.AllBlocks.{HasAllBlocks};
+ghost use Rattle.pair_state.specs.AllBlocks.{HasAllBlocks};
 
 use crate::commits::take_commits;
 use crate::objects::read_objects;
@@ -25,25 +26,26 @@ pub fn pull_git<S: Source, L: Ledger>(
     src: &mut S,
     steps: &mut Steps<L>,
 ) -> Result<Pulled, PullFault>
-    requires state { (blocks : List Block) × HasAllBlocks state blocks }
     ensures pulled { IfOk result (λ pulled. IfSome (S.left src.old) (λ bytes.
         (blocks : List Block) → HasAllBlocks state blocks → PulledGit state blocks bytes pulled)) }
     ensures refused { IfErr result (λ fault. IfSome (S.left src.old) (λ bytes.
         (blocks : List Block) → HasAllBlocks state blocks → RefusesGit state blocks bytes fault)) }
     ensures next { IfOk result (λ pulled. (blocks : List Block) → HasAllBlocks state blocks → GoesOnGit state blocks pulled) }
+    ensures names { IfErr result IsOfPullGit }
     ensures end { OnOk result (IsAtEnd (S.left src.new)) }
     ensures cause { AnswerCause (S.faults src.old) (S.faults src.new) result }
     ensures steps { steps.new ≡ steps.old }
 {
-    let first_new = state.len();
-    let saved = state.changesets.as_list().len();
-    let (state, came) = read_objects(state, src)?;
-    let ordered = order_commits(&state, &came)?;
-    let state = take_commits(state, &came, &ordered)?;
-    let list = state.changesets.as_list();
-    let made = hg_dump::write(state.alloc(), &state.known.hg, list, saved)?;
+    let parts = state.into_parts();
+    let first_new = parts.blocks.len();
+    let saved = parts.changesets.as_list().len();
+    let (parts, came) = read_objects(parts, src)?;
+    let ordered = order_commits(&parts, &came)?;
+    let parts = take_commits(parts, &came, &ordered)?;
+    let list = parts.changesets.as_list();
+    let made = hg_dump::write(parts.alloc, &parts.known.hg, list, saved)?;
     Ok(Pulled {
-        state,
+        state: State::from_parts(parts),
         first_new,
         made: Bytes::keep(made),
     })

@@ -17,7 +17,7 @@ add_changeset-requires c =
     let base = c.requires.part.0 in
     let k = c.requires.part.1 in
     let hash = c.node_id-node.ensures ∙ ap (node_id d.p1 d.p2) c.deref.ensures.value in
-    record { asked = (base, k, asked base c.args.hg.now d k c.requires.part.2 c.in_ok-text.text.items c.node_id-node.result c.in_ok-text.ensures hash) }
+    record { asked = (base, k, asked base c.args.hg.now d k c.requires.part.2 c.in_ok-text.text.items c.node_id-node.result c.in_ok-text.ensures hash); lines = c.requires.texts.manifest }
 
 pub returns-in_err-add_changeset-clause-collision : goal.returns-in_err-add_changeset-clause-collision
 returns-in_err-add_changeset-clause-collision c = λ is base k a.

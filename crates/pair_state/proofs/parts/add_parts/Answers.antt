@@ -2,7 +2,7 @@ use Rattle.std.proofs.Common.{◌≡◌, ◌+◌, Err, List, length, arith, sym,
 use Rattle.std.proofs.lemmas.Result.{err_from_is_err_and}
 use Rattle.text_model.specs.Id.{Id}
 use Rattle.pair_state.proofs.GrowthLemmas.{errs}
-use Rattle.pair_state.proofs.PartLemmas.{LinksSo, links-none, link, link-over, links-more, link-collides, links-length, links-nodes, last-over, all-came, last-collides, item-at}
+use Rattle.pair_state.proofs.PartLemmas.{no-texts, LinksSo, links-none, link, link-over, links-more, link-collides, links-length, links-nodes, last-over, all-came, last-collides, item-at}
 use Rattle.pair_state.proofs.parts.add_parts.Goals as goal
 
 pub loop-link-init : goal.loop-link-init
@@ -19,7 +19,10 @@ add_part-requires c =
     let l = c.loop-link in
     let at = item-at d.links c.as_slice-list.result.now l.link-index c.link-item.result c.as_slice-list.ensures c.loop-link-test.true c.link-item.is in
     let x = link c.args.hg.now l.hg c.args.saved.now l.links d blocks ls h l.link-index a (l.invariant blocks ls h a) c.link-item.result at in
-    record { part = (c.args.hg.now, x.view, link-over c.args.hg.now l.hg c.args.saved.now l.links d blocks ls h l.link-index a (l.invariant blocks ls h a) c.link-item.result at) }
+    record {
+      part = (c.args.hg.now, x.view, link-over c.args.hg.now l.hg c.args.saved.now l.links d blocks ls h l.link-index a (l.invariant blocks ls h a) c.link-item.result at);
+      texts = no-texts c.link-item.result c.none.result c.none.ensures.changeset c.none.ensures.manifest;
+    }
 
 pub returns-in_err-node-clause-collision : goal.returns-in_err-node-clause-collision
 returns-in_err-node-clause-collision c = λ is blocks ls h a.
@@ -53,7 +56,7 @@ add_part-requires-2 c =
     let a = c.requires.parts.3 in
     let l = c.loop-link in
     let all : length ls ≡ l.link-index = omega (arith, links-length c.args.hg.now d.links ls a.links, ap length c.as_slice-list.ensures, c.loop-link-test.false, l.auto.link-index-end) in
-    record { part = (c.args.hg.now, h, last-over c.args.hg.now l.hg c.args.saved.now l.links d blocks ls h l.link-index a (l.invariant blocks ls h a) all) }
+    record { part = (c.args.hg.now, h, last-over c.args.hg.now l.hg c.args.saved.now l.links d blocks ls h l.link-index a (l.invariant blocks ls h a) all); texts = c.requires.texts }
 
 pub returns-in_err-last-clause-collision : goal.returns-in_err-last-clause-collision
 returns-in_err-last-clause-collision c = λ is blocks ls h a.

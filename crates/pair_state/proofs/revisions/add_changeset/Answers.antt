@@ -21,7 +21,7 @@ pub add_manifest-requires : goal.add_manifest-requires
 add_manifest-requires c =
     let base = c.requires.asked.0 in
     let k = c.requires.asked.1 in
-    record { asked = (base, k, asked-over base c.args.hg.now c.args.d.now c.args.node c.args.text.items k c.requires.asked.2 c.add_revision.new.hg c.in_ok-add_revision.ensures.ok) }
+    record { asked = (base, k, asked-over base c.args.hg.now c.args.d.now c.args.node c.args.text.items k c.requires.asked.2 c.add_revision.new.hg c.in_ok-add_revision.ensures.ok); lines = c.requires.lines }
 
 pub returns-in_err-add_manifest-clause-collision : goal.returns-in_err-add_manifest-clause-collision
 returns-in_err-add_manifest-clause-collision c = λ is base k a.

@@ -44,3 +44,8 @@ pub returns-clause-ok : goal.returns-clause-ok
 returns-clause-ok c = λ base blocks came starts.
     subst (TakesArrivals c.args.state c.loop-place.next base blocks)
     (take_all c.loop-place.place came (omega (arith, length-map came arrival_of, ap length starts.are, c.len-place-end.ensures, c.loop-place-test.false))) (c.loop-place.invariant.took base blocks came starts)
+
+pub returns-in_err-next-clause-names : goal.returns-in_err-next-clause-names
+returns-in_err-next-clause-names c =
+    let p = err_from_is_err_and c.from_residual.result c.from_residual.ensures.1 in
+    rw (p.1, p.2) c.in_err-next.ensures.names

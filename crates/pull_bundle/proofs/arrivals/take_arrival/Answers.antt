@@ -1,7 +1,7 @@
-use Rattle.std.proofs.Common.{ap, sym, subst, ◌∙◌}
+use Rattle.std.proofs.Common.{inr, ap, sym, subst, ◌∙◌}
 use Rattle.hg_bundle.specs.declared.arrival.Arrival.{Arrival}
 use Rattle.bridge_text.specs.Refusals.{fault_name}
-use Rattle.pull_bundle.specs.Faults.{IsTakeFault}
+use Rattle.pull_bundle.specs.Faults.{IsTakeFault, IsOfChangeset}
 use Rattle.pull_bundle.proofs.TakeLemmas.{ComesDue}
 use Rattle.pull_bundle.proofs.ArrivalLemmas.{group-is, other-taken, changeset-taken}
 use Rattle.pull_bundle.proofs.arrivals.take_arrival.Goals as goal
@@ -31,3 +31,6 @@ returns-in-Err-Refused-clause-refused c = λ blocks before a is comes.
       refused = due blocks before a.revision (sym (ap (λ (x : Arrival). x.node) is)) (group-is (a.revision).group one) comes;
       is = (λ i. record { name = fault_name c.in-Err-Refused.fault; id = (is i).node; place = (is i).at });
     }
+
+pub returns-in-Err-Refused-clause-names : goal.returns-in-Err-Refused-clause-names
+returns-in-Err-Refused-clause-names c = inr (subst IsOfChangeset c.in-Err-Refused.field-0-is c.in-Err-Refused.ensures.names)

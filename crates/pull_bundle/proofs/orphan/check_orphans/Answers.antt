@@ -1,4 +1,4 @@
-use Rattle.std.proofs.Common.{◌≡◌, ap, sym, ◌∙◌, List, length, arith, take_all, true, false}
+use Rattle.std.proofs.Common.{◌≡◌, inr, ap, sym, ◌∙◌, List, length, arith, take_all, true, false}
 use Rattle.std.specs.Prelude.{slice_get}
 use Rattle.std.specs.List.{find}
 use Rattle.std.proofs.lemmas.List.{length-map}
@@ -39,3 +39,6 @@ loop-place-preserved c =
 pub returns-clause-ok : goal.returns-clause-ok
 returns-clause-ok c = λ blocks came state are.
     ap (find (is_orphan blocks)) (sym (take_all c.loop-place.place came (omega (arith, length-map came arrival_of, ap length are, c.len-place-end.ensures, c.loop-place-test.false)))) ∙ c.loop-place.invariant.none blocks came state are
+
+pub returns-then-is_orphan-clause-names : goal.returns-then-is_orphan-clause-names
+returns-then-is_orphan-clause-names c = inr tt

@@ -3,7 +3,7 @@ use Rattle.std.specs.Prelude.{IfSome}
 use Rattle.std.proofs.lemmas.Result.{err_from_is_err_and}
 use Rattle.hg_model.specs.Revision.{Revision}
 use Rattle.hg_bundle.specs.Arrivals.{Reads, known_after_all, revisions_of}
-use Rattle.pull_bundle.proofs.ReadLemmas.{has-read, told, fault-refused, fault-cause}
+use Rattle.pull_bundle.proofs.ReadLemmas.{has-read, told, fault-refused, fault-cause, fault-names}
 use Rattle.pull_bundle.proofs.read.read_bundle.Goals as goal
 
 pub returns-clause-read : goal.returns-clause-read
@@ -31,3 +31,8 @@ pub returns-in_err-store-clause-cause : goal.returns-in_err-store-clause-cause
 returns-in_err-store-clause-cause g c =
     let p = err_from_is_err_and c.from_residual.result c.from_residual.ensures.1 in
     rw (p.1, p.2) (fault-cause _ _ c.in_err-store.field-0.0 c.in_err-store.ensures.cause)
+
+pub returns-in_err-store-clause-names : goal.returns-in_err-store-clause-names
+returns-in_err-store-clause-names g c =
+    let p = err_from_is_err_and c.from_residual.result c.from_residual.ensures.1 in
+    rw (p.1, p.2) (fault-names c.in_err-store.field-0.0 c.in_err-store.ensures.names)

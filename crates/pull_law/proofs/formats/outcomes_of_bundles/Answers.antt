@@ -1,4 +1,4 @@
-use Rattle.pull_law.proofs.FormatLaws.{listed, unlisted, checked, unchecked}
+use Rattle.pull_law.proofs.BundleFormatLaws.{listed, unlisted, checked, unchecked}
 use Rattle.pull_law.proofs.formats.outcomes_of_bundles.Goals as goal
 
 pub returns-clause-listed : goal.returns-clause-listed

@@ -33,9 +33,12 @@ returns-in-Err-clause-refused c = λ m came o.
     let at = at-place c.args.ordered.now c.as_slice-id-items.result.now c.loop-id.id-index c.id-item.result c.as_slice-id-items.ensures c.loop-id-test.true c.id-item.is in
     let so_far = c.loop-id.invariant m came o in
     let due = c.in-Err.ensures.refused (m.blocks ++ so_far.0) (takes c.args.state c.args.came.now c.args.ordered.now m came o c.loop-id.id-index c.id-item.result at.0 at.1 c.loop-id.next so_far.0 so_far.1) in
-    refused-is c.args.state c.args.came.now c.args.ordered.now m came o c.loop-id.id-index c.id-item.result at.0 at.1 c.loop-id.next so_far.0 so_far.1 c.in-Err.fault c.refused_at.result due c.refused_at.ensures
+    refused-is c.args.state c.args.came.now c.args.ordered.now m came o c.loop-id.id-index c.id-item.result at.0 at.1 c.loop-id.next so_far.0 so_far.1 c.in-Err.fault c.refused_at.result due c.refused_at.ensures.placed
 
 pub returns-clause-ok : goal.returns-clause-ok
 returns-clause-ok c = λ m came o.
     let so_far = c.loop-id.invariant m came o in
     (so_far.0, subst (λ (ids : List Id). CommitsTaken c.args.state c.loop-id.next m.blocks ids so_far.0) (take_all c.loop-id.id-index c.args.ordered.now (omega (arith, ap length c.as_slice-id-items.ensures, c.loop-id-test.false))) so_far.1)
+
+pub returns-in-Err-clause-names : goal.returns-in-Err-clause-names
+returns-in-Err-clause-names c = c.refused_at.ensures.names c.in-Err.ensures.names

@@ -27,6 +27,7 @@ use Rattle.pair_state.specs.Blocks.{IsAgreed, body_blob}
 use Rattle.history_model.specs.Pull.{all_objects, objects_among}
 use Rattle.pull_stream.proofs.Growth.{grown, known_from-is, each-placed}
 use Rattle.git_view.proofs.WalkGrowth.{walk-on, commits-on}
+use Rattle.pull_stream.proofs.Names.{stream-named}
 use Rattle.pull_stream.proofs.objects.read_objects.Goals as goal
 
 -- of the commits what holds of the blocks
@@ -78,11 +79,12 @@ returns-clause-ready g c = λ blocks state.
       b.objects,
       record {
         state = record {
-          held = history-on k new within c.check.ensures c.check-2.ensures blocks state.held;
+          held = history-on k new within state.sound c.check.ensures blocks state.held;
+          sound = c.check.ensures;
           blocks_are = state.blocks_are;
           changesets = state.changesets;
           commits = state.commits;
-          agreed = λ node has. agreed-on k new within c.check.ensures c.check-2.ensures node (state.agreed node has);
+          agreed = λ node has. agreed-on k new within state.sound c.check.ensures node (state.agreed node has);
         };
         revisions = refl;
         objects = after;
@@ -122,3 +124,8 @@ pub returns-in_err-git-clause-cause : goal.returns-in_err-git-clause-cause
 returns-in_err-git-clause-cause g c =
     let p = err_from_is_err_and c.from_residual.result c.from_residual.ensures.1 in
     rw (p.1, p.2) (cause-as _ _ c.in_err-git.field-0.0 c.in_err-git.ensures.cause)
+
+pub returns-in_err-git-clause-fault_names : goal.returns-in_err-git-clause-fault_names
+returns-in_err-git-clause-fault_names g c =
+    let p = err_from_is_err_and c.from_residual.result c.from_residual.ensures.1 in
+    rw (p.1, p.2) (stream-named c.in_err-git.field-0.0 c.in_err-git.ensures.names)

@@ -10,14 +10,14 @@ use Rattle.git_store.proofs.FindLemmas.{find-among}
 use Rattle.git_batch.specs.declared.arrival.ObjectArrival.{ObjectArrival}
 use Rattle.history_model.specs.Pull as model
 use Rattle.history_model.specs.Pull.{ancestries, saved_ids, place_of}
-use Rattle.pair_state.specs.declared.state.State.{State}
+use Rattle.pair_state.specs.declared.state_parts.StateParts.{StateParts}
 use Rattle.pull_outcome.specs.declared.refused.PullFault.{PullFault}
 use Rattle.pull_stream.specs.Faults.{IsJudgement}
 use Rattle.pull_stream.specs.Ready.{IsReady, LacksParent, HasPlace, IsOrderRefusal, commits_among, place_among}
 use Rattle.pull_stream.proofs.Orders.{same-rows, same-place, commit-of, has-place}
 use Rattle.pull_stream.proofs.ordering.order_commits.Goals as goal
 
-module _ (s : State) (arrivals : List ObjectArrival) (commits : List Id) (listed : commits ≡ commits_among arrivals) (m : model.State) (came : List Placed) (ready : IsReady s arrivals m came) where
+module _ (s : StateParts) (arrivals : List ObjectArrival) (commits : List Id) (listed : commits ≡ commits_among arrivals) (m : model.State) (came : List Placed) (ready : IsReady s arrivals m came) where
   rows : order.ancestries s.known.git commits ≡ ancestries came
   rows = ap (order.ancestries s.known.git) (listed ∙ ap commits_among ready.listed) ∙ same-rows s.known.git came ready.held
 
@@ -61,4 +61,7 @@ refusal_of-requires c =
 
 pub returns-clause-stuck : goal.returns-clause-stuck
 returns-clause-stuck c = λ m came ready.
-    refused c.args.state.now c.args.came.now c.in_ok-commits.commits c.in_ok-commits.ensures m came ready c.in-Err.fault c.refusal_of.result c.in-Err.ensures.fault c.refusal_of.ensures
+    refused c.args.state.now c.args.came.now c.in_ok-commits.commits c.in_ok-commits.ensures m came ready c.in-Err.fault c.refusal_of.result c.in-Err.ensures.fault c.refusal_of.ensures.refusal
+
+pub returns-clause-names : goal.returns-clause-names
+returns-clause-names c = c.refusal_of.ensures.names

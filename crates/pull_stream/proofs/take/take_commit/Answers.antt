@@ -1,6 +1,7 @@
 use Rattle.std.proofs.Common.{Err, ap}
 use Rattle.std.proofs.lemmas.Result.{err_from_is_err_and}
 use Rattle.pair_model.specs.Plain.{block_of_commit}
+use Rattle.pull_stream.proofs.Names.{push-named}
 use Rattle.pull_stream.proofs.Takes.{rule-refused, draft-few, pushes, push-refused, taken}
 use Rattle.pull_stream.proofs.take.take_commit.Goals as goal
 
@@ -45,3 +46,18 @@ returns-clause-ok c = λ blocks takes.
     let ch = c.in_ok-changeset.ensures.ok blocks d.0 d.1.over in
     taken c.args.state c.args.id.now blocks c.in_ok-draft.draft d.0 d.1 takes c.in_ok-changeset.changeset ch c.in_ok-next.next
     (c.in_ok-next.ensures.ok blocks (block_of_commit blocks d.0) (pushes c.args.state c.args.id.now blocks c.in_ok-draft.draft d.0 d.1 takes c.in_ok-changeset.changeset ch c.new.result c.new.ensures))
+
+pub returns-in_err-draft-clause-names : goal.returns-in_err-draft-clause-names
+returns-in_err-draft-clause-names c =
+    let p = err_from_is_err_and c.from_residual.result c.from_residual.ensures.1 in
+    rw (p.1, p.2) c.in_err-draft.ensures.names
+
+pub returns-in_err-changeset-clause-names : goal.returns-in_err-changeset-clause-names
+returns-in_err-changeset-clause-names c =
+    let p = err_from_is_err_and c.from_residual-in_err-changeset.result c.from_residual-in_err-changeset.ensures.1 in
+    rw (p.1, p.2) c.in_err-changeset.ensures.names
+
+pub returns-in_err-next-clause-names : goal.returns-in_err-next-clause-names
+returns-in_err-next-clause-names c =
+    let p = err_from_is_err_and c.from_residual-in_err-next.result c.from_residual-in_err-next.ensures.1 in
+    rw (p.1, p.2) (push-named c.in_err-next.field-0.0)

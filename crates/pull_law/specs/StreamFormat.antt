@@ -1,4 +1,4 @@
--- What the outcome of a command says of its input, in the words of the formats.
+-- What the outcome of a command over a stream says of its input, in the words of the format.
 use Rattle.std.specs.Prelude.{◌≡◌, List, [], map}
 use Rattle.text_model.specs.Text.{Bytes}
 use Rattle.git_model.specs.Object.{Object}

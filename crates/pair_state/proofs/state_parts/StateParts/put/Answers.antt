@@ -4,14 +4,16 @@ use Rattle.std.proofs.lemmas.Result.{err_from_is_err_and}
 use Rattle.text_model.specs.Id.{Id, commit, object_id}
 use Rattle.git_model.specs.Object.{Object, knows_object}
 use Rattle.pair_model.specs.Block.{block_of_id}
+use Rattle.pair_known.specs.Partners.{hg_at}
 use Rattle.pair_state.specs.Growth.{HasGrown, Clash}
 use Rattle.pair_state.specs.Step.{IsPushed}
 use Rattle.pair_state.proofs.BlockLemmas.{hg-some, none-is}
 use Rattle.pair_state.proofs.GrowthLemmas.{errs}
 use Rattle.pair_state.proofs.MadeCommit.{right-blobs, right-trees, right-commit, id-is, own-is}
-use Rattle.pair_state.proofs.PushChangeset.{parts, few-nodes, node-free}
+use Rattle.pair_state.proofs.PushChangeset.{whole-parts, few-nodes, node-free}
+use Rattle.pair_state.proofs.PartLemmas.{no-texts}
 use Rattle.pair_state.proofs.PushBlock.{with_all, parts-collide, commit-saved, objects-clash, body-collides, asked, agreed-there, known-of, pushed}
-use Rattle.pair_state.proofs.state.State.put.Goals as goal
+use Rattle.pair_state.proofs.state_parts.StateParts.put.Goals as goal
 
 pub returns-then-is_some-clause-collision : goal.returns-then-is_some-clause-collision
 returns-then-is_some-clause-collision c = λ _ blocks b p.
@@ -24,14 +26,17 @@ returns-then-is_some-clause-collision c = λ _ blocks b p.
 pub add_parts-requires : goal.add_parts-requires
 add_parts-requires c =
     let b = c.requires.block.1 in
-    record { parts = (c.requires.block.0, b.links, b.changeset, parts c.args.self.now c.args.block.now c.requires.block.0 b (c.requires.block.2).brings) }
+    record {
+      parts = (c.requires.block.0, b.links, b.changeset, whole-parts c.args.self.now c.args.block.now c.requires.block.0 b (c.requires.block.2).brings);
+      texts = no-texts c.args.block.now.last c.none.result c.none.ensures.changeset c.none.ensures.manifest;
+    }
 
 pub returns-in_err-nodes-clause-collision : goal.returns-in_err-nodes-clause-collision
 returns-in_err-nodes-clause-collision c = λ is blocks b p.
     let s = c.args.self.now in
     let q = err_from_is_err_and c.from_residual-in_err-nodes.result c.from_residual-in_err-nodes.ensures.1 in
     parts-collide s c.args.block.now c.args.commit blocks b p
-    (c.in_err-nodes.ensures.collision (errs _ _ (ap Err (sym q.2) ∙ sym q.1 ∙ is)) blocks b.links b.changeset (parts s c.args.block.now blocks b p.brings))
+    (c.in_err-nodes.ensures.collision (errs _ _ (ap Err (sym q.2) ∙ sym q.1 ∙ is)) blocks b.links b.changeset (whole-parts s c.args.block.now blocks b p.brings))
 
 pub add_commit-requires-clause-blobs : goal.add_commit-requires-clause-blobs
 add_commit-requires-clause-blobs c = right-blobs c.args.self.now.known.git c.args.commit (c.requires.block.1).commit (c.requires.block.2).made
@@ -60,7 +65,7 @@ have_bodies-agreed-requires-clause-rows c =
     let hash = c.object_id-id.ensures ∙ ap (object_id commit) c.deref.ensures.value in
     let same = own-is s.known.git c.args.commit b.commit p.made c.in_ok-text.text.items c.in_ok-text.ensures c.object_id-id.result hash in
     let grown = subst (λ (o : Object). HasGrown s.known.git c.add_commit.new.git (c.args.commit.fresh ++ c.args.commit.trees ++ o ∷ [])) same c.in_ok-add_commit.ensures.ok in
-    let came = c.in_ok-nodes.ensures.came blocks b.links b.changeset (parts s c.args.block.now blocks b p.brings) in
+    let came = c.in_ok-nodes.ensures.came blocks b.links b.changeset (whole-parts s c.args.block.now blocks b p.brings) in
     ((b.changeset).rows, asked s c.args.block.now c.args.commit blocks b p c.add_parts.new.hg came c.add_commit.new.git grown)
 
 pub have_bodies-agreed-requires-clause-agreed : goal.have_bodies-agreed-requires-clause-agreed
@@ -72,7 +77,7 @@ have_bodies-agreed-requires-clause-agreed c =
     let hash = c.object_id-id.ensures ∙ ap (object_id commit) c.deref.ensures.value in
     let same = own-is s.known.git c.args.commit b.commit p.made c.in_ok-text.text.items c.in_ok-text.ensures c.object_id-id.result hash in
     let grown = subst (λ (o : Object). HasGrown s.known.git c.add_commit.new.git (c.args.commit.fresh ++ c.args.commit.trees ++ o ∷ [])) same c.in_ok-add_commit.ensures.ok in
-    let came = c.in_ok-nodes.ensures.came blocks b.links b.changeset (parts s c.args.block.now blocks b p.brings) in
+    let came = c.in_ok-nodes.ensures.came blocks b.links b.changeset (whole-parts s c.args.block.now blocks b p.brings) in
     agreed-there s c.args.block.now c.args.commit blocks b p c.add_parts.new.hg came c.add_commit.new.git grown
 
 pub returns-in_err-check_bodies-clause-collision : goal.returns-in_err-check_bodies-clause-collision
@@ -82,7 +87,7 @@ returns-in_err-check_bodies-clause-collision c = λ is blocks b p.
     let same = own-is s.known.git c.args.commit b.commit p.made c.in_ok-text.text.items c.in_ok-text.ensures c.object_id-id.result hash in
     let id = id-is s.known.git c.args.commit b.commit p.made c.in_ok-text.text.items c.in_ok-text.ensures c.object_id-id.result hash in
     let grown = subst (λ (o : Object). HasGrown s.known.git c.add_commit.new.git (c.args.commit.fresh ++ c.args.commit.trees ++ o ∷ [])) same c.in_ok-add_commit.ensures.ok in
-    let came = c.in_ok-nodes.ensures.came blocks b.links b.changeset (parts s c.args.block.now blocks b p.brings) in
+    let came = c.in_ok-nodes.ensures.came blocks b.links b.changeset (whole-parts s c.args.block.now blocks b p.brings) in
     let q = err_from_is_err_and c.from_residual-in_err-check_bodies.result c.from_residual-in_err-check_bodies.ensures.1 in
     let no = c.in_err-check_bodies.ensures.collision (errs _ _ (ap Err (sym q.2) ∙ sym q.1 ∙ is)) in
     body-collides s c.args.block.now c.args.commit blocks b p c.add_parts.new.hg came c.add_commit.new.git grown
@@ -95,7 +100,7 @@ insert-requires-clause-few c =
     let blocks = c.requires.block.0 in
     let b = c.requires.block.1 in
     let p = c.requires.block.2 in
-    few-nodes s c.args.block.now blocks b p.brings c.as_slice.result.now (c.as_slice.ensures ∙ c.in_ok-nodes.ensures.links blocks b.links b.changeset (parts s c.args.block.now blocks b p.brings))
+    few-nodes s c.args.block.now blocks b p.brings c.as_slice.result.now (c.as_slice.ensures ∙ c.in_ok-nodes.ensures.links blocks b.links b.changeset (whole-parts s c.args.block.now blocks b p.brings))
 
 pub insert-requires-clause-node_is_free : goal.insert-requires-clause-node_is_free
 insert-requires-clause-node_is_free c =
@@ -103,7 +108,7 @@ insert-requires-clause-node_is_free c =
     let blocks = c.requires.block.0 in
     let b = c.requires.block.1 in
     let p = c.requires.block.2 in
-    let of = parts s c.args.block.now blocks b p.brings in
+    let of = whole-parts s c.args.block.now blocks b p.brings in
     node-free s c.args.block.now blocks b p.brings c.add_parts.new.hg (c.in_ok-nodes.ensures.came blocks b.links b.changeset of) c.in_ok-nodes.nodes.last (c.in_ok-nodes.ensures.last blocks b.links b.changeset of)
 
 pub returns-clause-ok : goal.returns-clause-ok
@@ -113,12 +118,18 @@ returns-clause-ok c = λ blocks b p.
     let same = own-is s.known.git c.args.commit b.commit p.made c.in_ok-text.text.items c.in_ok-text.ensures c.object_id-id.result hash in
     let id = id-is s.known.git c.args.commit b.commit p.made c.in_ok-text.text.items c.in_ok-text.ensures c.object_id-id.result hash in
     let grown = subst (λ (o : Object). HasGrown s.known.git c.add_commit.new.git (c.args.commit.fresh ++ c.args.commit.trees ++ o ∷ [])) same c.in_ok-add_commit.ensures.ok in
-    let of = parts s c.args.block.now blocks b p.brings in
+    let of = whole-parts s c.args.block.now blocks b p.brings in
     let came = c.in_ok-nodes.ensures.came blocks b.links b.changeset of in
     let free = none-is (block_of_id blocks _) (ap (λ (i : Id). is_some (block_of_id blocks i)) (sym id) ∙ sym (hg-some s.known blocks p.brings.state.held c.object_id-id.result) ∙ sym (ap is_some c.hg_of.ensures) ∙ sym c.is_some.ensures ∙ c.if-is_some.false) in
-    pushed s c.args.block.now c.args.commit blocks b p c.add_parts.new.hg came c.add_commit.new.git grown c.check.ensures c.check-2.ensures
+    pushed s c.args.block.now c.args.commit blocks b p c.add_parts.new.hg came c.add_commit.new.git grown p.brings.state.sound c.in_ok-add_commit.ensures.sound
     c.have_bodies-agreed.result (λ e. c.have_bodies-agreed.ensures.yes e (b.changeset).rows (asked s c.args.block.now c.args.commit blocks b p c.add_parts.new.hg came c.add_commit.new.git grown))
     (known-of c.have_bodies-agreed.result s.known.git c.is_stored-stored.result c.object_id-id.result _ id c.is_stored-stored.ensures c.in_ok-check_bodies.ensures.ok)
     free c.in_ok-nodes.nodes.links (c.in_ok-nodes.ensures.links blocks b.links b.changeset of) c.in_ok-nodes.nodes.last (c.in_ok-nodes.ensures.last blocks b.links b.changeset of)
     c.object_id-id.result id c.put_where.new.set c.in_ok-put_where.ensures c.insert.new.self
     (subst (λ (ids : List Id). IsPushed (with_all s c.add_parts.new.hg c.add_commit.new.git c.put_where.new.set) c.insert.new.self ids c.in_ok-nodes.nodes.last c.object_id-id.result) c.as_slice.ensures c.in_ok-insert.ensures)
+
+pub add_commit-requires-clause-its_id : goal.add_commit-requires-clause-its_id
+add_commit-requires-clause-its_id c = sym (c.object_id-id.ensures ∙ ap (object_id commit) c.deref.ensures.value)
+
+pub insert-requires-clause-id_is_free : goal.insert-requires-clause-id_is_free
+insert-requires-clause-id_is_free c = none-is (hg_at c.args.self.now.known.partners c.object_id-id.result) (ap is_some (sym c.hg_of.ensures) ∙ sym c.is_some.ensures ∙ c.if-is_some.false)

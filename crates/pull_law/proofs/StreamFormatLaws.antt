@@ -8,7 +8,7 @@ use Rattle.git_model.proofs.StreamAgain.{stream_again}
 use Rattle.git_model.proofs.StreamTakes.{stream_takes}
 use Rattle.history_model.specs.Command.{ListGit, CheckGit, Written, Refused, written_unless, written_of, object_counts, ComesTo}
 use Rattle.git_batch.proofs.StreamLaws.{brings_all, brings_only}
-use Rattle.bridge_cli.specs.Format.{ListsStream, IsNoStream, CountsStream, IsNoSoundStream}
+use Rattle.pull_law.specs.StreamFormat.{ListsStream, IsNoStream, CountsStream, IsNoSoundStream}
 
 same_output : (a b : Bytes) → Written a ≡ Written b → b ≡ a
 same_output a b e = cc

@@ -1,5 +1,5 @@
-use Rattle.bridge_cli.proofs.FormatLemmas.{listed, unlisted, checked, unchecked}
-use Rattle.bridge_cli.proofs.law.outcomes_of_streams.Goals as goal
+use Rattle.pull_law.proofs.StreamFormatLaws.{listed, unlisted, checked, unchecked}
+use Rattle.pull_law.proofs.formats.outcomes_of_streams.Goals as goal
 
 pub returns-clause-listed : goal.returns-clause-listed
 returns-clause-listed c = listed

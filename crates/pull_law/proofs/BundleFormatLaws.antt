@@ -10,7 +10,7 @@ use Rattle.hg_bundle.specs.Arrivals.{arrival_of, known_after_all, revisions_of}
 use Rattle.hg_bundle.proofs.Groups.{brings_bundle}
 use Rattle.hg_bundle.proofs.Unreadable.{bundle_read}
 use Rattle.history_model.specs.Command.{ListHg, CheckHg, Written, Refused, written_unless, written_of, revision_counts, ComesTo}
-use Rattle.pull_law.specs.Format.{CountsBundle, IsNoSoundBundle}
+use Rattle.pull_law.specs.BundleFormat.{CountsBundle, IsNoSoundBundle}
 use Rattle.pull_law.proofs.Bundle.{one_read}
 use Rattle.pull_law.proofs.Counts.{counts-entries}
 

@@ -13,7 +13,7 @@ use Rattle.pair_state.proofs.GrowthLemmas.{errs}
 use Rattle.pair_state.proofs.KeptLemmas.{agreed-blobs}
 use Rattle.pair_state.proofs.MadeCommit.{inserted, with_objects, right-blobs, right-trees, right-commit, id-is, own-is}
 use Rattle.pair_state.proofs.PushCommit.{saved-collides, partner-collides, parts-collide, body-collides, asked, pushed}
-use Rattle.pair_state.proofs.state.State.put_commit.Goals as goal
+use Rattle.pair_state.proofs.state_parts.StateParts.put_commit.Goals as goal
 
 pub returns-then-contains_any-clause-collision : goal.returns-then-contains_any-clause-collision
 returns-then-contains_any-clause-collision c = λ _ blocks b p.
@@ -85,7 +85,7 @@ returns-clause-ok c = λ blocks b p.
     let id = id-is s.known.git c.args.commit b.commit p.ruled.made c.in_ok-text.text.items c.in_ok-text.ensures c.object_id-id.result hash in
     let free = none-is (block_of_id blocks _) (ap (λ (i : Id). is_some (block_of_id blocks i)) (sym id) ∙ sym (hg-some s.known blocks p.state.held c.object_id-id.result) ∙ sym (ap is_some c.hg_of.ensures) ∙ sym c.is_some.ensures ∙ c.if-is_some.false) in
     let apart = sym (ap (list_any (has_id s.changesets)) c.as_slice.ensures) ∙ sym c.contains_any.ensures ∙ c.if-contains_any.false in
-    pushed s c.args.h.now c.args.links.now c.args.commit c.args.node blocks b p c.add_commit.new.git grown c.check.ensures c.check-2.ensures
+    pushed s c.args.h.now c.args.links.now c.args.commit c.args.node blocks b p c.add_commit.new.git grown p.state.sound c.in_ok-add_commit.ensures.sound
     (c.have_bodies.ensures.yes c.if-not-have_bodies.false (b.changeset).rows (asked s c.args.h.now c.args.links.now c.args.commit c.args.node blocks b p c.add_commit.new.git grown))
     (c.views_are_held.ensures.node b.changeset p.held) free apart c.object_id-id.result id
     c.insert.new.self (inserted c.insert.new.self s.agreed c.args.node c.in_ok-insert.field-0 c.in_ok-insert.ensures.ok)

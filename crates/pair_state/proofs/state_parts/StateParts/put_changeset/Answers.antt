@@ -3,24 +3,28 @@ use Rattle.std.specs.Prelude.{is_some}
 use Rattle.std.proofs.lemmas.Result.{err_from_is_err_and}
 use Rattle.text_model.specs.Id.{Id}
 use Rattle.pair_known.specs.Partners.{hg_at}
-use Rattle.pair_state.specs.Step.{IsPushed}
+use Rattle.pair_state.specs.Step.{AreItsTexts, IsPushed}
 use Rattle.pair_state.proofs.BlockLemmas.{hg-some, none-is}
 use Rattle.pair_state.proofs.GrowthLemmas.{errs}
-use Rattle.pair_state.proofs.PushChangeset.{parts, collides, with_revisions, few-nodes, node-free, pushed}
-use Rattle.pair_state.proofs.state.State.put_changeset.Goals as goal
+use Rattle.pair_state.proofs.PushChangeset.{bare, parts, its-texts, collides, with_revisions, few-nodes, node-free, pushed}
+use Rattle.pair_state.proofs.state_parts.StateParts.put_changeset.Goals as goal
 
 pub add_parts-requires : goal.add_parts-requires
 add_parts-requires c =
     let s = c.args.self.now in
     let blocks = c.requires.block.0 in
     let b = c.requires.block.1 in
-    record { parts = (blocks, b.links, b.changeset, parts s c.args.block.now blocks b (c.requires.block.2).brings) }
+    let p = (c.requires.block.2).brings in
+    record {
+      parts = (blocks, b.links, b.changeset, parts s c.args.block blocks b p c.replace-texts.new.dest c.none.result c.replace-texts.ensures.after c.none.ensures.changeset c.none.ensures.manifest);
+      texts = subst (AreItsTexts (bare s c.args.block blocks b p c.replace-texts.new.dest).last) (sym c.replace-texts.ensures.value) (its-texts s c.args.block blocks b p c.replace-texts.new.dest);
+    }
 
 pub returns-in_err-nodes-clause-collision : goal.returns-in_err-nodes-clause-collision
 returns-in_err-nodes-clause-collision c = λ is blocks b p.
     let s = c.args.self.now in
     let q = err_from_is_err_and c.from_residual.result c.from_residual.ensures.1 in
-    collides s c.args.block.now blocks b p.brings (c.in_err-nodes.ensures.collision (errs _ _ (ap Err (sym q.2) ∙ sym q.1 ∙ is)) blocks b.links b.changeset (parts s c.args.block.now blocks b p.brings))
+    collides s c.args.block blocks b p.brings (c.in_err-nodes.ensures.collision (errs _ _ (ap Err (sym q.2) ∙ sym q.1 ∙ is)) blocks b.links b.changeset (parts s c.args.block blocks b p.brings c.replace-texts.new.dest c.none.result c.replace-texts.ensures.after c.none.ensures.changeset c.none.ensures.manifest))
 
 pub insert-requires-clause-few : goal.insert-requires-clause-few
 insert-requires-clause-few c =
@@ -28,8 +32,8 @@ insert-requires-clause-few c =
     let blocks = c.requires.block.0 in
     let b = c.requires.block.1 in
     let p = c.requires.block.2 in
-    let of = parts s c.args.block.now blocks b p.brings in
-    few-nodes s c.args.block.now blocks b p.brings c.as_slice.result.now (c.as_slice.ensures ∙ c.in_ok-nodes.ensures.links blocks b.links b.changeset of)
+    let of = parts s c.args.block blocks b p.brings c.replace-texts.new.dest c.none.result c.replace-texts.ensures.after c.none.ensures.changeset c.none.ensures.manifest in
+    few-nodes s c.args.block blocks b p.brings c.as_slice.result.now (c.as_slice.ensures ∙ c.in_ok-nodes.ensures.links blocks b.links b.changeset of)
 
 pub insert-requires-clause-node_is_free : goal.insert-requires-clause-node_is_free
 insert-requires-clause-node_is_free c =
@@ -37,8 +41,8 @@ insert-requires-clause-node_is_free c =
     let blocks = c.requires.block.0 in
     let b = c.requires.block.1 in
     let p = c.requires.block.2 in
-    let of = parts s c.args.block.now blocks b p.brings in
-    node-free s c.args.block.now blocks b p.brings c.add_parts.new.hg (c.in_ok-nodes.ensures.came blocks b.links b.changeset of) c.in_ok-nodes.nodes.last (c.in_ok-nodes.ensures.last blocks b.links b.changeset of)
+    let of = parts s c.args.block blocks b p.brings c.replace-texts.new.dest c.none.result c.replace-texts.ensures.after c.none.ensures.changeset c.none.ensures.manifest in
+    node-free s c.args.block blocks b p.brings c.add_parts.new.hg (c.in_ok-nodes.ensures.came blocks b.links b.changeset of) c.in_ok-nodes.nodes.last (c.in_ok-nodes.ensures.last blocks b.links b.changeset of)
 
 pub insert-requires-clause-id_is_free : goal.insert-requires-clause-id_is_free
 insert-requires-clause-id_is_free c =
@@ -49,8 +53,8 @@ insert-requires-clause-id_is_free c =
 pub returns-clause-ok : goal.returns-clause-ok
 returns-clause-ok c = λ blocks b p.
     let s = c.args.self.now in
-    let d = c.args.block.now in
-    let of = parts s d blocks b p.brings in
+    let d = c.args.block in
+    let of = parts s d blocks b p.brings c.replace-texts.new.dest c.none.result c.replace-texts.ensures.after c.none.ensures.changeset c.none.ensures.manifest in
     pushed s d blocks b p.brings c.add_parts.new.hg (c.in_ok-nodes.ensures.came blocks b.links b.changeset of) c.args.id p.held p.walks (c.commits_are_held.ensures.node b.commit p.held)
     c.in_ok-nodes.nodes.links (c.in_ok-nodes.ensures.links blocks b.links b.changeset of) c.in_ok-nodes.nodes.last (c.in_ok-nodes.ensures.last blocks b.links b.changeset of) c.insert.new.self
     (subst (λ (ids : List Id). IsPushed (with_revisions s d blocks b p.brings c.add_parts.new.hg) c.insert.new.self ids c.in_ok-nodes.nodes.last c.args.id) c.as_slice.ensures c.in_ok-insert.ensures)
