@@ -23,56 +23,83 @@ fn source(alloc: Global, bytes: &[u8], cut: usize, fails: &[u64]) -> Result<MemS
     Ok(MemSource::new(bytes.to_vec(alloc)?, cut, fails.to_vec(alloc)?))
 }
 
-// What is read of these bytes first, in pieces of at most `cut` bytes.
-fn first(alloc: Global, bytes: &[u8], cut: usize) -> Result<Result<Item, BatchFault>, Fail> {
+// Why nothing is read of these bytes, in pieces of at most `cut` bytes.
+fn fault_of(alloc: Global, bytes: &[u8], cut: usize) -> Result<Option<BatchFault>, Fail> {
     let mut src = source(alloc, bytes, cut, &[])?;
     let mut into = b"left".to_vec(alloc)?;
-    Ok(BatchReader::new().next(&mut src, &mut into))
+    Ok(BatchReader::new().next(&mut src, &mut into).err())
 }
 
 /// What `git cat-file --batch` prints of a blob, the empty tree and a tag.
+const STREAM: &[u8] = b"ce013625030ba8dba906f756967f9e9ca394464a blob 6\nhello\n\n\
+    4b825dc642cb6eb9a060e54bf8d69288fbee4904 tree 0\n\n\
+    89724a1baedd77281179bec063374b666045947a tag 1\nx\n";
+
+/// These objects: id, kind, place, content.
+const OBJECTS: &[(&[u8], Kind, u64, &[u8])] = &[
+    (HELLO, Kind::Blob, 0, b"hello\n"),
+    (
+        b"4b825dc642cb6eb9a060e54bf8d69288fbee4904",
+        Kind::Tree,
+        55,
+        b"",
+    ),
+    (
+        b"89724a1baedd77281179bec063374b666045947a",
+        Kind::Tag,
+        104,
+        b"x",
+    ),
+];
+
+// Whether this is the item of an object.
+fn is_object(item: &Item, digits: &[u8], kind: Kind, at: u64) -> bool {
+    match Id::from_hex(digits) {
+        Some(id) => *item == Item::Object { id, kind, at },
+        None => false,
+    }
+}
+
+// Whether the next item is this object.
+fn is_next(
+    reader: &mut BatchReader,
+    src: &mut MemSource,
+    into: &mut Vec<u8>,
+    object: &(&[u8], Kind, u64, &[u8]),
+) -> bool {
+    let (digits, kind, at, content) = *object;
+    match reader.next_checked(src, into) {
+        Ok(item) => is_object(&item, digits, kind, at) && into.as_slice() == content,
+        Err(_) => false,
+    }
+}
+
+// Whether the stream is read in pieces of at most `cut` bytes.
+fn is_read(alloc: Global, cut: usize) -> Result<bool, Fail> {
+    let mut src = source(alloc, STREAM, cut, &[])?;
+    let mut reader = BatchReader::new();
+    let mut into = b"left".to_vec(alloc)?;
+    for object in OBJECTS {
+        if !is_next(&mut reader, &mut src, &mut into, object) {
+            return Ok(false);
+        }
+    }
+    let is_at_end = reader.next(&mut src, &mut into) == Ok(Item::End);
+    Ok(is_at_end && into.is_empty())
+}
+
 #[test]
 fn a_stream_is_read_in_any_pieces(rt: HostRuntime) -> Result<(), Fail> {
-    let alloc = rt.alloc();
-    let stream = b"ce013625030ba8dba906f756967f9e9ca394464a blob 6\nhello\n\n\
-        4b825dc642cb6eb9a060e54bf8d69288fbee4904 tree 0\n\n\
-        89724a1baedd77281179bec063374b666045947a tag 1\nx\n";
-    let wanted: [(&[u8], Kind, u64, &[u8]); 3] = [
-        (HELLO, Kind::Blob, 0, b"hello\n"),
-        (
-            b"4b825dc642cb6eb9a060e54bf8d69288fbee4904",
-            Kind::Tree,
-            55,
-            b"",
-        ),
-        (
-            b"89724a1baedd77281179bec063374b666045947a",
-            Kind::Tag,
-            104,
-            b"x",
-        ),
-    ];
     for cut in [0, 1, 7] {
-        let mut src = source(alloc, stream, cut, &[])?;
-        let mut reader = BatchReader::new();
-        let mut into = b"left".to_vec(alloc)?;
-        for (digits, kind, at, content) in wanted {
-            let id = Id::from_hex(digits).ok_or("40 digits")?;
-            let want = Ok(Item::Object { id, kind, at });
-            assert!(rt; reader.next_checked(&mut src, &mut into) == want);
-            assert_eq!(rt; into.as_slice(), content);
-        }
-        assert!(rt; reader.next(&mut src, &mut into) == Ok(Item::End));
-        assert!(rt; into.is_empty());
+        let is_read = is_read(rt.alloc(), cut)?;
+        assert!(rt; is_read, "{cut}");
     }
     Ok(())
 }
 
-#[test]
-fn each_line_has_its_fault(rt: HostRuntime) -> Result<(), Fail> {
-    let alloc = rt.alloc();
-    let id = hello()?;
-    let cases: [(&[u8], BatchFault); 19] = [
+/// What stands behind the digits of an id, and why it is no object.
+fn faults(id: Id) -> [(&'static [u8], BatchFault); 19] {
+    [
         (b" missing\n", BatchFault::Missing(0)),
         (b" blub 0\n\n", BatchFault::KindUnknown(id, 0)),
         (b" blub 99999999\n", BatchFault::KindUnknown(id, 0)),
@@ -92,19 +119,30 @@ fn each_line_has_its_fault(rt: HostRuntime) -> Result<(), Fail> {
         (b" blob 6\nhell", BatchFault::Truncated(52)),
         (b" blob 6\nhello\n", BatchFault::Truncated(54)),
         (b" blob 6\nhello\nx", BatchFault::Line(54)),
-    ];
-    for (rest, want) in cases {
-        let bytes = behind_hello(alloc, rest)?;
-        assert!(rt; first(alloc, &bytes, 0)? == Err(want));
-        assert!(rt; first(alloc, &bytes, 1)? == Err(want));
+    ]
+}
+
+// Whether what stands behind the digits has this fault, in whatever pieces it is given.
+fn is_refused(alloc: Global, rest: &[u8], fault: BatchFault) -> Result<bool, Fail> {
+    let bytes = behind_hello(alloc, rest)?;
+    let at_once = fault_of(alloc, &bytes, 0)?;
+    let byte_by_byte = fault_of(alloc, &bytes, 1)?;
+    Ok(at_once == Some(fault) && byte_by_byte == Some(fault))
+}
+
+#[test]
+fn each_line_has_its_fault(rt: HostRuntime) -> Result<(), Fail> {
+    let id = hello()?;
+    for (rest, want) in faults(id) {
+        let is_refused = is_refused(rt.alloc(), rest, want)?;
+        assert!(rt; is_refused, "{want:?}");
     }
     Ok(())
 }
 
-#[test]
-fn a_line_has_4096_bytes_at_most(rt: HostRuntime) -> Result<(), Fail> {
-    let alloc = rt.alloc();
-    let cases: [(usize, &[u8], BatchFault); 8] = [
+/// So many letters, what stands behind them, and why it is no object.
+fn long_lines() -> [(usize, &'static [u8], BatchFault); 8] {
+    [
         (1, b" missing\n", BatchFault::Missing(0)),
         (4095, b"\n", BatchFault::Line(0)),
         (4096, b"", BatchFault::Truncated(4096)),
@@ -113,67 +151,88 @@ fn a_line_has_4096_bytes_at_most(rt: HostRuntime) -> Result<(), Fail> {
         (4088, b" missing", BatchFault::Truncated(4096)),
         (4088, b" missing\n", BatchFault::Missing(0)),
         (4089, b" missing\n", BatchFault::Line(0)),
-    ];
-    for (letters, rest, want) in cases {
-        let mut bytes = Vec::new(alloc);
-        bytes.resize(letters, b'x')?;
-        bytes.extend_from_slice(rest)?;
-        assert!(rt; first(alloc, &bytes, 0)? == Err(want), "{letters}");
+    ]
+}
+
+fn long_line(alloc: Global, letters: usize, rest: &[u8]) -> Result<Vec<u8>, Fail> {
+    let mut bytes = Vec::new(alloc);
+    bytes.resize(letters, b'x')?;
+    bytes.extend_from_slice(rest)?;
+    Ok(bytes)
+}
+
+#[test]
+fn a_line_has_4096_bytes_at_most(rt: HostRuntime) -> Result<(), Fail> {
+    for (letters, rest, want) in long_lines() {
+        let bytes = long_line(rt.alloc(), letters, rest)?;
+        let fault = fault_of(rt.alloc(), &bytes, 0)?;
+        assert!(rt; fault == Some(want), "{letters}");
     }
+    Ok(())
+}
+
+/// A blob with the id of another.
+fn other_blob(alloc: Global) -> Result<MemSource, Fail> {
+    let bytes = behind_hello(alloc, b" blob 6\nhallo\n\n")?;
+    source(alloc, &bytes, 0, &[])
+}
+
+#[test]
+fn ids_are_not_compared(rt: HostRuntime) -> Result<(), Fail> {
+    let mut src = other_blob(rt.alloc())?;
+    let mut into = Vec::new(rt.alloc());
+    let item = BatchReader::new().next(&mut src, &mut into)?;
+    assert!(rt; is_object(&item, HELLO, Kind::Blob, 0) && into.as_slice() == b"hallo\n".as_slice());
     Ok(())
 }
 
 #[test]
 fn another_id_is_seen_where_ids_are_compared(rt: HostRuntime) -> Result<(), Fail> {
-    let alloc = rt.alloc();
     let id = hello()?;
-    let bytes = behind_hello(alloc, b" blob 6\nhallo\n\n")?;
-    let mut into = Vec::new(alloc);
-    let mut src = source(alloc, &bytes, 0, &[])?;
-    let read = BatchReader::new().next(&mut src, &mut into);
-    assert!(rt;
-        read == Ok(Item::Object {
-            id,
-            kind: Kind::Blob,
-            at: 0
-        })
-    );
-    assert_eq!(rt; into.as_slice(), b"hallo\n".as_slice());
-    let mut src = source(alloc, &bytes, 0, &[])?;
+    let mut src = other_blob(rt.alloc())?;
+    let mut into = Vec::new(rt.alloc());
     let checked = BatchReader::new().next_checked(&mut src, &mut into);
-    assert!(rt; checked == Err(BatchFault::IdWrong(id, 0)));
-    assert!(rt; into.is_empty());
+    assert!(rt; checked == Err(BatchFault::IdWrong(id, 0)) && into.is_empty());
     Ok(())
 }
 
-/// A read that fails in a line, in a content, or where the end is due.
+// The blob, whose reading byte by byte fails at a call.
+fn failing(alloc: Global, call: u64) -> Result<MemSource, Fail> {
+    let bytes = behind_hello(alloc, b" blob 6\nhello\n\n")?;
+    source(alloc, &bytes, 1, &[call])
+}
+
+/// A read that fails in a line or in a content.
+#[test]
+fn a_failed_read_is_told(rt: HostRuntime) -> Result<(), Fail> {
+    for call in [0, 5, 47, 48, 50, 54] {
+        let mut src = failing(rt.alloc(), call)?;
+        let mut into = Vec::new(rt.alloc());
+        let read = BatchReader::new().next_checked(&mut src, &mut into);
+        assert!(rt; read == Err(BatchFault::Read) && into.is_empty(), "{call}");
+    }
+    Ok(())
+}
+
+/// A read that fails where the end is due.
 #[test]
 fn a_failed_read_is_no_end(rt: HostRuntime) -> Result<(), Fail> {
-    let alloc = rt.alloc();
-    let bytes = behind_hello(alloc, b" blob 6\nhello\n\n")?;
-    for failing in [0, 5, 47, 48, 50, 54] {
-        let mut src = source(alloc, &bytes, 1, &[failing])?;
-        let mut into = Vec::new(alloc);
-        let read = BatchReader::new().next_checked(&mut src, &mut into);
-        assert!(rt; read == Err(BatchFault::Read), "{failing}");
-        assert!(rt; into.is_empty());
-    }
-    let mut src = source(alloc, &bytes, 1, &[55])?;
+    let mut src = failing(rt.alloc(), 55)?;
     let mut reader = BatchReader::new();
-    let mut into = Vec::new(alloc);
-    assert!(rt; reader.next(&mut src, &mut into).is_ok());
-    assert!(rt; reader.next(&mut src, &mut into) == Err(BatchFault::Read));
+    let mut into = Vec::new(rt.alloc());
+    let is_blob = reader.next(&mut src, &mut into).is_ok();
+    let end = reader.next(&mut src, &mut into);
+    assert!(rt; is_blob && end == Err(BatchFault::Read));
     Ok(())
 }
 
 #[test]
 fn objects_are_written_as_git_writes_them(rt: HostRuntime) -> Result<(), Fail> {
-    let alloc = rt.alloc();
-    let mut out = b"> ".to_vec(alloc)?;
-    put_object(&mut out, Kind::Blob, b"hello\n").map_err(|_| "memory")?;
-    put_object(&mut out, Kind::Commit, b"x").map_err(|_| "memory")?;
+    let mut out = b"> ".to_vec(rt.alloc())?;
+    let is_first_put = put_object(&mut out, Kind::Blob, b"hello\n").is_ok();
+    let is_second_put = put_object(&mut out, Kind::Commit, b"x").is_ok();
     let want = b"> ce013625030ba8dba906f756967f9e9ca394464a blob 6\nhello\n\n\
         eaa562e454681104aee02c9809ea2ca6ec4aa5cd commit 1\nx\n";
-    assert_eq!(rt; out.as_slice(), want.as_slice());
+    assert!(rt; is_first_put && is_second_put && out.as_slice() == want.as_slice());
     Ok(())
 }

@@ -8,6 +8,7 @@ use git_dump::write;
 use git_store::GitStore;
 use git_view::commits_are_held;
 use std::alloc::Global;
+use std::process::Abort;
 use std::test::Fail;
 use tree_shape::flatten;
 
@@ -118,16 +119,20 @@ fn id(place: usize) -> Result<Id, Fail> {
     Ok(Id::from_hex(digits).ok_or("40 digits")?)
 }
 
+// Adds an object; whether it has this id.
+fn add(store: &mut GitStore, kind: Kind, digits: &[u8], content: Vec<u8>) -> bool {
+    let its_id = object_id(kind, &content);
+    let is_its_id = its_id.hex().as_slice() == digits;
+    is_its_id && store.add(its_id, kind, content).is_ok()
+}
+
 fn filled(alloc: Global) -> Result<GitStore, Fail> {
     let mut store = GitStore::new(alloc);
     for Object(kind, digits, content) in OBJECTS {
-        let its_id = object_id(*kind, content);
-        if its_id.hex().as_slice() != *digits {
+        let content = content.to_vec(alloc)?;
+        if !add(&mut store, *kind, digits, content) {
             return Err(Fail::from("another id"));
         }
-        store
-            .add(its_id, *kind, content.to_vec(alloc)?)
-            .map_err(|_| "an object")?;
     }
     Ok(store)
 }
@@ -156,33 +161,50 @@ fn order_of(alloc: Global, store: &GitStore, places: &[usize]) -> Result<IdList,
     Ok(order)
 }
 
+// The line before the content of an object.
+fn put_line(stream: &mut Vec<u8>, object: &Object) -> Result<(), Fail> {
+    let Object(kind, digits, content) = object;
+    stream.extend_from_slice(digits)?;
+    stream.push(b' ')?;
+    stream.extend_from_slice(kind.word())?;
+    stream.push(b' ')?;
+    decimal_into(stream, content.len() as u64)?;
+    Ok(stream.push(b'\n')?)
+}
+
+fn put_object(stream: &mut Vec<u8>, object: &Object) -> Result<(), Fail> {
+    put_line(stream, object)?;
+    stream.extend_from_slice(object.2)?;
+    Ok(stream.push(b'\n')?)
+}
+
 // The stream of these objects.
 fn stream_of(alloc: Global, places: &[usize]) -> Result<Vec<u8>, Fail> {
     let mut stream = Vec::new(alloc);
     for place in places {
-        let Object(kind, digits, content) = object_at(*place)?;
-        stream.extend_from_slice(digits)?;
-        stream.push(b' ')?;
-        stream.extend_from_slice(kind.word())?;
-        stream.push(b' ')?;
-        decimal_into(&mut stream, content.len() as u64)?;
-        stream.push(b'\n')?;
-        stream.extend_from_slice(content)?;
-        stream.push(b'\n')?;
+        let object = object_at(*place)?;
+        put_object(&mut stream, object)?;
     }
     Ok(stream)
 }
 
+fn is_written(rt: &impl Abort, alloc: Global, store: &GitStore, case: &Case) -> Result<bool, Fail> {
+    let Case(commits, from, want) = case;
+    let order = order_of(alloc, store, commits)?;
+    assert!(rt; *from <= order.len());
+    let bytes = write(alloc, store, &order, *from)?;
+    let want = stream_of(alloc, want)?;
+    Ok(bytes == want)
+}
+
 #[test]
 fn streams(rt: HostRuntime) -> Result<(), Fail> {
-    let alloc = rt.alloc();
-    let store = filled(alloc)?;
-    for (i, Case(commits, from, want)) in CASES.iter().enumerate() {
-        let order = order_of(alloc, &store, commits)?;
-        assert!(&rt; *from <= order.len());
-        let bytes = write(alloc, &store, &order, *from)?;
-        assert!(&rt; bytes == stream_of(alloc, want)?, "at {i}");
+    let store = filled(rt.alloc())?;
+    for (i, case) in CASES.iter().enumerate() {
+        let is_written = is_written(&rt, rt.alloc(), &store, case)?;
+        assert!(rt; is_written, "at {i}");
     }
-    assert!(&rt; stream_of(alloc, &[0, 1, 2])?.as_slice() == ONE);
+    let one = stream_of(rt.alloc(), &[0, 1, 2])?;
+    assert!(rt; one.as_slice() == ONE);
     Ok(())
 }

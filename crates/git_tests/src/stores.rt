@@ -93,25 +93,25 @@ fn id(digits: &[u8]) -> Result<Id, Fail> {
     Ok(Id::from_hex(digits).ok_or("40 digits")?)
 }
 
-// Adds an object whose id is this one.
-fn add(
-    rt: &impl Abort,
+// Whether an object has this id, and its addition this answer.
+fn is_answered(
     store: &mut GitStore,
     kind: Kind,
     content: Vec<u8>,
     digits: &[u8],
-) -> Result<Added, GitAddFault> {
+    want: &Result<Added, GitAddFault>,
+) -> bool {
     let its_id = object_id(kind, &content);
-    assert!(rt; its_id.hex().as_slice() == digits);
-    store.add(its_id, kind, content)
+    let is_its_id = its_id.hex().as_slice() == digits;
+    is_its_id && store.add(its_id, kind, content) == *want
 }
 
 fn filled(rt: &impl Abort, alloc: Global) -> Result<GitStore, Fail> {
     let mut store = GitStore::new(alloc);
-    for (i, step) in STEPS.iter().enumerate() {
-        let Step(kind, content, digits, want) = step;
-        let answer = add(rt, &mut store, *kind, content.to_vec(alloc)?, digits);
-        assert!(rt; answer == *want, "at {i}");
+    for (i, Step(kind, content, digits, want)) in STEPS.iter().enumerate() {
+        let content = content.to_vec(alloc)?;
+        let is_answered = is_answered(&mut store, *kind, content, digits, want);
+        assert!(rt; is_answered, "at {i}");
     }
     Ok(store)
 }
@@ -135,39 +135,41 @@ fn put_parent(content: &mut Vec<u8>, byte: u8) -> Result<(), Fail> {
     Ok(content.push(b'\n')?)
 }
 
+/// So many parents, whether the first stands once more, the id, and what the addition answers.
+const MANY_PARENTS: &[(u8, bool, &[u8], Result<Added, GitAddFault>)] = &[
+    (
+        64,
+        false,
+        b"06a59526db68c22c758a1bbb93dc056cf17d3bd8",
+        Ok(Added::New),
+    ),
+    (
+        65,
+        false,
+        b"d126d2731ebdb699606b49777377056c60ef2ec3",
+        Err(GitAddFault::ParentLimit),
+    ),
+    (
+        64,
+        true,
+        b"5da01936821a250a2a2a1a675a02e11b680c6090",
+        Err(GitAddFault::ParentTwice),
+    ),
+    (
+        2,
+        true,
+        b"cb489d7009e7493b874e0d6976d91b461a1be5ca",
+        Err(GitAddFault::ParentTwice),
+    ),
+];
+
 #[test]
 fn many_parents(rt: HostRuntime) -> Result<(), Fail> {
-    let alloc = rt.alloc();
-    let cases: [(u8, bool, &[u8], Result<Added, GitAddFault>); 4] = [
-        (
-            64,
-            false,
-            b"06a59526db68c22c758a1bbb93dc056cf17d3bd8",
-            Ok(Added::New),
-        ),
-        (
-            65,
-            false,
-            b"d126d2731ebdb699606b49777377056c60ef2ec3",
-            Err(GitAddFault::ParentLimit),
-        ),
-        (
-            64,
-            true,
-            b"5da01936821a250a2a2a1a675a02e11b680c6090",
-            Err(GitAddFault::ParentTwice),
-        ),
-        (
-            2,
-            true,
-            b"cb489d7009e7493b874e0d6976d91b461a1be5ca",
-            Err(GitAddFault::ParentTwice),
-        ),
-    ];
-    for (parents, again, digits, want) in cases {
-        let mut store = GitStore::new(alloc);
-        let content = commit_of(alloc, parents, again)?;
-        assert!(rt; add(&rt, &mut store, Kind::Commit, content, digits) == want);
+    for (parents, again, digits, want) in MANY_PARENTS {
+        let mut store = GitStore::new(rt.alloc());
+        let content = commit_of(rt.alloc(), *parents, *again)?;
+        let is_answered = is_answered(&mut store, Kind::Commit, content, digits, want);
+        assert!(rt; is_answered, "{parents}");
     }
     Ok(())
 }
@@ -191,21 +193,31 @@ fn is_of(store: &GitStore, id: &Id, kind: Option<Kind>) -> bool {
         && has_tree(store, id) == (kind == Some(Kind::Tree))
 }
 
+/// Ids, and the kinds of their objects.
+const KINDS: &[(&[u8], Option<Kind>)] = &[
+    (HELLO, Some(Kind::Blob)),
+    (TREE, Some(Kind::Tree)),
+    (TWO, Some(Kind::Commit)),
+    (TAG, Some(Kind::Tag)),
+    (b"204b60738bbf3fc0ec4c396e0e23c8c062a70d36", None),
+];
+
 #[test]
-fn look_ups(rt: HostRuntime) -> Result<(), Fail> {
+fn kinds(rt: HostRuntime) -> Result<(), Fail> {
     let store = filled(&rt, rt.alloc())?;
-    let kinds: [(&[u8], Option<Kind>); 5] = [
-        (HELLO, Some(Kind::Blob)),
-        (TREE, Some(Kind::Tree)),
-        (TWO, Some(Kind::Commit)),
-        (TAG, Some(Kind::Tag)),
-        (b"204b60738bbf3fc0ec4c396e0e23c8c062a70d36", None),
-    ];
-    for (digits, want) in kinds {
-        assert!(rt; is_of(&store, &id(digits)?, want));
+    for (i, (digits, want)) in KINDS.iter().enumerate() {
+        let id = id(digits)?;
+        assert!(rt; is_of(&store, &id, *want), "at {i}");
     }
-    assert!(rt; has_two(&store, &id(TWO)?, &id(TREE)?));
-    assert!(rt; has_tag(&store, &id(TAG)?, &id(ONE)?));
+    Ok(())
+}
+
+#[test]
+fn fields(rt: HostRuntime) -> Result<(), Fail> {
+    let store = filled(&rt, rt.alloc())?;
+    let (one, two) = (id(ONE)?, id(TWO)?);
+    let (tree, tag) = (id(TREE)?, id(TAG)?);
+    assert!(rt; has_two(&store, &two, &tree) && has_tag(&store, &tag, &one));
     Ok(())
 }
 

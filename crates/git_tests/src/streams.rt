@@ -64,24 +64,29 @@ fn are_all(arrivals: &ObjectArrivals) -> bool {
         && arrivals.at(4).kind == Kind::Commit
 }
 
+// Whether the stream is read in pieces of at most `cut` bytes, and brings this commit.
+fn is_read(alloc: Global, cut: usize, commit: &Id) -> Result<bool, Fail> {
+    let mut src = source(alloc, STREAM, cut, &[])?;
+    match read_into(alloc, &mut src, GitStore::new(alloc)) {
+        Ok((store, arrivals)) => Ok(are_all(&arrivals) && store.commit(commit).is_some()),
+        Err(_) => Ok(false),
+    }
+}
+
 #[test]
 fn a_stream_is_read_in_any_pieces(rt: HostRuntime) -> Result<(), Fail> {
-    let alloc = rt.alloc();
+    let two = id(TWO)?;
     for cut in [0, 1, 7] {
-        let mut src = source(alloc, STREAM, cut, &[])?;
-        match read_into(alloc, &mut src, GitStore::new(alloc)) {
-            Ok((store, arrivals)) => {
-                assert!(rt; are_all(&arrivals));
-                assert!(rt; store.commit(&id(TWO)?).is_some());
-            }
-            Err(_) => return Err("a stream".into()),
-        }
+        let is_read = is_read(rt.alloc(), cut, &two)?;
+        assert!(rt; is_read, "{cut}");
     }
     Ok(())
 }
 
 /// What follows the blob of the stream, and what it is refused for.
-const BAD: &[(&[u8], Fault, &[u8], &[u8], u64)] = &[
+type Bad = (&'static [u8], Fault, &'static [u8], &'static [u8], u64);
+
+const BAD: &[Bad] = &[
     (b"4b82", Fault::Truncated, b"Truncated", NULL, 59),
     (b"x\n", Fault::Line, b"Line", NULL, 55),
     (b"x missing\n", Fault::Missing, b"Missing", NULL, 55),
@@ -151,19 +156,26 @@ fn fault_of(
     Ok(read_into(alloc, &mut src, GitStore::new(alloc)).err())
 }
 
+// Why the blob of the stream and these bytes are refused.
+fn fault_behind(alloc: Global, rest: &[u8]) -> Result<Option<StreamFault>, Fail> {
+    let mut bytes = BLOB.to_vec(alloc)?;
+    bytes.extend_from_slice(rest)?;
+    fault_of(alloc, &bytes, 0, &[])
+}
+
+fn is_refused(alloc: Global, bad: &Bad) -> Result<bool, Fail> {
+    let (rest, fault, name, digits, place) = *bad;
+    let id = id(digits)?;
+    let found = fault_behind(alloc, rest)?;
+    let want = StreamFault::Refused(Refusal { fault, id, place });
+    Ok(found == Some(want) && fault.name() == name)
+}
+
 #[test]
 fn the_first_fault_is_told(rt: HostRuntime) -> Result<(), Fail> {
-    let alloc = rt.alloc();
-    for (i, (rest, why, name, digits, at)) in BAD.iter().enumerate() {
-        let mut bytes = BLOB.to_vec(alloc)?;
-        bytes.extend_from_slice(rest)?;
-        let want = StreamFault::Refused(Refusal {
-            fault: *why,
-            id: id(digits)?,
-            place: *at,
-        });
-        assert!(rt; fault_of(alloc, &bytes, 0, &[])? == Some(want), "at {i}");
-        assert!(rt; why.name() == *name, "at {i}");
+    for (i, bad) in BAD.iter().enumerate() {
+        let is_refused = is_refused(rt.alloc(), bad)?;
+        assert!(rt; is_refused, "at {i}");
     }
     Ok(())
 }

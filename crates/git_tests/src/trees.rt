@@ -5,9 +5,9 @@ use git_object::{Mode, Residue, ResidueKind};
 use git_store::GitStore;
 use std::alloc::Global;
 use std::test::Fail;
-use tree_rebuild::rebuild_over;
+use tree_rebuild::{rebuild, rebuild_over};
 use tree_residue::{carry, residue_at, residue_of};
-use tree_shape::{BuildFault, FileRow, Files, TreeFault, build, flatten};
+use tree_shape::{BuildFault, FileRow, Files, TreeFault, TreeItem, build, flatten};
 
 /// A row: its path, its mode, and the byte that stands 20 times in its id.
 type Row = (&'static [u8], Mode, u8);
@@ -50,16 +50,22 @@ fn trees_of_files(rt: HostRuntime) -> Result<(), Fail> {
         (b"a/c", Mode::File, 0x22),
         (b"a0", Mode::Link, 0x33),
     ];
-    let trees = build(rt.alloc(), &files(rt.alloc(), rows)?)?;
-    assert!(rt; trees.root == id(b"dc19504b320e98015af1a0ac28a3e74365d3bb82")?);
-    let made = trees.made.as_slice();
-    assert!(rt; made.len() == 2);
-    assert!(rt; *made[0].id() == id(b"c71263b47c34258e0fe8230e9162a8a37fa1372b")?);
-    assert!(rt;
-        made[0].content() == b"100644 c\0\"\"\"\"\"\"\"\"\"\"\"\"\"\"\"\"\"\"\"\"".as_slice()
-    );
-    assert!(rt; *made[1].id() == trees.root);
+    let files = files(rt.alloc(), rows)?;
+    let trees = build(rt.alloc(), &files)?;
+    let root = id(b"dc19504b320e98015af1a0ac28a3e74365d3bb82")?;
+    let inner = id(b"c71263b47c34258e0fe8230e9162a8a37fa1372b")?;
+    assert!(rt; trees.root == root && are_two(trees.made.as_slice(), &inner, &root));
     Ok(())
+}
+
+// Whether the trees are that of the file `c` and the root.
+fn are_two(made: &[TreeItem], inner: &Id, root: &Id) -> bool {
+    let [first, last] = made else {
+        return false;
+    };
+    let has_file = first.content()
+        == b"100644 c\0\"\"\"\"\"\"\"\"\"\"\"\"\"\"\"\"\"\"\"\"".as_slice();
+    has_file && first.id() == inner && last.id() == root
 }
 
 /// Rows of which one lies below another, with the place of the first such row.
@@ -87,22 +93,30 @@ fn clashes() -> [(&'static [Row], usize); 3] {
     ]
 }
 
-/// And rows that are no files: one doesn't rise, one has a path that isn't fit, one is a directory that isn't empty.
 #[test]
 fn rows_without_trees(rt: HostRuntime) -> Result<(), Fail> {
     for (rows, place) in clashes() {
-        let fault = build(rt.alloc(), &files(rt.alloc(), rows)?)
-            .err()
-            .ok_or("a fault")?;
-        assert!(rt; fault == BuildFault::PathClash(place));
+        let files = files(rt.alloc(), rows)?;
+        let fault = build(rt.alloc(), &files).err();
+        assert!(rt; fault == Some(BuildFault::PathClash(place)));
     }
-    let rows: [&[Row]; 3] = [
+    Ok(())
+}
+
+/// Rows that are no files: one doesn't rise, one has a path that isn't fit, one is a directory that isn't empty.
+fn other_rows() -> [&'static [Row]; 3] {
+    [
         &[(b"a", Mode::File, 0), (b"a", Mode::File, 0)],
         &[(b"a//b", Mode::File, 0)],
         &[(b"a", Mode::Dir, 0)],
-    ];
-    for row in rows {
-        assert!(rt; Files::from_rows(listed(rt.alloc(), row)?).is_none());
+    ]
+}
+
+#[test]
+fn rows_that_are_no_files(rt: HostRuntime) -> Result<(), Fail> {
+    for rows in other_rows() {
+        let listed = listed(rt.alloc(), rows)?;
+        assert!(rt; Files::from_rows(listed).is_none());
     }
     Ok(())
 }
@@ -130,20 +144,23 @@ fn keep_entry(alloc: Global, store: &mut GitStore, mode: &[u8], id: &Id) -> Resu
 /// Roots that stand for no files, and the empty tree.
 #[test]
 fn faults_of_walks(rt: HostRuntime) -> Result<(), Fail> {
-    let alloc = rt.alloc();
-    let mut store = GitStore::new(alloc);
-    let blob = keep(alloc, &mut store, Kind::Blob, b"x")?;
-    let empty = keep(alloc, &mut store, Kind::Tree, b"")?;
-    let above_blob = keep_entry(alloc, &mut store, b"40000", &blob)?;
-    let tree_as_blob = keep_entry(alloc, &mut store, b"100644", &empty)?;
-    assert!(rt; flatten(alloc, &store, &empty)?.is_empty());
-    let unknown = Some(TreeFault::ObjectUnknown(blob));
-    assert!(rt; fault_at(alloc, &store, &above_blob) == unknown);
-    assert!(rt; fault_at(alloc, &store, &blob) == unknown);
-    let unknown = Some(TreeFault::ObjectUnknown(empty));
-    assert!(rt; fault_at(alloc, &store, &tree_as_blob) == unknown);
-    let unknown = Some(TreeFault::ObjectUnknown(Id::NULL));
-    assert!(rt; fault_at(alloc, &store, &Id::NULL) == unknown);
+    let mut store = GitStore::new(rt.alloc());
+    let blob = keep(rt.alloc(), &mut store, Kind::Blob, b"x")?;
+    let empty = keep(rt.alloc(), &mut store, Kind::Tree, b"")?;
+    let above_blob = keep_entry(rt.alloc(), &mut store, b"40000", &blob)?;
+    let tree_as_blob = keep_entry(rt.alloc(), &mut store, b"100644", &empty)?;
+    let files = flatten(rt.alloc(), &store, &empty)?;
+    assert!(rt; files.is_empty());
+    let cases = [
+        (above_blob, blob),
+        (blob, blob),
+        (tree_as_blob, empty),
+        (Id::NULL, Id::NULL),
+    ];
+    for (root, unknown) in cases {
+        let fault = fault_at(rt.alloc(), &store, &root);
+        assert!(rt; fault == Some(TreeFault::ObjectUnknown(unknown)));
+    }
     Ok(())
 }
 
@@ -161,14 +178,14 @@ fn nested(alloc: Global, store: &mut GitStore, count: u16) -> Result<Id, Fail> {
 /// A path of 256 names is fit, and one of 257 isn't.
 #[test]
 fn a_path_has_256_names_at_most(rt: HostRuntime) -> Result<(), Fail> {
-    let alloc = rt.alloc();
-    let mut store = GitStore::new(alloc);
-    let tree = nested(alloc, &mut store, 256)?;
-    let files = flatten(alloc, &store, &tree)?;
-    assert!(rt; files.len() == 1);
-    assert!(rt; build(alloc, &files)?.made.len() == 256);
-    let deeper = nested(alloc, &mut store, 257)?;
-    assert!(rt; fault_at(alloc, &store, &deeper) == Some(TreeFault::PathUnfit));
+    let mut store = GitStore::new(rt.alloc());
+    let tree = nested(rt.alloc(), &mut store, 256)?;
+    let deeper = nested(rt.alloc(), &mut store, 257)?;
+    let files = flatten(rt.alloc(), &store, &tree)?;
+    let trees = build(rt.alloc(), &files)?;
+    assert!(rt; files.len() == 1 && trees.made.len() == 256);
+    let fault = fault_at(rt.alloc(), &store, &deeper);
+    assert!(rt; fault == Some(TreeFault::PathUnfit));
     Ok(())
 }
 
@@ -232,6 +249,20 @@ fn have_items(
     Ok(are_items(&of_files, items) && are_items(&of_tree, items))
 }
 
+// Whether the trees of these files have this root, from which the files come back with these items beside them.
+fn are_kept(
+    alloc: Global,
+    store: &mut GitStore,
+    root: &Id,
+    files: &Files,
+    items: &[(&[u8], ResidueKind)],
+) -> Result<bool, Fail> {
+    let kept = keep_trees(alloc, store, files)?;
+    let come_back = come_back(alloc, store, root, files)?;
+    let have_items = have_items(alloc, store, root, files, items)?;
+    Ok(kept == *root && come_back && have_items)
+}
+
 /// The root is that which `git mktree` prints.
 #[test]
 fn files_come_back(rt: HostRuntime) -> Result<(), Fail> {
@@ -245,10 +276,9 @@ fn files_come_back(rt: HostRuntime) -> Result<(), Fail> {
         (b"a0", Mode::Link, x),
     ];
     let files = files_of(alloc, &rows)?;
-    let root = keep_trees(alloc, &mut store, &files)?;
-    assert!(rt; root == id(b"084f82933eef1697d79978d0c6383ba25d6e3377")?);
-    assert!(rt; come_back(alloc, &store, &root, &files)?);
-    assert!(rt; have_items(alloc, &store, &root, &files, &[])?);
+    let root = id(b"084f82933eef1697d79978d0c6383ba25d6e3377")?;
+    let are_kept = are_kept(alloc, &mut store, &root, &files, &[])?;
+    assert!(rt; are_kept);
     Ok(())
 }
 
@@ -266,16 +296,15 @@ fn what_stands_beside_files_comes_back(rt: HostRuntime) -> Result<(), Fail> {
         (b"d.x", Mode::Group, x),
         (b"lib", Mode::Gitlink, other),
     ];
-    let files = files_of(alloc, &rows)?;
-    let root = keep_trees(alloc, &mut store, &files)?;
-    assert!(rt; root == id(b"c1b489772a8e088d2c625e76f0636aff74dedcf9")?);
-    assert!(rt; come_back(alloc, &store, &root, &files)?);
     let items = [
         (b"d".as_slice(), Empty),
         (b"d.x", Group),
         (b"lib", Link(other)),
     ];
-    assert!(rt; have_items(alloc, &store, &root, &files, &items)?);
+    let files = files_of(alloc, &rows)?;
+    let root = id(b"c1b489772a8e088d2c625e76f0636aff74dedcf9")?;
+    let are_kept = are_kept(alloc, &mut store, &root, &files, &items)?;
+    assert!(rt; are_kept);
     Ok(())
 }
 
@@ -290,16 +319,77 @@ fn what_fits_is_handed_on(rt: HostRuntime) -> Result<(), Fail> {
         (b"e", Mode::Group, id),
         (b"lib", Mode::Gitlink, id),
     ];
-    let residue = residue_of(alloc, &files_of(alloc, &rows)?)?;
-    let child = files_of(
-        alloc,
-        &[
-            (b"d.x", Mode::File, id),
-            (b"e", Mode::Exec, id),
-            (b"lib/a", Mode::File, id),
-        ],
-    )?;
+    let of_child = [
+        (b"d.x".as_slice(), Mode::File, id),
+        (b"e", Mode::Exec, id),
+        (b"lib/a", Mode::File, id),
+    ];
+    let parent = files_of(alloc, &rows)?;
+    let child = files_of(alloc, &of_child)?;
+    let residue = residue_of(alloc, &parent)?;
     let handed = carry(alloc, &residue, &child)?;
     assert!(rt; are_items(&handed, &[(b"d", Empty), (b"d.x", Group)]));
+    Ok(())
+}
+
+// The files `a.b`, `a/c` and `a0` with these ids.
+fn three_files(alloc: Global, ids: [Id; 3]) -> Result<Files, Fail> {
+    let [first, inner, last] = ids;
+    let rows = [
+        (b"a.b".as_slice(), Mode::File, first),
+        (b"a/c", Mode::Exec, inner),
+        (b"a0", Mode::Link, last),
+    ];
+    files_of(alloc, &rows)
+}
+
+// Whether the trees are these, by their ids.
+fn are_trees(made: &[TreeItem], ids: &[Id]) -> bool {
+    made.len() == ids.len() && made.iter().zip(ids).all(|(tree, id)| tree.id() == id)
+}
+
+// Whether these files over a tree make these trees alone, the last of which is the root.
+fn make_alone(
+    alloc: Global,
+    store: &GitStore,
+    old: &Id,
+    files: &Files,
+    ids: &[Id],
+) -> Result<bool, Fail> {
+    let old_files = flatten(alloc, store, old)?;
+    let trees = rebuild(alloc, store, old, &old_files, files)?;
+    let root = ids.last().unwrap_or(old);
+    Ok(trees.root == *root && are_trees(trees.made.as_slice(), ids))
+}
+
+/// A tree with the same rows in the same place is not made again. The ids are those that `git mktree` prints.
+#[test]
+fn trees_that_stay_are_not_made(rt: HostRuntime) -> Result<(), Fail> {
+    let alloc = rt.alloc();
+    let mut store = GitStore::new(alloc);
+    let x = keep(alloc, &mut store, Kind::Blob, b"x")?;
+    let y = keep(alloc, &mut store, Kind::Blob, b"y")?;
+    let old_files = three_files(alloc, [x, y, x])?;
+    let old = keep_trees(alloc, &mut store, &old_files)?;
+    let inner = id(b"3b78ffb8fb4c81551d805944d10dd5ad15e5f34e")?;
+    let over_inner = id(b"af4b695875af22aaa69d6378e6fee7e0c1046ce1")?;
+    let over_last = id(b"73abc9c3d65eff728b76320607ee8aa9768c8e3f")?;
+    let below = three_files(alloc, [x, x, x])?;
+    let beside = three_files(alloc, [x, y, y])?;
+    let below_made = make_alone(alloc, &store, &old, &below, &[inner, over_inner])?;
+    let beside_made = make_alone(alloc, &store, &old, &beside, &[over_last])?;
+    let same_made = make_alone(alloc, &store, &old, &old_files, &[])?;
+    assert!(rt; below_made && beside_made && same_made);
+    Ok(())
+}
+
+/// A file and the commit of another repository: 29 and 31 bytes.
+#[test]
+fn a_gitlink_is_an_entry(rt: HostRuntime) -> Result<(), Fail> {
+    let rows: &[Row] = &[(b"a", Mode::File, 0x11), (b"lib", Mode::Gitlink, 0x22)];
+    let files = files(rt.alloc(), rows)?;
+    let trees = build(rt.alloc(), &files)?;
+    let made = trees.made.as_slice();
+    assert!(rt; made.len() == 1 && made[0].content().len() == 60);
     Ok(())
 }

@@ -4,7 +4,6 @@ use bridge_text::{Fault, Id, Refusal};
 use hg_bundle::{Arrival, Arrivals, BundleFault, RevKind, read_into};
 use hg_store::HgStore;
 use std::alloc::Global;
-use std::process::Abort;
 use std::test::Fail;
 
 const NULL: &[u8] = b"0000000000000000000000000000000000000000";
@@ -167,166 +166,219 @@ fn have_counts(arrivals: &Arrivals) -> bool {
         && arrivals.count(RevKind::File) == 4
 }
 
-// Texts of the parts.
-fn check_texts(rt: &impl Abort, store: &HgStore) -> Result<(), Fail> {
-    assert!(rt; store.text_of(&id(FIRST)?) == Some(FIRST_TEXT));
-    assert!(rt; store.text_of(&id(MERGE)?) == Some(MERGE_TEXT));
-    assert!(rt; store.manifest_text(&id(MANIFEST)?) == Some(MANIFEST_TEXT));
-    assert!(rt; store.file_text(b"a", &id(THIRD_FILE)?) == Some(b"bye\nmy moon!\n"));
-    assert!(rt; store.file_text(b"a", &id(FOURTH_FILE)?) == Some(b"Jello\nmoon\nend\n"));
-    Ok(())
+// The text of a changeset or a manifest, or of the file `a`.
+fn text_of<'a>(store: &'a HgStore, kind: RevKind, node: &Id) -> Option<&'a [u8]> {
+    match kind {
+        RevKind::Changeset => store.text_of(node),
+        RevKind::Manifest => store.manifest_text(node),
+        RevKind::File => store.file_text(b"a", node),
+    }
+}
+
+/// Texts of the parts: kind, node, text.
+const TEXTS: &[(RevKind, &[u8], &[u8])] = &[
+    (RevKind::Changeset, FIRST, FIRST_TEXT),
+    (RevKind::Changeset, MERGE, MERGE_TEXT),
+    (RevKind::Manifest, MANIFEST, MANIFEST_TEXT),
+    (RevKind::File, THIRD_FILE, b"bye\nmy moon!\n"),
+    (RevKind::File, FOURTH_FILE, b"Jello\nmoon\nend\n"),
+];
+
+fn has_text(store: &HgStore, kind: RevKind, node: &[u8], text: &[u8]) -> Result<bool, Fail> {
+    let node = id(node)?;
+    Ok(text_of(store, kind, &node) == Some(text))
+}
+
+fn has_texts(store: &HgStore) -> Result<bool, Fail> {
+    for (kind, node, text) in TEXTS {
+        if !has_text(store, *kind, node, text)? {
+            return Ok(false);
+        }
+    }
+    Ok(true)
+}
+
+fn whole(alloc: Global) -> Result<Vec<u8>, Fail> {
+    let mut bytes = front(alloc, 9)?;
+    bytes.extend_from_slice(&[0; 8])?;
+    Ok(bytes)
+}
+
+// Whether a bundle that is given in pieces of `cut` bytes brings the parts.
+fn is_read(alloc: Global, bytes: &[u8], cut: usize) -> Result<bool, Fail> {
+    let (store, arrivals) = read(alloc, bytes, cut, &[])??;
+    let has_texts = has_texts(&store)?;
+    Ok(has_texts && are_wanted(arrivals.as_slice()) && have_counts(&arrivals))
 }
 
 #[test]
 fn a_bundle_is_read(rt: HostRuntime) -> Result<(), Fail> {
-    let alloc = rt.alloc();
-    let mut bytes = front(alloc, 9)?;
-    bytes.extend_from_slice(&[0; 8])?;
-    for cut in [0, 1] {
-        let (store, arrivals) = read(alloc, &bytes, cut, &[])??;
-        assert!(rt; are_wanted(arrivals.as_slice()) && have_counts(&arrivals));
-        check_texts(&rt, &store)?;
-    }
-    let failed = read(alloc, &bytes, 0, &[9])?;
-    assert_eq!(rt; failed.err(), Some(BundleFault::Read));
+    let bytes = whole(rt.alloc())?;
+    let at_once = is_read(rt.alloc(), &bytes, 0)?;
+    let byte_by_byte = is_read(rt.alloc(), &bytes, 1)?;
+    assert!(rt; at_once && byte_by_byte);
     Ok(())
 }
 
 #[test]
+fn a_read_fails(rt: HostRuntime) -> Result<(), Fail> {
+    let bytes = whole(rt.alloc())?;
+    let failed = read(rt.alloc(), &bytes, 0, &[9])?;
+    assert!(rt; failed.err() == Some(BundleFault::Read));
+    Ok(())
+}
+
+/// An entry behind so many of the parts, and its fault and place.
+struct Entry(usize, Part, Fault, u64);
+
+const ENTRIES: &[Entry] = &[
+    Entry(
+        0,
+        Part(b"", [SECOND, NULL, FIRST, SECOND], b""),
+        Fault::ParentOrder,
+        6,
+    ),
+    Entry(
+        0,
+        Part(b"", [SECOND, FIRST, NULL, SECOND], b""),
+        Fault::ParentUnknown,
+        6,
+    ),
+    Entry(
+        0,
+        Part(
+            b"",
+            [FIRST, NULL, NULL, SECOND],
+            b"\0\0\0\0\0\0\0\x01\0\0\0\0",
+        ),
+        Fault::LinkUnknown,
+        6,
+    ),
+    Entry(
+        0,
+        Part(
+            b"",
+            [FIRST, NULL, NULL, FIRST],
+            b"\0\0\0\0\0\0\0\0\0\0\0\x01x\0\0\0\0\0\0\0\x01\0\0\0",
+        ),
+        Fault::HunkShape,
+        103,
+    ),
+    Entry(
+        0,
+        Part(
+            b"",
+            [FIRST, NULL, NULL, FIRST],
+            b"\0\0\0\0\0\0\0\0\0\0\0\x01x\0\0\0\0\0\0\0\x01\0\0\0\0",
+        ),
+        Fault::HunkRange,
+        103,
+    ),
+    Entry(
+        0,
+        Part(b"", [FIRST, NULL, NULL, FIRST], b""),
+        Fault::NodeWrong,
+        6,
+    ),
+    Entry(
+        0,
+        Part(b"", [EMPTY, NULL, NULL, EMPTY], b""),
+        Fault::ChangesetShape,
+        6,
+    ),
+    Entry(
+        3,
+        Part(b"", [MERGE, SECOND, FIRST, MERGE], b""),
+        Fault::Collision,
+        377,
+    ),
+    Entry(
+        4,
+        Part(b"\0\0\0\0", [MANIFEST, NULL, NULL, EMPTY], b""),
+        Fault::LinkUnknown,
+        497,
+    ),
+    Entry(
+        4,
+        Part(
+            b"\0\0\0\0",
+            [BAD_MANIFEST, NULL, NULL, FIRST],
+            b"\0\0\0\0\0\0\0\0\0\0\0\x02a\n",
+        ),
+        Fault::ManifestShape,
+        497,
+    ),
+    Entry(
+        4,
+        Part(
+            b"\0\0\0\0",
+            [UNFIT_MANIFEST, NULL, NULL, FIRST],
+            b"\0\0\0\0\0\0\0\0\0\0\0..git\x003ad15d6a027e0547c2cae3fe5bceaeb088eb8870\n",
+        ),
+        Fault::PathUnfit,
+        497,
+    ),
+    Entry(
+        4,
+        Part(
+            b"\0\0\0\0\0\0\0\0\0\0\0\x05a",
+            [BAD_FILE, NULL, NULL, FIRST],
+            b"\0\0\0\0\0\0\0\0\0\0\0\x02\x01\n",
+        ),
+        Fault::FileShape,
+        506,
+    ),
+    Entry(
+        4,
+        Part(
+            b"\0\0\0\0\0\0\0\0\0\0\0\x08.git",
+            [NULL, NULL, NULL, NULL],
+            b"",
+        ),
+        Fault::PathUnfit,
+        501,
+    ),
+    Entry(
+        9,
+        Part(
+            b"\0\0\0\0\0\0\0\x05b",
+            [SECOND_FILE, FILE, NULL, FIRST],
+            b"",
+        ),
+        Fault::ParentUnknown,
+        1112,
+    ),
+];
+
+fn with_entry(alloc: Global, count: usize, part: Part) -> Result<Vec<u8>, Fail> {
+    let mut bytes = front(alloc, count)?;
+    put_part(&mut bytes, part)?;
+    Ok(bytes)
+}
+
+// Why a bundle that ends with an entry isn't read.
+fn fault_of(alloc: Global, count: usize, part: Part) -> Result<Option<BundleFault>, Fail> {
+    let bytes = with_entry(alloc, count, part)?;
+    let answer = read(alloc, &bytes, 0, &[])?;
+    Ok(answer.err())
+}
+
+fn is_refused(alloc: Global, entry: &Entry) -> Result<bool, Fail> {
+    let Entry(count, part, fault, place) = entry;
+    let refusal = Refusal {
+        fault: *fault,
+        id: id(part.1[0])?,
+        place: *place,
+    };
+    let found = fault_of(alloc, *count, *part)?;
+    Ok(found == Some(BundleFault::Refused(refusal)))
+}
+
+#[test]
 fn each_entry_is_checked(rt: HostRuntime) -> Result<(), Fail> {
-    let alloc = rt.alloc();
-    // how many of the parts stand before an entry, the entry, and its fault and place
-    let cases: [(usize, Part, Fault, u64); 14] = [
-        (
-            0,
-            Part(b"", [SECOND, NULL, FIRST, SECOND], b""),
-            Fault::ParentOrder,
-            6,
-        ),
-        (
-            0,
-            Part(b"", [SECOND, FIRST, NULL, SECOND], b""),
-            Fault::ParentUnknown,
-            6,
-        ),
-        (
-            0,
-            Part(
-                b"",
-                [FIRST, NULL, NULL, SECOND],
-                b"\0\0\0\0\0\0\0\x01\0\0\0\0",
-            ),
-            Fault::LinkUnknown,
-            6,
-        ),
-        (
-            0,
-            Part(
-                b"",
-                [FIRST, NULL, NULL, FIRST],
-                b"\0\0\0\0\0\0\0\0\0\0\0\x01x\0\0\0\0\0\0\0\x01\0\0\0",
-            ),
-            Fault::HunkShape,
-            103,
-        ),
-        (
-            0,
-            Part(
-                b"",
-                [FIRST, NULL, NULL, FIRST],
-                b"\0\0\0\0\0\0\0\0\0\0\0\x01x\0\0\0\0\0\0\0\x01\0\0\0\0",
-            ),
-            Fault::HunkRange,
-            103,
-        ),
-        (
-            0,
-            Part(b"", [FIRST, NULL, NULL, FIRST], b""),
-            Fault::NodeWrong,
-            6,
-        ),
-        (
-            0,
-            Part(b"", [EMPTY, NULL, NULL, EMPTY], b""),
-            Fault::ChangesetShape,
-            6,
-        ),
-        (
-            3,
-            Part(b"", [MERGE, SECOND, FIRST, MERGE], b""),
-            Fault::Collision,
-            377,
-        ),
-        (
-            4,
-            Part(b"\0\0\0\0", [MANIFEST, NULL, NULL, EMPTY], b""),
-            Fault::LinkUnknown,
-            497,
-        ),
-        (
-            4,
-            Part(
-                b"\0\0\0\0",
-                [BAD_MANIFEST, NULL, NULL, FIRST],
-                b"\0\0\0\0\0\0\0\0\0\0\0\x02a\n",
-            ),
-            Fault::ManifestShape,
-            497,
-        ),
-        (
-            4,
-            Part(
-                b"\0\0\0\0",
-                [UNFIT_MANIFEST, NULL, NULL, FIRST],
-                b"\0\0\0\0\0\0\0\0\0\0\0..git\x003ad15d6a027e0547c2cae3fe5bceaeb088eb8870\n",
-            ),
-            Fault::PathUnfit,
-            497,
-        ),
-        (
-            4,
-            Part(
-                b"\0\0\0\0\0\0\0\0\0\0\0\x05a",
-                [BAD_FILE, NULL, NULL, FIRST],
-                b"\0\0\0\0\0\0\0\0\0\0\0\x02\x01\n",
-            ),
-            Fault::FileShape,
-            506,
-        ),
-        (
-            4,
-            Part(
-                b"\0\0\0\0\0\0\0\0\0\0\0\x08.git",
-                [NULL, NULL, NULL, NULL],
-                b"",
-            ),
-            Fault::PathUnfit,
-            501,
-        ),
-        (
-            9,
-            Part(
-                b"\0\0\0\0\0\0\0\x05b",
-                [SECOND_FILE, FILE, NULL, FIRST],
-                b"",
-            ),
-            Fault::ParentUnknown,
-            1112,
-        ),
-    ];
-    for (count, part, why, at) in cases {
-        let mut bytes = front(alloc, count)?;
-        put_part(&mut bytes, part)?;
-        let id = id(part.1[0])?;
-        let got = read(alloc, &bytes, 0, &[])?;
-        assert_eq!(rt;
-            got.err(),
-            Some(BundleFault::Refused(Refusal {
-                fault: why,
-                id,
-                place: at
-            }))
-        );
+    for (place, entry) in ENTRIES.iter().enumerate() {
+        let is_refused = is_refused(rt.alloc(), entry)?;
+        assert!(rt; is_refused, "at {place}");
     }
     Ok(())
 }

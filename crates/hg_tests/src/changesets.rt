@@ -1,5 +1,5 @@
 // Texts of changesets.
-use bridge_text::{Bytes, Id};
+use bridge_text::{Bytes, Id, Paths};
 use hg_changeset::{Changeset, ChangesetFault, DateLine, ExtraItem, Extras};
 use std::alloc::Global;
 use std::test::Fail;
@@ -94,28 +94,52 @@ const CASES: &[Case] = &[
     },
 ];
 
+fn are_paths(paths: &Paths, want: &[&[u8]]) -> bool {
+    paths.len() == want.len()
+        && paths
+            .as_slice()
+            .iter()
+            .zip(want)
+            .all(|(path, want)| path.as_slice() == *want)
+}
+
+// Whether a changeset has these parts, and the manifest of ones.
+fn is_shown(changeset: &Changeset, shown: &Shown) -> bool {
+    changeset.manifest == Id::new([0x11; 20])
+        && changeset.user.as_slice() == shown.user
+        && changeset.desc.as_slice() == shown.desc
+        && changeset.is_canonical() == shown.canonical
+        && are_paths(&changeset.files, shown.files)
+}
+
+// Whether the text of the changeset is this one, appended to what is there.
+fn is_appended(alloc: Global, changeset: &Changeset, text: &[u8]) -> Result<bool, Fail> {
+    let mut out = Vec::from_slice(alloc, b"front ")?;
+    changeset.write_into(&mut out)?;
+    Ok(out.starts_with(b"front ") && &out[6..] == text)
+}
+
+// Whether a changeset is the one of the case.
+fn is_wanted(alloc: Global, changeset: &Changeset, case: &Case) -> Result<bool, Fail> {
+    let is_appended = is_appended(alloc, changeset, case.text)?;
+    match &case.answer {
+        Ok(shown) => Ok(is_appended && is_shown(changeset, shown)),
+        Err(_) => Ok(false),
+    }
+}
+
+fn is_answered(alloc: Global, case: &Case) -> Result<bool, Fail> {
+    match Changeset::read(alloc, case.text) {
+        Ok(changeset) => is_wanted(alloc, &changeset, case),
+        Err(fault) => Ok(case.answer.err() == Some(fault)),
+    }
+}
+
 #[test]
 fn texts_read_and_write(rt: HostRuntime) -> Result<(), Fail> {
-    let node = Id::from_hex(b"1111111111111111111111111111111111111111").ok_or("40 digits")?;
-    for case in CASES {
-        match Changeset::read(rt.alloc(), case.text) {
-            Ok(changeset) => {
-                let shown = case.answer.map_err(|_| "a changeset where there is none")?;
-                assert!(rt; changeset.manifest == node);
-                assert!(rt; changeset.user.as_slice() == shown.user);
-                assert!(rt; changeset.files.len() == shown.files.len());
-                for (i, file) in shown.files.iter().enumerate() {
-                    assert!(rt; changeset.files.at(i).as_slice() == *file);
-                }
-                assert!(rt; changeset.desc.as_slice() == shown.desc);
-                assert!(rt; changeset.is_canonical() == shown.canonical);
-                let mut out = Vec::from_slice(rt.alloc(), b"front ")?;
-                changeset.write_into(&mut out)?;
-                assert!(rt; out.starts_with(b"front "));
-                assert!(rt; &out[6..] == case.text);
-            }
-            Err(fault) => assert!(rt; case.answer.err() == Some(fault)),
-        }
+    for (i, case) in CASES.iter().enumerate() {
+        let is_answered = is_answered(rt.alloc(), case)?;
+        assert!(rt; is_answered, "at {i}");
     }
     Ok(())
 }
@@ -252,29 +276,44 @@ fn written(alloc: Global, date: &[u8]) -> Result<bool, Fail> {
     Ok(out == text)
 }
 
+fn has_item(extras: &Extras, place: usize, key: &[u8], value: &[u8]) -> bool {
+    if place >= extras.len() {
+        return false;
+    }
+    let item = extras.at(place);
+    item.key.as_slice() == key && item.value.as_slice() == value && extras.get(key) == Some(value)
+}
+
+fn are_items(extras: &Extras, items: &[(&[u8], &[u8])]) -> bool {
+    for (place, (key, value)) in items.iter().enumerate() {
+        if !has_item(extras, place, key, value) {
+            return false;
+        }
+    }
+    extras.len() == items.len() && extras.get(b"d").is_none() && extras.get(b"").is_none()
+}
+
+// Whether the line is a plain one with these parts.
+fn is_plain(line: &Line, time: i64, tz: i64, extras: &Extras) -> bool {
+    let Some((want_time, want_tz, items)) = line.plain else {
+        return false;
+    };
+    time == want_time && tz == want_tz && are_items(extras, items)
+}
+
+fn is_read(alloc: Global, line: &Line) -> Result<bool, Fail> {
+    match DateLine::read(alloc, line.text)? {
+        DateLine::Plain { time, tz, extras } => Ok(is_plain(line, time, tz, &extras)),
+        DateLine::Raw(text) => Ok(line.plain.is_none() && text.as_slice() == line.text),
+    }
+}
+
 #[test]
 fn date_lines(rt: HostRuntime) -> Result<(), Fail> {
-    for line in LINES {
-        assert!(rt; written(rt.alloc(), line.text)?);
-        match DateLine::read(rt.alloc(), line.text)? {
-            DateLine::Plain { time, tz, extras } => {
-                let (want_time, want_tz, items) = line.plain.ok_or("a plain line that is raw")?;
-                assert!(rt; time == want_time);
-                assert!(rt; tz == want_tz);
-                assert!(rt; extras.len() == items.len());
-                for (i, (key, value)) in items.iter().enumerate() {
-                    assert!(rt; extras.at(i).key.as_slice() == *key);
-                    assert!(rt; extras.at(i).value.as_slice() == *value);
-                    assert!(rt; extras.get(key) == Some(*value));
-                }
-                assert!(rt; extras.get(b"d").is_none());
-                assert!(rt; extras.get(b"").is_none());
-            }
-            DateLine::Raw(text) => {
-                assert!(rt; line.plain.is_none());
-                assert!(rt; text.as_slice() == line.text);
-            }
-        }
+    for (i, line) in LINES.iter().enumerate() {
+        let is_written = written(rt.alloc(), line.text)?;
+        let is_read = is_read(rt.alloc(), line)?;
+        assert!(rt; is_written && is_read, "at {i}");
     }
     Ok(())
 }

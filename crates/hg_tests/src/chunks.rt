@@ -17,65 +17,91 @@ fn read(src: &mut MemSource, into: &mut Vec<u8>) -> Result<(Piece, u64), ChunkFa
     Ok((piece, reader.offset()))
 }
 
+/// Inputs, their payloads, their pieces and the offsets of their ends.
+const CHUNKS: &[(&[u8], &[u8], Piece, u64)] = &[
+    (b"HG10UN\0\0\0\0", b"", Piece::Empty, 10),
+    (b"HG10UN\0\0\0\x05a", b"a", Piece::Full(6), 11),
+    (b"HG10UN\0\0\0\x0cabcdefgh", b"abcdefgh", Piece::Full(6), 18),
+];
+
+// Whether the input, in pieces of at most `cut` bytes, has this payload, this piece and this end.
+fn has_chunk(
+    alloc: Global,
+    input: &[u8],
+    cut: usize,
+    payload: &[u8],
+    want: (Piece, u64),
+) -> Result<bool, Fail> {
+    let mut src = source(alloc, input, cut, &[])?;
+    let mut into = b"left".to_vec(alloc)?;
+    let found = read(&mut src, &mut into);
+    Ok(found == Ok(want) && into.as_slice() == payload)
+}
+
 #[test]
 fn a_chunk_is_read_in_any_pieces(rt: HostRuntime) -> Result<(), Fail> {
-    let alloc = rt.alloc();
-    // an input, the payload, and the piece and the offset of the end
-    let read_cases: [(&[u8], &[u8], (Piece, u64)); 3] = [
-        (b"HG10UN\0\0\0\0", b"", (Piece::Empty, 10)),
-        (b"HG10UN\0\0\0\x05a", b"a", (Piece::Full(6), 11)),
-        (
-            b"HG10UN\0\0\0\x0cabcdefgh",
-            b"abcdefgh",
-            (Piece::Full(6), 18),
-        ),
-    ];
-    for (input, payload, want) in read_cases {
-        for cut in [0, 1] {
-            let mut into = b"left".to_vec(alloc)?;
-            let got = read(&mut source(alloc, input, cut, &[])?, &mut into);
-            assert_eq!(rt; got, Ok(want), "{want:?}");
-            assert_eq!(rt; into.as_slice(), payload, "{want:?}");
-        }
+    for (input, payload, piece, end) in CHUNKS {
+        let at_once = has_chunk(rt.alloc(), input, 0, payload, (*piece, *end))?;
+        let byte_by_byte = has_chunk(rt.alloc(), input, 1, payload, (*piece, *end))?;
+        assert!(rt; at_once && byte_by_byte, "at {end}");
     }
     Ok(())
 }
 
+/// Inputs, and why they aren't read.
+const FAULTS: &[(&[u8], ChunkFault)] = &[
+    (b"", ChunkFault::Truncated(0)),
+    (b"abcde", ChunkFault::Truncated(5)),
+    (b"abcdef", ChunkFault::Magic),
+    (b"HG10UM\0\0\0\0", ChunkFault::Magic),
+    (b"HG10GZ", ChunkFault::OtherBundle),
+    (b"HG10BZ", ChunkFault::OtherBundle),
+    (b"HG20\0\0", ChunkFault::OtherBundle),
+    (b"HG10UN", ChunkFault::Truncated(6)),
+    (b"HG10UN\0\0\0", ChunkFault::Truncated(9)),
+    (b"HG10UN\0\0\0\x01", ChunkFault::Length(6)),
+    (b"HG10UN\0\0\0\x04", ChunkFault::Length(6)),
+    (b"HG10UN\xff\xff\xff\xff", ChunkFault::Length(6)),
+    (b"HG10UN\x80\0\0\0", ChunkFault::Length(6)),
+    (b"HG10UN\0\0\0\x05", ChunkFault::Truncated(10)),
+    (b"HG10UN\0\0\0\x07ab", ChunkFault::Truncated(12)),
+    (b"HG10UN\0\0\0\x0dabc", ChunkFault::Truncated(13)),
+    (b"HG10UN\0\0\0\x0dabcdefghi", ChunkFault::Limit(6)),
+    (b"HG10UN\x7f\xff\xff\xffabc", ChunkFault::Truncated(13)),
+    (b"HG10UN\0\0\0\x05ab", ChunkFault::Trailing(11)),
+];
+
+// Why the input isn't read, in pieces of at most `cut` bytes.
+fn fault_of(
+    alloc: Global,
+    input: &[u8],
+    cut: usize,
+    fails: &[u64],
+) -> Result<Option<ChunkFault>, Fail> {
+    let mut src = source(alloc, input, cut, fails)?;
+    let mut into = Vec::new(alloc);
+    Ok(read(&mut src, &mut into).err())
+}
+
 #[test]
 fn each_fault_has_its_place(rt: HostRuntime) -> Result<(), Fail> {
-    let alloc = rt.alloc();
-    let cases: [(&[u8], ChunkFault); 19] = [
-        (b"", ChunkFault::Truncated(0)),
-        (b"abcde", ChunkFault::Truncated(5)),
-        (b"abcdef", ChunkFault::Magic),
-        (b"HG10UM\0\0\0\0", ChunkFault::Magic),
-        (b"HG10GZ", ChunkFault::OtherBundle),
-        (b"HG10BZ", ChunkFault::OtherBundle),
-        (b"HG20\0\0", ChunkFault::OtherBundle),
-        (b"HG10UN", ChunkFault::Truncated(6)),
-        (b"HG10UN\0\0\0", ChunkFault::Truncated(9)),
-        (b"HG10UN\0\0\0\x01", ChunkFault::Length(6)),
-        (b"HG10UN\0\0\0\x04", ChunkFault::Length(6)),
-        (b"HG10UN\xff\xff\xff\xff", ChunkFault::Length(6)),
-        (b"HG10UN\x80\0\0\0", ChunkFault::Length(6)),
-        (b"HG10UN\0\0\0\x05", ChunkFault::Truncated(10)),
-        (b"HG10UN\0\0\0\x07ab", ChunkFault::Truncated(12)),
-        (b"HG10UN\0\0\0\x0dabc", ChunkFault::Truncated(13)),
-        (b"HG10UN\0\0\0\x0dabcdefghi", ChunkFault::Limit(6)),
-        (b"HG10UN\x7f\xff\xff\xffabc", ChunkFault::Truncated(13)),
-        (b"HG10UN\0\0\0\x05ab", ChunkFault::Trailing(11)),
-    ];
-    for (input, want) in cases {
-        for cut in [0, 1] {
-            let got = read(&mut source(alloc, input, cut, &[])?, &mut Vec::new(alloc));
-            assert_eq!(rt; got, Err(want), "{want:?}");
-        }
+    for (place, (input, want)) in FAULTS.iter().enumerate() {
+        let at_once = fault_of(rt.alloc(), input, 0, &[])?;
+        let byte_by_byte = fault_of(rt.alloc(), input, 1, &[])?;
+        assert!(rt;
+            at_once == Some(*want) && byte_by_byte == Some(*want),
+            "at {place}"
+        );
     }
-    // The magic, the field, the payload and the end are a call each.
+    Ok(())
+}
+
+/// The magic, the field, the payload and the end are a call each.
+#[test]
+fn each_call_may_fail(rt: HostRuntime) -> Result<(), Fail> {
     for call in 0..4 {
-        let mut src = source(alloc, b"HG10UN\0\0\0\x05a", 0, &[call])?;
-        let got = read(&mut src, &mut Vec::new(alloc));
-        assert_eq!(rt; got, Err(ChunkFault::Read), "call {call}");
+        let fault = fault_of(rt.alloc(), b"HG10UN\0\0\0\x05a", 0, &[call])?;
+        assert!(rt; fault == Some(ChunkFault::Read), "call {call}");
     }
     Ok(())
 }

@@ -110,20 +110,24 @@ fn id(digits: &[u8]) -> Result<Id, Fail> {
     Ok(Id::from_hex(digits).ok_or("40 digits")?)
 }
 
-fn add(rt: &impl Abort, alloc: Global, store: &mut HgStore, step: &Step) -> Result<(), Fail> {
-    let (group, node, [p, q], link, text) = step;
+// The ids of a revision, of its parents and of its link.
+fn ids(step: &Step) -> Result<[Id; 4], Fail> {
+    let (_, node, [p, q], link, _) = *step;
+    Ok([id(node)?, id(p)?, id(q)?, id(link)?])
+}
+
+fn add(rt: &impl Abort, store: &mut HgStore, group: Group, ids: [Id; 4], text: Vec<u8>) -> bool {
     assert!(rt; text.len() <= 1 << 26);
-    let text = Vec::from_slice(alloc, text)?;
+    let [node, p, q, link] = ids;
     let added = match group {
-        Group::Changesets => store.add_changeset(id(node)?, id(p)?, id(q)?, id(link)?, text),
-        Group::Manifests => store.add_manifest(id(node)?, id(p)?, id(q)?, id(link)?, text),
+        Group::Changesets => store.add_changeset(node, p, q, link, text),
+        Group::Manifests => store.add_manifest(node, p, q, link, text),
         Group::FilesAt(path) => {
             assert!(rt; fit_path(path));
-            store.add_file(path, id(node)?, id(p)?, id(q)?, id(link)?, text)
+            store.add_file(path, node, p, q, link, text)
         }
     };
-    assert!(rt; added.is_ok());
-    Ok(())
+    added.is_ok()
 }
 
 /// A piece of a bundle: the bytes of an id that is given in hex digits, or bytes.
@@ -324,7 +328,10 @@ fn listed(alloc: Global, nodes: &[&[u8]]) -> Result<IdList, Fail> {
 fn filled(rt: &impl Abort, alloc: Global) -> Result<HgStore, Fail> {
     let mut store = HgStore::new(alloc);
     for step in STEPS {
-        add(rt, alloc, &mut store, step)?;
+        let ids = ids(step)?;
+        let text = Vec::from_slice(alloc, step.4)?;
+        let is_added = add(rt, &mut store, step.0, ids, text);
+        assert!(rt; is_added);
     }
     Ok(store)
 }
@@ -341,15 +348,20 @@ fn written(
     Ok(write(alloc, store, order, from)?)
 }
 
+fn is_written(rt: &impl Abort, alloc: Global, store: &HgStore, case: &Case) -> Result<bool, Fail> {
+    let (nodes, from, want) = *case;
+    let order = listed(alloc, nodes)?;
+    let bytes = written(rt, alloc, store, &order, from)?;
+    let want = joined(alloc, want)?;
+    Ok(bytes == want)
+}
+
 #[test]
 fn bundles(rt: HostRuntime) -> Result<(), Fail> {
-    let alloc = rt.alloc();
-    let store = filled(&rt, alloc)?;
-    for (nodes, from, want) in CASES {
-        let order = listed(alloc, nodes)?;
-        let bytes = written(&rt, alloc, &store, &order, *from)?;
-        let want = joined(alloc, want)?;
-        assert!(rt; bytes == want, "{from}");
+    let store = filled(&rt, rt.alloc())?;
+    for case in CASES {
+        let is_written = is_written(&rt, rt.alloc(), &store, case)?;
+        assert!(rt; is_written);
     }
     Ok(())
 }

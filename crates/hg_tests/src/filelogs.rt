@@ -1,6 +1,7 @@
 // Texts of file revisions.
 use bridge_text::Id;
 use hg_filelog::{FileShape, copy_of, has_copy, join_into, plain_into, split};
+use std::alloc::Global;
 use std::test::Fail;
 
 /// The node 0xFF, 0xFF, .. that the copies below name.
@@ -51,20 +52,33 @@ const CASES: &[Case] = &[
     },
 ];
 
+// Whether a text has these parts, and is what they are joined to behind what is there.
+fn is_split(alloc: Global, case: &Case) -> Result<bool, Fail> {
+    let parts = split(case.text);
+    if parts != case.parts {
+        return Ok(false);
+    }
+    let Ok((meta, body)) = parts else {
+        return Ok(true);
+    };
+    let mut out = Vec::from_slice(alloc, b"front ")?;
+    join_into(&mut out, meta, body)?;
+    Ok(out.starts_with(b"front ") && &out[6..] == case.text)
+}
+
 #[test]
 fn texts_split_and_join(rt: HostRuntime) -> Result<(), Fail> {
-    for case in CASES {
-        assert!(rt; split(case.text) == case.parts);
-        if let Ok((meta, body)) = split(case.text) {
-            let mut out = Vec::from_slice(rt.alloc(), b"front ")?;
-            join_into(&mut out, meta, body)?;
-            assert!(rt; out.starts_with(b"front "));
-            assert!(rt; &out[6..] == case.text);
-        }
+    for (i, case) in CASES.iter().enumerate() {
+        let is_split = is_split(rt.alloc(), case)?;
+        assert!(rt; is_split, "at {i}");
     }
+    Ok(())
+}
+
+#[test]
+fn plain_bodies(rt: HostRuntime) -> Result<(), Fail> {
     let mut out = Vec::new(rt.alloc());
     plain_into(&mut out, b"x")?;
-    assert!(rt; out.as_slice() == b"x".as_slice());
     plain_into(&mut out, b"\x01\nx")?;
     assert!(rt; out.as_slice() == b"x\x01\n\x01\n\x01\nx".as_slice());
     Ok(())
@@ -145,21 +159,27 @@ const COPIES: &[Copy] = &[
     },
 ];
 
+fn meta_of(alloc: Global, copy: &Copy) -> Result<Vec<u8>, Fail> {
+    let mut meta = Vec::from_slice(alloc, copy.front)?;
+    meta.extend_from_slice(copy.digits)?;
+    meta.extend_from_slice(copy.end)?;
+    Ok(meta)
+}
+
+// Whether the metadata name what the row says.
+fn is_copy(meta: &[u8], copy: &Copy) -> bool {
+    let names_path = match copy_of(meta) {
+        Some((path, node)) => copy.path == Some(path) && node == Id::new([0xff; 20]),
+        None => copy.path == None,
+    };
+    names_path && has_copy(meta) == copy.names
+}
+
 #[test]
 fn copies(rt: HostRuntime) -> Result<(), Fail> {
-    let node = Id::from_hex(DIGITS).ok_or("40 digits")?;
-    for copy in COPIES {
-        let mut meta = Vec::from_slice(rt.alloc(), copy.front)?;
-        meta.extend_from_slice(copy.digits)?;
-        meta.extend_from_slice(copy.end)?;
-        match copy_of(&meta) {
-            Some((path, of)) => {
-                assert!(rt; copy.path == Some(path));
-                assert!(rt; of == node);
-            }
-            None => assert!(rt; copy.path == None),
-        }
-        assert!(rt; has_copy(&meta) == copy.names);
+    for (i, copy) in COPIES.iter().enumerate() {
+        let meta = meta_of(rt.alloc(), copy)?;
+        assert!(rt; is_copy(&meta, copy), "at {i}");
     }
     Ok(())
 }

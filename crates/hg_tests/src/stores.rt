@@ -160,19 +160,48 @@ fn id(digits: &[u8]) -> Result<Id, Fail> {
     Ok(Id::from_hex(digits).ok_or("40 digits")?)
 }
 
+// The ids of a revision, of its parents and of its link.
+fn ids(node: &[u8], parents: &[&[u8]; 2], link: &[u8]) -> Result<[Id; 4], Fail> {
+    let [p, q] = *parents;
+    Ok([id(node)?, id(p)?, id(q)?, id(link)?])
+}
+
+// What the addition to its group answers.
+fn add(
+    rt: &impl Abort,
+    store: &mut HgStore,
+    group: Group,
+    ids: [Id; 4],
+    text: Vec<u8>,
+) -> Result<Added, AddFault> {
+    assert!(rt; text.len() <= 1 << 26);
+    let [node, p, q, link] = ids;
+    match group {
+        Group::Changesets => store.add_changeset(node, p, q, link, text),
+        Group::Manifests => store.add_manifest(node, p, q, link, text),
+        Group::FilesAt(path) => {
+            assert!(rt; fit_path(path));
+            store.add_file(path, node, p, q, link, text)
+        }
+    }
+}
+
+fn is_answered(
+    rt: &impl Abort,
+    alloc: Global,
+    store: &mut HgStore,
+    step: &Step,
+) -> Result<bool, Fail> {
+    let (group, node, parents, link, text, want) = step;
+    let ids = ids(node, parents, link)?;
+    let text = Vec::from_slice(alloc, text)?;
+    Ok(add(rt, store, *group, ids, text) == *want)
+}
+
 fn take(rt: &impl Abort, alloc: Global, store: &mut HgStore, steps: &[Step]) -> Result<(), Fail> {
-    for (i, (group, node, [p, q], link, text, want)) in steps.iter().enumerate() {
-        assert!(rt; text.len() <= 1 << 26);
-        let text = Vec::from_slice(alloc, text)?;
-        let answer = match group {
-            Group::Changesets => store.add_changeset(id(node)?, id(p)?, id(q)?, id(link)?, text),
-            Group::Manifests => store.add_manifest(id(node)?, id(p)?, id(q)?, id(link)?, text),
-            Group::FilesAt(path) => {
-                assert!(rt; fit_path(path));
-                store.add_file(path, id(node)?, id(p)?, id(q)?, id(link)?, text)
-            }
-        };
-        assert!(rt; answer == *want, "at {i}");
+    for (i, step) in steps.iter().enumerate() {
+        let is_answered = is_answered(rt, alloc, store, step)?;
+        assert!(rt; is_answered, "at {i}");
     }
     Ok(())
 }
@@ -206,23 +235,41 @@ const CHECKS: &[Check] = &[
     (A, X, [X, Y], X, Err(LinkUnknown), Err(LinkUnknown)),
 ];
 
+// An addition without text.
+fn addition_of(alloc: Global, check: &Check) -> Result<Addition<'static>, Fail> {
+    let (group, node, parents, link, _, _) = check;
+    let [node, p, q, link] = ids(node, parents, link)?;
+    Ok(Addition {
+        group: *group,
+        node,
+        p,
+        q,
+        link,
+        text: Vec::new(alloc),
+    })
+}
+
+fn is_checked(
+    rt: &impl Abort,
+    alloc: Global,
+    store: &mut HgStore,
+    check: &Check,
+) -> Result<bool, Fail> {
+    let addition = addition_of(alloc, check)?;
+    if let Group::FilesAt(path) = addition.group {
+        assert!(rt; fit_path(path));
+    }
+    assert!(rt; addition.text.len() <= 1 << 26);
+    let has_ancestry = store.check_ancestry(&addition) == check.4;
+    Ok(has_ancestry && store.add(addition) == check.5)
+}
+
 #[test]
 fn additions(rt: HostRuntime) -> Result<(), Fail> {
     let mut store = filled(&rt, rt.alloc())?;
-    for (i, (group, node, [p, q], link, ancestry, want)) in CHECKS.iter().enumerate() {
-        if let Group::FilesAt(path) = group {
-            assert!(rt; fit_path(path));
-        }
-        let addition = Addition {
-            group: *group,
-            node: id(node)?,
-            p: id(p)?,
-            q: id(q)?,
-            link: id(link)?,
-            text: Vec::new(rt.alloc()),
-        };
-        assert!(rt; store.check_ancestry(&addition) == *ancestry, "at {i}");
-        assert!(rt; store.add(addition) == *want, "at {i}");
+    for (i, check) in CHECKS.iter().enumerate() {
+        let is_checked = is_checked(&rt, rt.alloc(), &mut store, check)?;
+        assert!(rt; is_checked, "at {i}");
     }
     Ok(())
 }
@@ -328,19 +375,19 @@ fn is_found(store: &HgStore, found: &Found) -> Result<bool, Fail> {
     let (group, node, text, parents, blob) = *found;
     let node = id(node)?;
     let pair = maybe_pair(&parents)?;
-    Ok(
-        text_at(store, group, &node) == text
-            && parents_at(store, group, &node) == pair
-            && is_blob(blob_at(store, group, &node), blob)
-            && (node.is_null() || store.revision_text(group, &node) == text),
-    )
+    let has_text = text_at(store, group, &node) == text;
+    let has_parents = parents_at(store, group, &node) == pair;
+    let has_blob = is_blob(blob_at(store, group, &node), blob);
+    let has_revision = node.is_null() || store.revision_text(group, &node) == text;
+    Ok(has_text && has_parents && has_blob && has_revision)
 }
 
 #[test]
 fn what_is_held(rt: HostRuntime) -> Result<(), Fail> {
     let store = filled(&rt, rt.alloc())?;
     for (i, found) in FOUND.iter().enumerate() {
-        assert!(rt; is_found(&store, found)?, "at {i}");
+        let is_found = is_found(&store, found)?;
+        assert!(rt; is_found, "at {i}");
     }
     Ok(())
 }
@@ -388,10 +435,18 @@ fn is_unseen(store: &HgStore, unseen: &(&[u8], ViewFault)) -> Result<bool, Fail>
 fn views(rt: HostRuntime) -> Result<(), Fail> {
     let store = filled(&rt, rt.alloc())?;
     for (i, seen) in SEEN_ONES.iter().enumerate() {
-        assert!(rt; is_seen(&store, seen)?, "at {i}");
+        let is_seen = is_seen(&store, seen)?;
+        assert!(rt; is_seen, "at {i}");
     }
+    Ok(())
+}
+
+#[test]
+fn nodes_without_views(rt: HostRuntime) -> Result<(), Fail> {
+    let store = filled(&rt, rt.alloc())?;
     for (i, unseen) in UNSEEN_ONES.iter().enumerate() {
-        assert!(rt; is_unseen(&store, unseen)?, "at {i}");
+        let is_unseen = is_unseen(&store, unseen)?;
+        assert!(rt; is_unseen, "at {i}");
     }
     Ok(())
 }
@@ -458,7 +513,8 @@ fn has_both(store: &HgStore, changeset: &Id, manifest: &Id) -> bool {
 fn hashed_additions(rt: HostRuntime) -> Result<(), Fail> {
     let mut store = HgStore::new(rt.alloc());
     for (i, addition) in HASHED.iter().enumerate() {
-        assert!(rt; is_added(&rt, rt.alloc(), &mut store, addition)?, "at {i}");
+        let is_added = is_added(&rt, rt.alloc(), &mut store, addition)?;
+        assert!(rt; is_added, "at {i}");
     }
     let (one, of_x) = (id(ONE)?, id(OF_X)?);
     assert!(rt; has_both(&store, &one, &of_x));

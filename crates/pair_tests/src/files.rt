@@ -1,0 +1,247 @@
+// Whether files of changesets are those that the rule gives.
+use crate::sides::id;
+use bridge_text::{Added, Bytes, Id, fit_path};
+use file_rule::{Parent, are_ruled};
+use hg_manifest::{Flag, Manifest};
+use hg_store::HgStore;
+use pair_known::{HgRow, HgRows};
+use std::alloc::Global;
+use std::process::Abort;
+use std::test::Fail;
+
+const NULL: &[u8] = b"0000000000000000000000000000000000000000";
+
+const ONE: &[u8] = b"b470b8df2f97b19e505a12557fca38e48d59561c";
+
+const ONE_TEXT: &[u8] = b"0000000000000000000000000000000000000000\nu\n0 0\n\none";
+
+/// Revisions of the files `a`, `b` and `c`: x, y over x, and z over both; and of `a` alone w, which names a copy.
+const X: &[u8] = b"d00600e0b09ff8a1909934023a08399f084bc6bc";
+
+const Y: &[u8] = b"c4cb1824dbcc4c8bfed5b6ade3c31783a979f9ec";
+
+const Z: &[u8] = b"baed9c37ab96a3d570674bdfa24c956f711797f4";
+
+const COPY: &[u8] = b"cebcfa19f27ab49a648e2686ecf970353c4a8d51";
+
+const COPY_TEXT: &[u8] =
+    b"\x01\ncopy: b\ncopyrev: d00600e0b09ff8a1909934023a08399f084bc6bc\n\x01\nw";
+
+/// A revision of a file: the path, the node with the parents, and the text.
+struct Revision(&'static [u8], [&'static [u8]; 3], &'static [u8]);
+
+const REVISIONS: &[Revision] = &[
+    Revision(b"a", [X, NULL, NULL], b"x"),
+    Revision(b"a", [Y, X, NULL], b"y"),
+    Revision(b"a", [Z, X, Y], b"z"),
+    Revision(b"b", [X, NULL, NULL], b"x"),
+    Revision(b"b", [Y, X, NULL], b"y"),
+    Revision(b"b", [Z, X, Y], b"z"),
+    Revision(b"c", [X, NULL, NULL], b"x"),
+    Revision(b"c", [Y, X, NULL], b"y"),
+    Revision(b"c", [Z, X, Y], b"z"),
+    Revision(b"a", [COPY, X, NULL], COPY_TEXT),
+];
+
+// Adds a revision that the changeset with this node brought; whether it is new.
+fn add(
+    rt: &impl Abort,
+    store: &mut HgStore,
+    path: &[u8],
+    ids: [Id; 3],
+    link: Id,
+    text: Vec<u8>,
+) -> bool {
+    assert!(rt; text.len() <= 1 << 26 && fit_path(path));
+    let [node, p, q] = ids;
+    store.add_file(path, node, p, q, link, text) == Ok(Added::New)
+}
+
+fn add_changeset(rt: &impl Abort, store: &mut HgStore, node: Id, text: Vec<u8>) -> bool {
+    assert!(rt; text.len() <= 1 << 26);
+    store.add_changeset(node, Id::NULL, Id::NULL, node, text) == Ok(Added::New)
+}
+
+fn ids(digits: &[&[u8]; 3]) -> Result<[Id; 3], Fail> {
+    let [node, p, q] = *digits;
+    Ok([id(node)?, id(p)?, id(q)?])
+}
+
+fn store_of(rt: &impl Abort, alloc: Global) -> Result<HgStore, Fail> {
+    let mut store = HgStore::new(alloc);
+    let one = id(ONE)?;
+    let text = Vec::from_slice(alloc, ONE_TEXT)?;
+    let is_new = add_changeset(rt, &mut store, one, text);
+    assert!(rt; is_new);
+    for Revision(path, digits, text) in REVISIONS {
+        let ids = ids(digits)?;
+        let text = Vec::from_slice(alloc, text)?;
+        let is_new = add(rt, &mut store, path, ids, one, text);
+        assert!(rt; is_new);
+    }
+    Ok(store)
+}
+
+/// A file: its path and its node.
+type File = (&'static [u8], &'static [u8]);
+
+// The line of a file in a manifest; none of the null id.
+fn put_line(text: &mut Vec<u8>, path: &[u8], node: &[u8]) -> Result<(), Fail> {
+    if node == NULL {
+        return Ok(());
+    }
+    text.extend_from_slice(path)?;
+    text.push(b'\0')?;
+    text.extend_from_slice(node)?;
+    Ok(text.push(b'\n')?)
+}
+
+fn manifest_of(alloc: Global, files: &[File]) -> Result<Manifest, Fail> {
+    let mut text = Vec::new(alloc);
+    for (path, node) in files {
+        put_line(&mut text, path, node)?;
+    }
+    Ok(Manifest::read(alloc, text.as_slice()).map_err(|_| "a manifest")?)
+}
+
+fn row_of(alloc: Global, store: &HgStore, path: &[u8], node: Id) -> Result<HgRow, Fail> {
+    let path = Bytes::of(alloc, path)?;
+    match store.file_blob(path.as_slice(), &node) {
+        Some(blob) => Ok(HgRow {
+            path,
+            flag: Flag::Exec,
+            node,
+            blob,
+        }),
+        None => Err("a file revision that is known")?,
+    }
+}
+
+fn rows_of(alloc: Global, store: &HgStore, files: &[File]) -> Result<HgRows, Fail> {
+    let mut rows = HgRows::new(alloc);
+    for (path, node) in files {
+        let node = id(node)?;
+        let row = row_of(alloc, store, path, node)?;
+        rows.push(row)?;
+    }
+    Ok(rows)
+}
+
+/// The node of a file, those of its path in the parents, and whether the file comes back.
+const CASES: &[(&'static [u8], [&'static [u8]; 2], bool)] = &[
+    (X, [NULL, NULL], true),
+    (X, [X, NULL], true),
+    (X, [Y, X], true),
+    (X, [Y, NULL], false),
+    (Y, [X, NULL], true),
+    (Y, [X, X], true),
+    (Y, [NULL, X], true),
+    (Y, [NULL, NULL], false),
+    (Z, [X, Y], true),
+    (Z, [Y, X], true),
+    (Z, [X, NULL], false),
+    (COPY, [X, NULL], false),
+    (COPY, [COPY, NULL], true),
+];
+
+/// The files of a changeset, those of its parents, and whether all of the changeset's come back.
+const LISTS: &[([&'static [File]; 3], bool)] = &[
+    ([&[], &[], &[]], true),
+    ([&[], &[(b"a", X), (b"b", X)], &[(b"c", X)]], true),
+    (
+        [
+            &[(b"a", Y), (b"b", X), (b"c", Y)],
+            &[(b"a", Y), (b"c", Y)],
+            &[],
+        ],
+        true,
+    ),
+    (
+        [
+            &[(b"a", X), (b"c", Y)],
+            &[(b"a", X), (b"b", X), (b"c", X)],
+            &[],
+        ],
+        true,
+    ),
+    (
+        [&[(b"a", X), (b"c", Y)], &[(b"a", X), (b"b", X)], &[]],
+        false,
+    ),
+    (
+        [
+            &[(b"b", Z), (b"c", Y)],
+            &[(b"a", X), (b"b", X), (b"c", X)],
+            &[(b"a", Y), (b"b", Y), (b"c", Y)],
+        ],
+        true,
+    ),
+    (
+        [
+            &[(b"a", Y), (b"b", Y), (b"c", Y)],
+            &[(b"a", X), (b"c", X)],
+            &[(b"b", X), (b"c", Y)],
+        ],
+        true,
+    ),
+    (
+        [
+            &[(b"a", Y), (b"b", Y), (b"c", Z)],
+            &[(b"a", X), (b"c", X)],
+            &[(b"b", Y)],
+        ],
+        false,
+    ),
+];
+
+// A parent with this manifest, whose node isn't asked for.
+fn parent_with(manifest: &Manifest) -> Parent<'_> {
+    Parent {
+        is_there: true,
+        manifest_node: Id::NULL,
+        manifest,
+    }
+}
+
+fn come_back(alloc: Global, store: &HgStore, lists: &[&[File]; 3]) -> Result<bool, Fail> {
+    let [files, first, second] = *lists;
+    let rows = rows_of(alloc, store, files)?;
+    let first = manifest_of(alloc, first)?;
+    let second = manifest_of(alloc, second)?;
+    Ok(are_ruled(store, &rows, &parent_with(&first), &parent_with(&second)))
+}
+
+// Whether the file `a` comes back.
+fn comes_back(
+    alloc: Global,
+    store: &HgStore,
+    node: &'static [u8],
+    parents: &[&'static [u8]; 2],
+) -> Result<bool, Fail> {
+    let [first, second] = *parents;
+    come_back(
+        alloc,
+        store,
+        &[&[(b"a", node)], &[(b"a", first)], &[(b"a", second)]],
+    )
+}
+
+#[test]
+fn files_that_come_back(rt: HostRuntime) -> Result<(), Fail> {
+    let store = store_of(&rt, rt.alloc())?;
+    for (node, parents, want) in CASES {
+        let comes_back = comes_back(rt.alloc(), &store, node, parents)?;
+        assert!(rt; comes_back == *want);
+    }
+    Ok(())
+}
+
+#[test]
+fn lists_that_come_back(rt: HostRuntime) -> Result<(), Fail> {
+    let store = store_of(&rt, rt.alloc())?;
+    for (lists, want) in LISTS {
+        let come_back = come_back(rt.alloc(), &store, lists)?;
+        assert!(rt; come_back == *want);
+    }
+    Ok(())
+}
