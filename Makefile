@@ -54,7 +54,7 @@ install: build/hggit
 	install -m 755 build/hggit $(DESTDIR)$(PREFIX)/bin/hggit
 
 gate-table:
-	tools/gate-table $(LOG) docs/architecture.md
+	tools/gate-table $(LOG) --into docs/architecture.md
 
 clean:
 	tools/prove --clean

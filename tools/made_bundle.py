@@ -5,6 +5,7 @@ from formats import hg
 from formats.hg import NULL
 
 FILES = 200
+FILES_OF_A_FOLDER = 20
 LINES = 100
 LINE = 80
 
@@ -53,20 +54,31 @@ def new_line(numbers):
     return b'%0*d\n' % (LINE - 1, numbers.randrange(10**60))
 
 
-def write_bundle(count, path, texts_path):
-    """A bundle in which each changeset changes one file, and the texts of all its revisions."""
+def write_bundle(count, path, texts_path, file_count=FILES):
+    """A bundle in which each changeset changes one file, and the texts of all its revisions; the first changesets add the files, one each."""
     numbers = random.Random(count)
     with open(texts_path, 'wb') as texts:
-        files = [File(b'folder%02d/file%03d' % (i // 20, i), texts) for i in range(FILES)]
+        files = [File(path_of(place, file_count), texts) for place in range(file_count)]
         changesets, manifests = Store(texts), Store(texts)
-        lines = [b''] * FILES
+        lines = [b''] * file_count
         for number in range(count):
-            place = number if number < FILES else numbers.randrange(FILES)
+            place = number if number < file_count else numbers.randrange(file_count)
             commit(number, place, files, lines, manifests, changesets, numbers)
     nodes = [node for node, _, _ in changesets.chunks]
     with open(path, 'wb') as file:
         file.write(hg.bundle(changesets.chunks_linked(nodes), manifests.chunks_linked(nodes),
                              [(f.path, f.chunks_linked(f.links)) for f in files]))
+
+
+def path_of(place, file_count):
+    """Paths of one length, which rise."""
+    digits = len(str(file_count - 1))
+    return b'folder%02d/file%0*d' % (place // FILES_OF_A_FOLDER, digits, place)
+
+
+def row_count(count, file_count=FILES):
+    """The rows of all manifests of such a bundle."""
+    return sum(min(number, file_count) for number in range(1, count + 1))
 
 
 def commit(number, place, files, lines, manifests, changesets, numbers):
