@@ -14,12 +14,9 @@ SOURCES := crates.txt $(shell find crates -name out -prune -o -type f \( -name '
 
 all: run-examples
 
-# The crates below the program are proved first, side by side; `rt run` then proves the program itself, and compiles it.
+# The program and the crates that it stands on are proved side by side, in a checkout of their own.
 build/hggit build/bundle_copy: build/%: $(SOURCES)
-	tools/prove $*
-	cd crates/$* && rt run < stdin > /dev/null
-	mkdir -p build
-	cp crates/$*/out/$* $@
+	tools/prove $* $@
 
 run-examples: build/hggit
 	build/hggit list-hg < examples/one-changeset.hg > build/one-changeset.hg.list
