@@ -1,13 +1,21 @@
-ghost use Rattle.std.specs.Prelude.{◌≡◌, ◌<◌, true};
+ghost use Rattle.std.specs.Prelude.{◌≡◌, ◌∷◌, ◌<◌, ◌≤◌, ◌↔◌, [], nat_eq, true, IsTrue};
+ghost use Rattle.std.specs.Int.{w64, from_le_bytes};
+ghost use Rattle.std.specs.Cmp.Lexicographic.{pointwise, nat_list_eq_equiv};
+ghost use Rattle.std.specs.Cmp.{partial_equiv_from_equiv};
+ghost use Rattle.std.specs.Cmp.Rules.{hashing};
 ghost use Rattle.std.specs.List.{list_all};
+ghost use Rattle.std.proofs.Common.{rules};
+ghost use Rattle.text_model.specs.Text.{IsBytes};
+ghost use Rattle.bridge_text.specs.Words.{word_of};
 ghost use Rattle.text_model.specs.Id.{IsId, is_null, hex, is_hex_id, is_lower_digit, digit_value, bytes_of_digits, id_of_hex};
 
 use crate::bytes::each_is_byte;
+use std::hash::{Hash, Hasher};
 use std::marker::Model;
 
 /// The id of a Mercurial revision (its node) or of a Git object: the 20 bytes of a SHA-1.
 /// Ids are ordered as their bytes.
-#[derive(Clone, Copy, Debug, PartialEq, Eq, PartialOrd, Ord, Hash)]
+#[derive(Clone, Copy, Debug, Eq, PartialOrd, Ord)]
 pub struct Id {
     bytes: [u8; 20],
 }
@@ -70,6 +78,57 @@ impl Id {
         } else {
             None
         }
+    }
+}
+
+// Three words, of which the last two overlap, cover the bytes: one byte at a time they would take twenty turns.
+impl PartialEq for Id {
+    ghost eq = { pointwise nat_eq };
+
+    ghost laws = { partial_equiv_from_equiv nat_list_eq_equiv };
+
+    fn eq(&self, other: &Id) -> bool {
+        have_same_word(&self.bytes, &other.bytes, 0)
+            & have_same_word(&self.bytes, &other.bytes, 8)
+            & have_same_word(&self.bytes, &other.bytes, 12)
+    }
+}
+
+// Whether two ids have the same eight bytes from a place on.
+fn have_same_word(bytes: &[u8; 20], other: &[u8; 20], i: usize) -> bool
+    requires { i ≤ 12 }
+    ensures { IsTrue result ↔ word_of bytes.now i ≡ word_of other.now i }
+{
+    word_at(bytes, i) == word_at(other, i)
+}
+
+// The eight bytes from a place on as a number, the lowest first.
+fn word_at(bytes: &[u8; 20], i: usize) -> u64
+    requires { i ≤ 12 }
+    ensures value { result ≡ from_le_bytes w64 (word_of bytes.now i) }
+    ensures bytes { IsBytes (word_of bytes.now i) }
+{
+    each_is_byte(bytes);
+    u64::from_le_bytes([
+        bytes[i],
+        bytes[i + 1],
+        bytes[i + 2],
+        bytes[i + 3],
+        bytes[i + 4],
+        bytes[i + 5],
+        bytes[i + 6],
+        bytes[i + 7],
+    ])
+}
+
+// The bytes are fed together: one at a time they would take twenty turns of the hash, which all tables of ids wait for.
+impl Hash for Id {
+    ghost hash_input = { λ id. id ∷ [] };
+
+    ghost respects_eq = { Prim.search (hashing, rules) };
+
+    fn hash<H: Hasher>(&self, state: &mut H) {
+        state.write(self.bytes.as_slice());
     }
 }
 

@@ -1,4 +1,4 @@
-ghost use Rattle.std.specs.Prelude.{◌≡◌, ◌==◌, ◌<◌, ◌++◌, [], ◌∷◌, length, slice_get, Some, MatchResult, OnOk, OnErr, IsTrue, option_map, find, bytes_eq};
+ghost use Rattle.std.specs.Prelude.{◌≡◌, ◌==◌, ◌<◌, ◌++◌, [], ◌∷◌, length, slice_get, Some, MatchResult, OnOk, OnErr, IfOk, IsTrue, option_map, find, bytes_eq};
 ghost use Rattle.std.specs.Option.{option_copied};
 ghost use Rattle.std.specs.Ordering.{nat_cmp};
 ghost use Rattle.std.specs.Cmp.Lexicographic.{slice_cmp};
@@ -14,6 +14,9 @@ use bridge_text::{Bytes, NoMemory, each_is_byte, fit_path};
 use std::alloc::Global;
 use std::cmp::Ordering;
 use std::marker::Model;
+
+// How many bytes the shortest line has: a path of one byte, NUL, 40 digits and LF.
+const SHORTEST_LINE: usize = 43;
 
 /// The entries of a manifest, whose paths are fit and rise strictly as bytes. Contracts see the list.
 #[derive(Debug, Drop)]
@@ -49,7 +52,7 @@ impl Manifest {
     pub fn read(alloc: Global, text: &[u8]) -> Result<Manifest, ManifestFault>
         ensures { MatchResult result (IsManifestText text.now) (IsFault text.now) }
     {
-        let mut manifest = Manifest::new(alloc);
+        let mut manifest = room_for(alloc, text)?;
         let mut last = None;
         let mut rest = text;
         while !rest.is_empty() {
@@ -72,6 +75,7 @@ impl Manifest {
             last = Some(line.path);
             rest = after;
         }
+        manifest.entries.shrink_to_fit();
         Ok(manifest)
     }
 
@@ -144,6 +148,15 @@ impl Manifest {
         }
         Ok(())
     }
+}
+
+// No entries, with room for as many as a text of this length may have.
+fn room_for(alloc: Global, text: &[u8]) -> Result<Manifest, NoMemory>
+    ensures { IfOk result (λ manifest. manifest ≡ []) }
+{
+    Ok(Manifest {
+        entries: Vec::with_capacity(alloc, text.len() / SHORTEST_LINE)?,
+    })
 }
 
 // Whether a path stands after that of the line before, if there is one.

@@ -4,7 +4,7 @@ use Rattle.hg_manifest.proofs.ReadLemmas.{IsLineOf, at_start, no_entry, falls, u
 use Rattle.hg_manifest.proofs.list.Manifest.read.Goals as goal
 
 pub loop-last-init : goal.loop-last-init
-loop-last-init c = rw c.new-manifest.ensures (at_start c.args.text.now (IsBytes-by_index c.args.text.now (λ i. omega (arith, c.type_inv.text i))))
+loop-last-init c = rw c.in_ok-manifest.ensures (at_start c.args.text.now (IsBytes-by_index c.args.text.now (λ i. omega (arith, c.type_inv.text i))))
 
 pub returns-in_default : goal.returns-in_default
 returns-in_default c =
