@@ -1,5 +1,5 @@
 -- The extras of a changeset's marks, as they are read and as they are put.
-use Rattle.std.proofs.Common.{◌≡◌, ◌≤◌, ◌<◌, ◌+◌, ◌^◌, ◌&&◌, ℕ, zero, suc, Bool, true, false, List, [], ◌∷◌, ◌++◌, length, drop, length-drop, Option, Some, None, option_map, refl, sym, ap, subst, ◌∙◌, append_assoc, append-nil, arith, add-one, leb-true, Result, Ok, Err}
+use Rattle.std.proofs.Common.{◌≡◌, ◌≤◌, ◌<◌, ◌+◌, ◌^◌, ◌&&◌, ℕ, zero, suc, Bool, true, false, List, [], ◌∷◌, ◌++◌, length, drop, length-drop, Option, Some, None, option_map, refl, sym, ap, subst, ◌∙◌, append_assoc, arith, add-one, leb-true, Result, Ok, Err}
 use Rattle.std.specs.Prelude.{codes, decimal, bytes_eq, nat_le, not, IfOk, MatchOption, if◌then◌else◌, slice_get}
 use Rattle.std.proofs.lemmas.Bool.{not-true, not-false}
 use Rattle.std.specs.Option.{option_and_then}
@@ -10,11 +10,15 @@ use Rattle.text_model.proofs.DecimalLemmas.{decimal_below-decimal, decimal_below
 use Rattle.text_model.proofs.TestLemmas.{both}
 use Rattle.text_model.proofs.EachLemmas.{Each-append}
 use Rattle.hg_model.specs.Changeset.{Extra, extra_at, key_rises, last_key}
-use Rattle.pair_model.specs.MarkList.{ChangesetMarks, extra_of, parents_extra, tree_extra, extras_of, IsPart, IsParentCount, AreChangesetMarks, AreExtrasOf}
-use Rattle.mark_code.specs.Reading.{raw_of, part_at, count_of, count_at, marks_in_extras, AreBelow}
+use Rattle.git_model.specs.Residue.{ResidueItem}
+use Rattle.pair_model.specs.MarkList.{ChangesetMarks, extra_of, parents_extra, tree_extra, extras_of, IsPart, IsParentCount, IsTreePart, AreChangesetMarks, AreExtrasOf}
+use Rattle.mark_code.specs.Reading.{raw_of}
+use Rattle.mark_code.specs.ResidueText.{residue_of_text}
+use Rattle.mark_code.specs.Extras.{part_at, count_of, count_at, tree_at, marks_in_extras, AreBelow}
 use Rattle.mark_code.specs.Values.{changeset_marks}
 use Rattle.mark_code.specs.declared.changeset_marks.ChangesetMarks as declared
 use Rattle.mark_code.proofs.RawLemmas.{raw_of-escape, raw_of-takes}
+use Rattle.mark_code.proofs.ResidueLemmas.{residue-again, residue-takes}
 
 none_some : {X : Type 0} (x : X) → None ≡ Some x → ⊥
 none_some x h = cc
@@ -86,23 +90,55 @@ count_of-takes text n h = by (decimal_below (2 ^ 64) text) refl
             let d = decimal_below-takes (2 ^ 64) text m (omega arith) r in
             subst (λ (k : ℕ). (text ≡ decimal k) × (3 ≤ k) × (k ≤ 64)) same (d.0, leb-true 3 m p.0, leb-true m 64 p.1)
 
-count_at-again : (parents : Option ℕ) → IsParentCount parents → count_at (parents_extra parents) ≡ Some parents
-count_at-again None h = refl
-count_at-again (Some n) h = ap (option_map (λ (m : ℕ). Some m)) (count_of-decimal n h.0 h.1)
-
-count_at-takes : (es : List Extra) (parents : Option ℕ) → count_at es ≡ Some parents → IsParentCount parents × (es ≡ parents_extra parents)
-count_at-takes [] parents h = subst (λ (p : Option ℕ). IsParentCount p × ([] ≡ parents_extra p)) (some_is None parents h) (tt, refl)
-count_at-takes (e ∷ f ∷ es) parents h = absurd (none_some parents h)
-count_at-takes (e ∷ []) parents h = by (bytes_eq e.key (codes "hg-git-parents")) refl (count_of e.value) refl
+-- where no item has the key, the number is missing
+count_at-none : (es : List Extra) → extra_at (codes "hg-git-parents") es ≡ None → count_at es ≡ Some (None, es)
+count_at-none [] h = refl
+count_at-none (e ∷ es) h = by (bytes_eq e.key (codes "hg-git-parents")) refl
   where
-    by : (t : Bool) → bytes_eq e.key (codes "hg-git-parents") ≡ t → (r : Option ℕ) → count_of e.value ≡ r → IsParentCount parents × (e ∷ [] ≡ parents_extra parents)
-    by false t r q = absurd (none_some parents (sym (rw t refl) ∙ h))
-    by true t None q = absurd (none_some parents (sym (rw (t, q) refl) ∙ h))
+    by : (t : Bool) → bytes_eq e.key (codes "hg-git-parents") ≡ t → count_at (e ∷ es) ≡ Some (None, e ∷ es)
+    by true t = absurd (none_some e.value (sym h ∙ rw t refl))
+    by false t = rw t refl
+
+count_at-again : (parents : Option ℕ) (es : List Extra) → IsParentCount parents → extra_at (codes "hg-git-parents") es ≡ None → count_at (parents_extra parents ++ es) ≡ Some (parents, es)
+count_at-again None es is h = count_at-none es h
+count_at-again (Some n) es is h = ap (option_map (λ (m : ℕ). (Some m, es))) (count_of-decimal n is.0 is.1)
+
+count_at-takes : (es : List Extra) (parents : Option ℕ) (rest : List Extra) → count_at es ≡ Some (parents, rest) → IsParentCount parents × (es ≡ parents_extra parents ++ rest)
+count_at-takes [] parents rest h =
+    let same : (None, []) ≡ (parents, rest) = some_is {X = Option ℕ × List Extra} (None, []) (parents, rest) h in
+    subst (λ (p : Option ℕ × List Extra). IsParentCount p.0 × ([] ≡ parents_extra p.0 ++ p.1)) same (tt, refl)
+count_at-takes (e ∷ es) parents rest h = by (bytes_eq e.key (codes "hg-git-parents")) refl (count_of e.value) refl
+  where
+    by : (t : Bool) → bytes_eq e.key (codes "hg-git-parents") ≡ t → (r : Option ℕ) → count_of e.value ≡ r → IsParentCount parents × (e ∷ es ≡ parents_extra parents ++ rest)
+    by false t r q =
+        let same : (None, e ∷ es) ≡ (parents, rest) = some_is {X = Option ℕ × List Extra} (None, e ∷ es) (parents, rest) (sym (rw t refl) ∙ h) in
+        subst (λ (p : Option ℕ × List Extra). IsParentCount p.0 × (e ∷ es ≡ parents_extra p.0 ++ p.1)) same (tt, refl)
+    by true t None q = absurd (none_some {X = Option ℕ × List Extra} (parents, rest) (sym (rw (t, q) refl) ∙ h))
     by true t (Some n) q =
-        let same : Some n ≡ parents = some_is (Some n) parents (sym (rw (t, q) refl) ∙ h) in
+        let same : (Some n, es) ≡ (parents, rest) = some_is {X = Option ℕ × List Extra} (Some n, es) (parents, rest) (sym (rw (t, q) refl) ∙ h) in
         let read = count_of-takes e.value n q in
         let key_is : e.key ≡ codes "hg-git-parents" = (bytes_eq-Decides e.key (codes "hg-git-parents")).0 t in
-        subst (λ (p : Option ℕ). IsParentCount p × (e ∷ [] ≡ parents_extra p)) same ((read.1, read.2), (λ i. record { key = key_is i; value = read.0 i } ∷ []))
+        subst (λ (p : Option ℕ × List Extra). IsParentCount p.0 × (e ∷ es ≡ parents_extra p.0 ++ p.1)) same ((read.1, read.2), (λ i. record { key = key_is i; value = read.0 i } ∷ es))
+
+-- ---- the residue
+
+tree_at-again : (tree : Option (List ResidueItem)) → IsTreePart tree → tree_at (tree_extra tree) ≡ Some tree
+tree_at-again None h = refl
+tree_at-again (Some items) h = ap (option_map (λ (xs : List ResidueItem). Some xs)) (residue-again items h)
+
+tree_at-takes : (es : List Extra) (tree : Option (List ResidueItem)) → tree_at es ≡ Some tree → IsTreePart tree × (es ≡ tree_extra tree)
+tree_at-takes [] tree h = subst (λ (x : Option (List ResidueItem)). IsTreePart x × ([] ≡ tree_extra x)) (some_is None tree h) (tt, refl)
+tree_at-takes (e ∷ f ∷ es) tree h = absurd (none_some tree h)
+tree_at-takes (e ∷ []) tree h = by (bytes_eq e.key (codes "hg-git-tree")) refl (residue_of_text e.value) refl
+  where
+    by : (t : Bool) → bytes_eq e.key (codes "hg-git-tree") ≡ t → (r : Option (List ResidueItem)) → residue_of_text e.value ≡ r → IsTreePart tree × (e ∷ [] ≡ tree_extra tree)
+    by false t r q = absurd (none_some tree (sym (rw t refl) ∙ h))
+    by true t None q = absurd (none_some tree (sym (rw (t, q) refl) ∙ h))
+    by true t (Some items) q =
+        let same : Some items ≡ tree = some_is (Some items) tree (sym (rw (t, q) refl) ∙ h) in
+        let read = residue-takes e.value items q in
+        let key_is : e.key ≡ codes "hg-git-tree" = (bytes_eq-Decides e.key (codes "hg-git-tree")).0 t in
+        subst (λ (x : Option (List ResidueItem)). IsTreePart x × (e ∷ [] ≡ tree_extra x)) same (read.0, (λ i. record { key = key_is i; value = read.1 i } ∷ []))
 
 -- ---- the whole
 
@@ -111,53 +147,55 @@ skip : (key other : Bytes) → bytes_eq other key ≡ false → (part : Option B
 skip key other apart None es = refl
 skip key other apart (Some part) es = rw apart refl
 
-no_count : (key : Bytes) → bytes_eq (codes "hg-git-parents") key ≡ false → (parents : Option ℕ) → extra_at key (parents_extra parents) ≡ None
-no_count key apart None = refl
-no_count key apart (Some n) = rw apart refl
+skip_parents : (key : Bytes) → bytes_eq (codes "hg-git-parents") key ≡ false → (parents : Option ℕ) (es : List Extra) → extra_at key (parents_extra parents ++ es) ≡ extra_at key es
+skip_parents key apart None es = refl
+skip_parents key apart (Some n) es = rw apart refl
 
--- what is left behind the author, behind the committer, and behind the headers
+no_tree : (key : Bytes) → bytes_eq (codes "hg-git-tree") key ≡ false → (tree : Option (List ResidueItem)) → extra_at key (tree_extra tree) ≡ None
+no_tree key apart None = refl
+no_tree key apart (Some items) = rw apart refl
+
+-- what is left behind the author, the committer, the headers and the message
 abbrev behind_author : ChangesetMarks → List Extra
-behind_author m = extra_of (codes "hg-git-committer") m.committer ++ (extra_of (codes "hg-git-headers") m.headers ++ (extra_of (codes "hg-git-message") m.message ++ parents_extra m.parents))
+behind_author m = extra_of (codes "hg-git-committer") m.committer ++ (extra_of (codes "hg-git-headers") m.headers ++ (extra_of (codes "hg-git-message") m.message ++ (parents_extra m.parents ++ tree_extra m.tree)))
 
 abbrev behind_committer : ChangesetMarks → List Extra
-behind_committer m = extra_of (codes "hg-git-headers") m.headers ++ (extra_of (codes "hg-git-message") m.message ++ parents_extra m.parents)
+behind_committer m = extra_of (codes "hg-git-headers") m.headers ++ (extra_of (codes "hg-git-message") m.message ++ (parents_extra m.parents ++ tree_extra m.tree))
 
 abbrev behind_headers : ChangesetMarks → List Extra
-behind_headers m = extra_of (codes "hg-git-message") m.message ++ parents_extra m.parents
+behind_headers m = extra_of (codes "hg-git-message") m.message ++ (parents_extra m.parents ++ tree_extra m.tree)
 
--- no residue is named
-no_tree : (m : ChangesetMarks) → m.tree ≡ None → parents_extra m.parents ++ tree_extra m.tree ≡ parents_extra m.parents
-no_tree m none = ap (λ x. parents_extra m.parents ++ tree_extra x) none ∙ append-nil (parents_extra m.parents)
+abbrev behind_message : ChangesetMarks → List Extra
+behind_message m = parents_extra m.parents ++ tree_extra m.tree
 
-turned : (m : ChangesetMarks) → m.tree ≡ None → extras_of m ≡ extra_of (codes "hg-git-author") m.author ++ behind_author m
+turned : (m : ChangesetMarks) → extras_of m ≡ extra_of (codes "hg-git-author") m.author ++ behind_author m
 unfolding extras_of
-turned m none =
-    let whole : extras_of m ≡ extra_of (codes "hg-git-author") m.author ++ (extra_of (codes "hg-git-committer") m.committer ++ (extra_of (codes "hg-git-headers") m.headers ++ (extra_of (codes "hg-git-message") m.message ++ (parents_extra m.parents ++ tree_extra m.tree)))) = simp append_assoc in
-    whole ∙ ap (λ (z : List Extra). extra_of (codes "hg-git-author") m.author ++ (extra_of (codes "hg-git-committer") m.committer ++ (extra_of (codes "hg-git-headers") m.headers ++ (extra_of (codes "hg-git-message") m.message ++ z)))) (no_tree m none)
+turned m = simp append_assoc
 
-no_headers_key : (m : ChangesetMarks) → extra_at (codes "hg-git-headers") (behind_headers m) ≡ None
-no_headers_key m = skip (codes "hg-git-headers") (codes "hg-git-message") refl m.message (parents_extra m.parents) ∙ no_count (codes "hg-git-headers") refl m.parents
+past_message : (key : Bytes) (m : ChangesetMarks) → bytes_eq (codes "hg-git-parents") key ≡ false → bytes_eq (codes "hg-git-tree") key ≡ false → extra_at key (behind_message m) ≡ None
+past_message key m apart other = skip_parents key apart m.parents (tree_extra m.tree) ∙ no_tree key other m.tree
+
+past_headers : (key : Bytes) (m : ChangesetMarks) → bytes_eq (codes "hg-git-message") key ≡ false → bytes_eq (codes "hg-git-parents") key ≡ false → bytes_eq (codes "hg-git-tree") key ≡ false → extra_at key (behind_headers m) ≡ None
+past_headers key m message apart other = skip key (codes "hg-git-message") message m.message (behind_message m) ∙ past_message key m apart other
 
 no_committer_key : (m : ChangesetMarks) → extra_at (codes "hg-git-committer") (behind_committer m) ≡ None
-no_committer_key m =
-    skip (codes "hg-git-committer") (codes "hg-git-headers") refl m.headers (behind_headers m)
-    ∙ skip (codes "hg-git-committer") (codes "hg-git-message") refl m.message (parents_extra m.parents) ∙ no_count (codes "hg-git-committer") refl m.parents
+no_committer_key m = skip (codes "hg-git-committer") (codes "hg-git-headers") refl m.headers (behind_headers m) ∙ past_headers (codes "hg-git-committer") m refl refl refl
 
 no_author_key : (m : ChangesetMarks) → extra_at (codes "hg-git-author") (behind_author m) ≡ None
 no_author_key m =
     skip (codes "hg-git-author") (codes "hg-git-committer") refl m.committer (behind_committer m)
-    ∙ skip (codes "hg-git-author") (codes "hg-git-headers") refl m.headers (behind_headers m)
-    ∙ skip (codes "hg-git-author") (codes "hg-git-message") refl m.message (parents_extra m.parents) ∙ no_count (codes "hg-git-author") refl m.parents
+    ∙ skip (codes "hg-git-author") (codes "hg-git-headers") refl m.headers (behind_headers m) ∙ past_headers (codes "hg-git-author") m refl refl refl
 
 -- the extras of marks read as the marks
-pub marks_in_extras-again : (m : ChangesetMarks) → m.tree ≡ None → AreChangesetMarks m → marks_in_extras (extras_of m) ≡ Some m
+pub marks_in_extras-again : (m : ChangesetMarks) → AreChangesetMarks m → marks_in_extras (extras_of m) ≡ Some m
 unfolding marks_in_extras
-marks_in_extras-again m none is =
+marks_in_extras-again m is =
     let author = part_at-again (codes "hg-git-author") m.author (behind_author m) is.author (no_author_key m) in
     let committer = part_at-again (codes "hg-git-committer") m.committer (behind_committer m) is.committer (no_committer_key m) in
-    let headers = part_at-again (codes "hg-git-headers") m.headers (behind_headers m) is.headers (no_headers_key m) in
-    let message = part_at-again (codes "hg-git-message") m.message (parents_extra m.parents) is.message (no_count (codes "hg-git-message") refl m.parents) in
-    rw (turned m none, author, committer, headers, message, count_at-again m.parents is.parents) (λ i. Some (record { author = m.author; committer = m.committer; headers = m.headers; message = m.message; parents = m.parents; tree = sym none i }))
+    let headers = part_at-again (codes "hg-git-headers") m.headers (behind_headers m) is.headers (past_headers (codes "hg-git-headers") m refl refl refl) in
+    let message = part_at-again (codes "hg-git-message") m.message (behind_message m) is.message (past_message (codes "hg-git-message") m refl refl) in
+    let parents = count_at-again m.parents (tree_extra m.tree) is.parents (no_tree (codes "hg-git-parents") refl m.tree) in
+    rw (turned m, author, committer, headers, message, parents, tree_at-again m.tree is.tree) refl
 
 -- what the extras read as has these extras
 pub marks_in_extras-takes : (extras : List Extra) (m : ChangesetMarks) → marks_in_extras extras ≡ Some m → AreExtrasOf extras m
@@ -183,27 +221,33 @@ marks_in_extras-takes extras m h = by_author (part_at (codes "hg-git-author") ex
                 by_message None u = absurd (none_some m (sym (rw (r, s, t, u) refl) ∙ h))
                 by_message (Some d) u = by_parents (count_at d.1) refl
                   where
-                    by_parents : (v : Option (Option ℕ)) → count_at d.1 ≡ v → AreExtrasOf extras m
+                    by_parents : (v : Option (Option ℕ × List Extra)) → count_at d.1 ≡ v → AreExtrasOf extras m
                     by_parents None v = absurd (none_some m (sym (rw (r, s, t, u, v) refl) ∙ h))
-                    by_parents (Some n) v =
-                        let x : ChangesetMarks = record { author = a.0; committer = b.0; headers = c.0; message = d.0; parents = n; tree = None } in
-                        let same : x ≡ m = some_is x m (sym (rw (r, s, t, u, v) refl) ∙ h) in
-                        let author = part_at-takes (codes "hg-git-author") extras a.0 a.1 r in
-                        let committer = part_at-takes (codes "hg-git-committer") a.1 b.0 b.1 s in
-                        let headers = part_at-takes (codes "hg-git-headers") b.1 c.0 c.1 t in
-                        let message = part_at-takes (codes "hg-git-message") c.1 d.0 d.1 u in
-                        let parents = count_at-takes d.1 n v in
-                        let whole : extras ≡ extra_of (codes "hg-git-author") a.0 ++ (extra_of (codes "hg-git-committer") b.0 ++ (extra_of (codes "hg-git-headers") c.0 ++ (extra_of (codes "hg-git-message") d.0 ++ parents_extra n))) =
-                        author.1 ∙ ap (λ (z : List Extra). extra_of (codes "hg-git-author") a.0 ++ z) (committer.1 ∙ ap (λ (z : List Extra). extra_of (codes "hg-git-committer") b.0 ++ z) (headers.1 ∙ ap (λ (z : List Extra). extra_of (codes "hg-git-headers") c.0 ++ z) (message.1 ∙ ap (λ (z : List Extra). extra_of (codes "hg-git-message") d.0 ++ z) parents.1))) in
-                        subst (AreExtrasOf extras) same (record { author = author.0; committer = committer.0; headers = headers.0; message = message.0; parents = parents.0; tree = tt }, whole ∙ sym (turned x refl))
+                    by_parents (Some n) v = by_tree (tree_at n.1) refl
+                      where
+                        by_tree : (w : Option (Option (List ResidueItem))) → tree_at n.1 ≡ w → AreExtrasOf extras m
+                        by_tree None w = absurd (none_some m (sym (rw (r, s, t, u, v, w) refl) ∙ h))
+                        by_tree (Some g) w =
+                            let x : ChangesetMarks = record { author = a.0; committer = b.0; headers = c.0; message = d.0; parents = n.0; tree = g } in
+                            let same : x ≡ m = some_is x m (sym (rw (r, s, t, u, v, w) refl) ∙ h) in
+                            let author = part_at-takes (codes "hg-git-author") extras a.0 a.1 r in
+                            let committer = part_at-takes (codes "hg-git-committer") a.1 b.0 b.1 s in
+                            let headers = part_at-takes (codes "hg-git-headers") b.1 c.0 c.1 t in
+                            let message = part_at-takes (codes "hg-git-message") c.1 d.0 d.1 u in
+                            let parents = count_at-takes d.1 n.0 n.1 v in
+                            let tree = tree_at-takes n.1 g w in
+                            let behind : d.1 ≡ parents_extra n.0 ++ tree_extra g = parents.1 ∙ ap (λ (z : List Extra). parents_extra n.0 ++ z) tree.1 in
+                            let whole : extras ≡ extra_of (codes "hg-git-author") a.0 ++ (extra_of (codes "hg-git-committer") b.0 ++ (extra_of (codes "hg-git-headers") c.0 ++ (extra_of (codes "hg-git-message") d.0 ++ (parents_extra n.0 ++ tree_extra g)))) =
+                            author.1 ∙ ap (λ (z : List Extra). extra_of (codes "hg-git-author") a.0 ++ z) (committer.1 ∙ ap (λ (z : List Extra). extra_of (codes "hg-git-committer") b.0 ++ z) (headers.1 ∙ ap (λ (z : List Extra). extra_of (codes "hg-git-headers") c.0 ++ z) (message.1 ∙ ap (λ (z : List Extra). extra_of (codes "hg-git-message") d.0 ++ z) behind))) in
+                            subst (AreExtrasOf extras) same (record { author = author.0; committer = committer.0; headers = headers.0; message = message.0; parents = parents.0; tree = tree.0 }, whole ∙ sym (turned x))
 
 -- so extras that read as nothing are those of no marks
-pub marks_in_extras-none : (extras : List Extra) → marks_in_extras extras ≡ None → (m : ChangesetMarks) → m.tree ≡ None → AreExtrasOf extras m → ⊥
-marks_in_extras-none extras none m t is = none_some m (sym none ∙ ap marks_in_extras is.1 ∙ marks_in_extras-again m t is.0)
+pub marks_in_extras-none : (extras : List Extra) → marks_in_extras extras ≡ None → (m : ChangesetMarks) → AreExtrasOf extras m → ⊥
+marks_in_extras-none extras none m is = none_some m (sym none ∙ ap marks_in_extras is.1 ∙ marks_in_extras-again m is.0)
 
 -- what reading them answers
 pub judged : {E : Type 0} (extras : List Extra) (r : Result (Option declared.ChangesetMarks) E) → IfOk r (λ marks. option_map changeset_marks marks ≡ marks_in_extras extras)
-    → IfOk r (λ marks. MatchOption marks ((m : ChangesetMarks) → m.tree ≡ None → ¬ (AreExtrasOf extras m)) (λ marks. AreExtrasOf extras (changeset_marks marks)))
+    → IfOk r (λ marks. MatchOption marks ((m : ChangesetMarks) → ¬ (AreExtrasOf extras m)) (λ marks. AreExtrasOf extras (changeset_marks marks)))
 judged extras (Err e) h = tt
 judged extras (Ok None) h = marks_in_extras-none extras (sym h)
 judged extras (Ok (Some x)) h = marks_in_extras-takes extras (changeset_marks x) (sym h)
@@ -224,10 +268,10 @@ drop_end (x ∷ es) zero e = absurd (omega arith)
 drop_end (x ∷ es) (suc i) e = drop_end es i (omega arith)
 
 -- an item stands behind this one
-pub count-more : (es : List Extra) (i : ℕ) (e : Extra) → i + 1 < length es → slice_get es i ≡ Some e → None ≡ count_at (drop i es)
-count-more es i e more get = sym (ap count_at (drop_at es i e (omega arith) get) ∙ by (drop (i + 1) es) (omega (arith, length-drop (i + 1) es)))
+pub tree-more : (es : List Extra) (i : ℕ) (e : Extra) → i + 1 < length es → slice_get es i ≡ Some e → None ≡ tree_at (drop i es)
+tree-more es i e more get = sym (ap tree_at (drop_at es i e (omega arith) get) ∙ by (drop (i + 1) es) (omega (arith, length-drop (i + 1) es)))
   where
-    by : (rest : List Extra) → 0 < length rest → count_at (e ∷ rest) ≡ None
+    by : (rest : List Extra) → 0 < length rest → tree_at (e ∷ rest) ≡ None
     by [] h = absurd (omega arith)
     by (f ∷ rest) h = refl
 
@@ -254,25 +298,43 @@ module _ (es : List Extra) (i : ℕ) (e : Extra) (key value : Bytes) (lt : i < l
       first : bytes_eq key wanted ≡ true → part_at wanted (record { key = key; value = value } ∷ drop (i + 1) es) ≡ option_map (λ (part : Bytes). (Some part, drop (i + 1) es)) (raw_of value)
       first found = rw found refl
 
+  -- it is no number of parents
+  pub count-other : (seen : Bytes) → seen ≡ key → true ≡ not (bytes_eq seen (codes "hg-git-parents")) → Some (None, drop i es) ≡ count_at (drop i es)
+  count-other seen same other =
+      let apart : bytes_eq key (codes "hg-git-parents") ≡ false = not-true (bytes_eq key (codes "hg-git-parents")) (ap (λ (k : Bytes). not (bytes_eq k (codes "hg-git-parents"))) (sym same) ∙ sym other) in
+      ap (λ (x : List Extra). Some (None, x)) here ∙ sym (ap count_at here ∙ first apart)
+    where
+      first : bytes_eq key (codes "hg-git-parents") ≡ false → count_at (record { key = key; value = value } ∷ drop (i + 1) es) ≡ Some (None, record { key = key; value = value } ∷ drop (i + 1) es)
+      first apart = rw apart refl
+
+  pub count-read : (seen text : Bytes) (r : Option ℕ) → seen ≡ key → false ≡ not (bytes_eq seen (codes "hg-git-parents")) → text ≡ value → r ≡ count_of text
+      → option_map (λ (n : ℕ). (Some n, drop (i + 1) es)) r ≡ count_at (drop i es)
+  count-read seen text r same is text_is read =
+      let found : bytes_eq key (codes "hg-git-parents") ≡ true = not-false (bytes_eq key (codes "hg-git-parents")) (ap (λ (k : Bytes). not (bytes_eq k (codes "hg-git-parents"))) (sym same) ∙ sym is) in
+      ap (option_map (λ (n : ℕ). (Some n, drop (i + 1) es))) (read ∙ ap count_of text_is) ∙ sym (ap count_at here ∙ first found)
+    where
+      first : bytes_eq key (codes "hg-git-parents") ≡ true → count_at (record { key = key; value = value } ∷ drop (i + 1) es) ≡ option_map (λ (n : ℕ). (Some n, drop (i + 1) es)) (count_of value)
+      first found = rw found refl
+
   module _ (last : i + 1 ≡ length es) where
     alone : drop i es ≡ record { key = key; value = value } ∷ []
     alone = here ∙ ap (λ (rest : List Extra). record { key = key; value = value } ∷ rest) (drop_end es (i + 1) last)
 
-    pub count-other : (seen : Bytes) → seen ≡ key → true ≡ not (bytes_eq seen (codes "hg-git-parents")) → None ≡ count_at (drop i es)
-    count-other seen same other =
-        let apart : bytes_eq key (codes "hg-git-parents") ≡ false = not-true (bytes_eq key (codes "hg-git-parents")) (ap (λ (k : Bytes). not (bytes_eq k (codes "hg-git-parents"))) (sym same) ∙ sym other) in
-        sym (ap count_at alone ∙ first apart)
+    pub tree-other : (seen : Bytes) → seen ≡ key → true ≡ not (bytes_eq seen (codes "hg-git-tree")) → None ≡ tree_at (drop i es)
+    tree-other seen same other =
+        let apart : bytes_eq key (codes "hg-git-tree") ≡ false = not-true (bytes_eq key (codes "hg-git-tree")) (ap (λ (k : Bytes). not (bytes_eq k (codes "hg-git-tree"))) (sym same) ∙ sym other) in
+        sym (ap tree_at alone ∙ first apart)
       where
-        first : bytes_eq key (codes "hg-git-parents") ≡ false → count_at (record { key = key; value = value } ∷ []) ≡ None
+        first : bytes_eq key (codes "hg-git-tree") ≡ false → tree_at (record { key = key; value = value } ∷ []) ≡ None
         first apart = rw apart refl
 
-    pub count-read : (seen text : Bytes) (r : Option ℕ) → seen ≡ key → false ≡ not (bytes_eq seen (codes "hg-git-parents")) → text ≡ value → r ≡ count_of text
-        → option_map (λ (n : ℕ). Some n) r ≡ count_at (drop i es)
-    count-read seen text r same is text_is read =
-        let found : bytes_eq key (codes "hg-git-parents") ≡ true = not-false (bytes_eq key (codes "hg-git-parents")) (ap (λ (k : Bytes). not (bytes_eq k (codes "hg-git-parents"))) (sym same) ∙ sym is) in
-        ap (option_map (λ (n : ℕ). Some n)) (read ∙ ap count_of text_is) ∙ sym (ap count_at alone ∙ first found)
+    pub tree-read : (seen text : Bytes) (r : Option (List ResidueItem)) → seen ≡ key → false ≡ not (bytes_eq seen (codes "hg-git-tree")) → text ≡ value → r ≡ residue_of_text text
+        → option_map (λ (xs : List ResidueItem). Some xs) r ≡ tree_at (drop i es)
+    tree-read seen text r same is text_is read =
+        let found : bytes_eq key (codes "hg-git-tree") ≡ true = not-false (bytes_eq key (codes "hg-git-tree")) (ap (λ (k : Bytes). not (bytes_eq k (codes "hg-git-tree"))) (sym same) ∙ sym is) in
+        ap (option_map (λ (xs : List ResidueItem). Some xs)) (read ∙ ap residue_of_text text_is) ∙ sym (ap tree_at alone ∙ first found)
       where
-        first : bytes_eq key (codes "hg-git-parents") ≡ true → count_at (record { key = key; value = value } ∷ []) ≡ option_map (λ (n : ℕ). Some n) (count_of value)
+        first : bytes_eq key (codes "hg-git-tree") ≡ true → tree_at (record { key = key; value = value } ∷ []) ≡ option_map (λ (xs : List ResidueItem). Some xs) (residue_of_text value)
         first found = rw found refl
 
 -- ---- putting the items
@@ -297,23 +359,34 @@ module _ (m : ChangesetMarks) (none first second third fourth : List Extra) (not
   below wanted key None h = tt
   below wanted key (Some part) h = (h, tt)
 
-  pub all_below : AreBelow (codes "hg-git-parents") fourth
-  all_below =
-      let P : Extra → Type 0 = λ (e : Extra). is_below e.key (codes "hg-git-parents") ≡ true in
-      subst (AreBelow (codes "hg-git-parents")) (sym put_fourth)
+  parts_below : (wanted : Bytes) → is_below (codes "hg-git-author") wanted ≡ true → is_below (codes "hg-git-committer") wanted ≡ true → is_below (codes "hg-git-headers") wanted ≡ true
+      → is_below (codes "hg-git-message") wanted ≡ true → AreBelow wanted fourth
+  parts_below wanted by_author by_committer by_headers by_message =
+      let P : Extra → Type 0 = λ (e : Extra). is_below e.key wanted ≡ true in
+      subst (AreBelow wanted) (sym put_fourth)
       (Each-append P (extra_of (codes "hg-git-author") m.author ++ extra_of (codes "hg-git-committer") m.committer ++ extra_of (codes "hg-git-headers") m.headers) (extra_of (codes "hg-git-message") m.message)
       (Each-append P (extra_of (codes "hg-git-author") m.author ++ extra_of (codes "hg-git-committer") m.committer) (extra_of (codes "hg-git-headers") m.headers)
       (Each-append P (extra_of (codes "hg-git-author") m.author) (extra_of (codes "hg-git-committer") m.committer)
-      (below (codes "hg-git-parents") (codes "hg-git-author") m.author refl) (below (codes "hg-git-parents") (codes "hg-git-committer") m.committer refl))
-      (below (codes "hg-git-parents") (codes "hg-git-headers") m.headers refl)) (below (codes "hg-git-parents") (codes "hg-git-message") m.message refl))
+      (below wanted (codes "hg-git-author") m.author by_author) (below wanted (codes "hg-git-committer") m.committer by_committer))
+      (below wanted (codes "hg-git-headers") m.headers by_headers)) (below wanted (codes "hg-git-message") m.message by_message))
 
-  pub all_put : (fifth : List Extra) → fifth ≡ fourth ++ parents_extra m.parents → m.tree ≡ None → fifth ≡ extras_of m
-  unfolding extras_of
-  all_put fifth parents none =
-      let whole : fifth ≡ extra_of (codes "hg-git-author") m.author ++ (extra_of (codes "hg-git-committer") m.committer ++ (extra_of (codes "hg-git-headers") m.headers ++ (extra_of (codes "hg-git-message") m.message ++ parents_extra m.parents))) =
-      parents ∙ ap (λ (es : List Extra). es ++ parents_extra m.parents) put_fourth ∙ simp append_assoc in
-      whole ∙ sym (turned m none)
+  pub all_below : AreBelow (codes "hg-git-parents") fourth
+  all_below = parts_below (codes "hg-git-parents") refl refl refl refl
+
+  module _ (fifth : List Extra) (parents : fifth ≡ fourth ++ parents_extra m.parents) where
+    count_below : (count : Option ℕ) → AreBelow (codes "hg-git-tree") (parents_extra count)
+    count_below None = tt
+    count_below (Some n) = (refl, tt)
+
+    pub all_below_tree : AreBelow (codes "hg-git-tree") fifth
+    all_below_tree =
+        let P : Extra → Type 0 = λ (e : Extra). is_below e.key (codes "hg-git-tree") ≡ true in
+        subst (AreBelow (codes "hg-git-tree")) (sym parents) (Each-append P fourth (parents_extra m.parents) (parts_below (codes "hg-git-tree") refl refl refl refl) (count_below m.parents))
+
+    pub all_put : (sixth : List Extra) → sixth ≡ fifth ++ tree_extra m.tree → sixth ≡ extras_of m
+    unfolding extras_of
+    all_put sixth tree = tree ∙ ap (λ (es : List Extra). es ++ tree_extra m.tree) (parents ∙ ap (λ (es : List Extra). es ++ parents_extra m.parents) put_fourth)
 
 -- extras are those of the marks of one commit at most
-pub one_marks : (extras : List Extra) (m n : ChangesetMarks) → m.tree ≡ None → n.tree ≡ None → AreExtrasOf extras m → AreExtrasOf extras n → m ≡ n
-one_marks extras m n s t h k = some_is m n (sym (ap marks_in_extras h.1 ∙ marks_in_extras-again m s h.0) ∙ ap marks_in_extras k.1 ∙ marks_in_extras-again n t k.0)
+pub one_marks : (extras : List Extra) (m n : ChangesetMarks) → AreExtrasOf extras m → AreExtrasOf extras n → m ≡ n
+one_marks extras m n h k = some_is m n (sym (ap marks_in_extras h.1 ∙ marks_in_extras-again m h.0) ∙ ap marks_in_extras k.1 ∙ marks_in_extras-again n k.0)

@@ -3,4 +3,5 @@ pub mod ListLemmas
 pub mod MarkLemmas
 pub mod PathsLemmas
 pub mod RawLemmas
+pub mod ResidueLemmas
 pub mod WordLemmas

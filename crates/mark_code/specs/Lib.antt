@@ -1,2 +1,4 @@
+pub mod Extras
 pub mod Reading
+pub mod ResidueText
 pub mod Values

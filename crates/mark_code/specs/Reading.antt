@@ -1,16 +1,15 @@
--- Marks as they are read.
-use Rattle.std.specs.Prelude.{◌≡◌, Bool, true, false, not, ℕ, ◌^◌, ◌&&◌, ◌==◌, nat_le, if◌then◌else◌, List, [], ◌∷◌, length, Option, Some, None, option_map, bytes_eq, codes, decimal}
+-- The marks of a commit as they are read.
+use Rattle.std.specs.Prelude.{Bool, true, false, ◌&&◌, ◌==◌, if◌then◌else◌, List, [], ◌∷◌, length, Option, Some, None, option_map, bytes_eq, codes, decimal}
 use Rattle.std.specs.Option.{option_and_then}
 use Rattle.std.specs.List.{slice_split}
-use Rattle.text_model.specs.Lists.{Each}
-use Rattle.text_model.specs.Text.{Bytes, sp, has_byte, is_below, decimal_below}
+use Rattle.text_model.specs.Text.{Bytes, sp}
 use Rattle.text_model.specs.Cuts.{cut_of}
 use Rattle.text_model.specs.Id.{id_of_hex}
 use Rattle.text_model.specs.Escape.{is_plain}
 use Rattle.text_model.specs.Unescape.{hex_byte}
-use Rattle.hg_model.specs.Changeset.{Extra, DateLine, Plain, Raw, date_of}
+use Rattle.hg_model.specs.Changeset.{DateLine, Plain, Raw, date_of}
 use Rattle.view_model.specs.View.{NoManifest, Over}
-use Rattle.pair_model.specs.MarkList.{Mark, Rename, File, Manifest, Files, User, Date, RawDate, OneExtra, may_follow, ChangesetMarks}
+use Rattle.pair_model.specs.MarkList.{Mark, Rename, File, Manifest, Files, User, Date, RawDate, OneExtra, may_follow}
 
 infixl 10 ◌>>=◌
 abbrev pub ◌>>=◌ : {A B : Type 0} → Option A → (A → Option B) → Option B
@@ -27,42 +26,7 @@ raw_of (b ∷ c ∷ d ∷ rest) =
     else if b == 37 then option_and_then (λ byte. option_map (λ more. byte ∷ more) (raw_of rest)) (hex_byte c d)
     else None
 
--- ---- extras of a changeset
-
--- a part whose item may stand first, and the items behind it
-abbrev pub part_at : Bytes → List Extra → Option (Option Bytes × List Extra)
-part_at key [] = Some (None, [])
-part_at key (e ∷ es) = if bytes_eq e.key key then option_map (λ part. (Some part, es)) (raw_of e.value) else Some (None, e ∷ es)
-
--- a number of parents that has a mark
-abbrev pub count_of : Bytes → Option ℕ
-count_of text = option_and_then (λ n. if nat_le 3 n && nat_le n 64 then Some n else None) (decimal_below (2 ^ 64) text)
-
--- the number of parents, whose item alone may be left
-abbrev pub count_at : List Extra → Option (Option ℕ)
-count_at [] = Some None
-count_at (e ∷ []) = if bytes_eq e.key (codes "hg-git-parents") then option_map (λ n. Some n) (count_of e.value) else None
-count_at (e ∷ f ∷ es) = None
-
--- the marks that the extras are, where they are no others and name no residue
-unfoldable pub marks_in_extras : List Extra → Option ChangesetMarks
-marks_in_extras extras = do
-  author ← part_at (codes "hg-git-author") extras
-  committer ← part_at (codes "hg-git-committer") author.1
-  headers ← part_at (codes "hg-git-headers") committer.1
-  message ← part_at (codes "hg-git-message") headers.1
-  parents ← count_at message.1
-  Some (record { author = author.0; committer = committer.0; headers = headers.0; message = message.0; parents = parents; tree = None })
-
--- a key that isn't empty and has no `:`
-abbrev pub is_key : Bytes → Bool
-is_key key = not (length key == 0) && not (has_byte 58 key)
-
--- each key is below this one
-abbrev pub AreBelow : Bytes → List Extra → Type 0
-AreBelow key extras = Each (λ e. is_below e.key key ≡ true) extras
-
--- ---- headers of a commit: what is read behind the kind of a line
+-- ---- what is read behind the kind of a line
 
 unfoldable pub rename_of : Bytes → Option Mark
 rename_of words = do

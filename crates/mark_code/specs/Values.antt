@@ -1,5 +1,4 @@
 -- What this crate's marks are in the words of the pairing.
-use Rattle.std.specs.Prelude.{None}
 use Rattle.pair_model.specs.MarkList as model
 use Rattle.view_model.specs.View as view
 use Rattle.mark_code.specs.declared.mark.Mark.{Mark}
@@ -24,6 +23,6 @@ mark_value (mark.Date time tz) = model.Date time tz
 mark_value (mark.Raw text) = model.RawDate text
 mark_value (mark.Extra key value) = model.OneExtra (record { key = key; value = value })
 
--- the marks that a value of the struct stands for, which name no residue
+-- the marks that a value of the struct stands for
 abbrev pub changeset_marks : ChangesetMarks → model.ChangesetMarks
-changeset_marks x = record { author = x.author; committer = x.committer; headers = x.headers; message = x.message; parents = x.parents; tree = None }
+changeset_marks x = record { author = x.author; committer = x.committer; headers = x.headers; message = x.message; parents = x.parents; tree = x.tree }

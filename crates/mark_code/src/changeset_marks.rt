@@ -1,16 +1,18 @@
-ghost use Rattle.std.specs.Prelude.{◌≡◌, ◌≤◌, ◌++◌, ◌∷◌, [], IsTrue, length, drop, option_map, codes, decimal, OnOk, IfOk, IfSome, MatchOption, None};
+ghost use Rattle.std.specs.Prelude.{◌≡◌, ◌≤◌, ◌++◌, ◌∷◌, [], IsTrue, length, drop, option_map, codes, decimal, OnOk, IfOk, IfSome, MatchOption};
 ghost use Rattle.pair_model.specs.MarkList as model;
-ghost use Rattle.pair_model.specs.MarkList.{extra_of, parents_extra, AreExtrasOf, IsPart, IsParentCount};
+ghost use Rattle.pair_model.specs.MarkList.{extra_of, parents_extra, tree_extra, AreExtrasOf, IsPart, IsParentCount, IsTreePart};
 ghost use Rattle.mark_code.specs.Values.{changeset_marks};
-ghost use Rattle.mark_code.specs.Reading.{part_at, count_at, count_of, marks_in_extras, is_key, AreBelow};
+ghost use Rattle.mark_code.specs.Extras.{part_at, count_at, count_of, tree_at, marks_in_extras, is_key, AreBelow};
 
 use crate::escape::{escaped, unescaped};
+use crate::residue_text::{is_residue, read_residue, residue_text};
 use bridge_text::{Bytes, NoMemory, decimal_into, decimal_of, each_is_byte};
+use git_object::Residue;
 use hg_changeset::{ExtraItem, Extras};
 use std::alloc::Global;
 
 /// The parts of a commit that the rule would not give back from the changeset: items of the
-/// changeset's extras, each value escaped.
+/// changeset's extras. Each value is escaped, but for the decimal and the residue's text.
 #[derive(Debug, Drop)]
 pub struct ChangesetMarks {
     /// The author's line, under `hg-git-author`.
@@ -23,6 +25,10 @@ pub struct ChangesetMarks {
     pub message: Option<Bytes>,
     /// The number of parents, from 3 to 64, in decimal under `hg-git-parents`.
     pub parents: Option<u8>,
+    /// What its tree has beside the files that a changeset can hold, under `hg-git-tree`: the words
+    /// `group:PATH`, `link:HEX:PATH` and `empty:PATH` in rising order of their paths, with one space
+    /// between each two, and the path of each escaped. The empty text is that of no items.
+    pub tree: Option<Residue>,
 }
 
 const AUTHOR: &[u8] = b"hg-git-author";
@@ -35,12 +41,14 @@ const MESSAGE: &[u8] = b"hg-git-message";
 
 const PARENTS: &[u8] = b"hg-git-parents";
 
+const TREE: &[u8] = b"hg-git-tree";
+
 impl ChangesetMarks {
-    /// The marks that the extras are. `None` exactly where they are no marks without a residue: an
-    /// item has another key, its value is no escape, or the number of parents is no decimal from 3
-    /// to 64.
+    /// The marks that the extras are. `None` exactly where they are no marks: an item has another
+    /// key, its value is no escape, the number of parents is no decimal from 3 to 64, or the
+    /// residue's text has another form.
     pub fn read(alloc: Global, extras: &Extras) -> Result<Option<ChangesetMarks>, NoMemory>
-        ensures { IfOk result (λ marks. MatchOption marks ((m : model.ChangesetMarks) → m.tree ≡ None → ¬ (AreExtrasOf extras.now m)) (λ marks. AreExtrasOf extras.now (changeset_marks marks))) }
+        ensures { IfOk result (λ marks. MatchOption marks ((m : model.ChangesetMarks) → ¬ (AreExtrasOf extras.now m)) (λ marks. AreExtrasOf extras.now (changeset_marks marks))) }
     {
         read_marks(alloc, extras)
     }
@@ -57,20 +65,23 @@ impl ChangesetMarks {
         put_part(alloc, &mut extras, HEADERS, &self.headers)?;
         put_part(alloc, &mut extras, MESSAGE, &self.message)?;
         put_count(alloc, &mut extras, self.parents)?;
+        put_tree(alloc, &mut extras, &self.tree)?;
         Ok(extras)
     }
 
-    /// A law, which does nothing when it runs: each part is bytes.
+    /// A law, which does nothing when it runs: each part is bytes, and the residue is one.
     pub fn are_parts(&self)
         ensures author { IsPart self.now.author }
         ensures committer { IsPart self.now.committer }
         ensures headers { IsPart self.now.headers }
         ensures message { IsPart self.now.message }
+        ensures tree { IsTreePart self.now.tree }
     {
         is_part(&self.author);
         is_part(&self.committer);
         is_part(&self.headers);
         is_part(&self.message);
+        is_tree_part(&self.tree);
     }
 }
 
@@ -80,6 +91,15 @@ fn is_part(part: &Option<Bytes>)
 {
     if let Some(part) = part {
         each_is_byte(part.as_slice());
+    }
+}
+
+// A law, which does nothing when it runs.
+fn is_tree_part(tree: &Option<Residue>)
+    ensures { IsTreePart tree.now }
+{
+    if let Some(tree) = tree {
+        is_residue(tree);
     }
 }
 
@@ -111,6 +131,17 @@ fn put_count(alloc: Global, extras: &mut Extras, count: Option<u8>) -> Result<()
     }
 }
 
+// Puts the item of the residue at the end, where there is one.
+fn put_tree(alloc: Global, extras: &mut Extras, tree: &Option<Residue>) -> Result<(), NoMemory>
+    requires above { AreBelow (codes "hg-git-tree") extras.old }
+    ensures { OnOk result (extras.new ≡ extras.old ++ tree_extra tree.now) }
+{
+    match tree {
+        Some(tree) => put_item(alloc, extras, TREE, residue_text(alloc, tree)?),
+        None => Ok(()),
+    }
+}
+
 fn decimal(alloc: Global, count: u8) -> Result<Bytes, NoMemory>
     ensures { IfOk result (λ text. text ≡ decimal count) }
 {
@@ -128,7 +159,7 @@ fn put_item(alloc: Global, extras: &mut Extras, key: &[u8], value: Bytes) -> Res
     extras.push(ExtraItem { key, value })
 }
 
-#[tactic(auto, unfolding(crate::specs::Reading::marks_in_extras))]
+#[tactic(auto, unfolding(crate::specs::Extras::marks_in_extras))]
 fn read_marks(alloc: Global, extras: &Extras) -> Result<Option<ChangesetMarks>, NoMemory>
     ensures { IfOk result (λ marks. option_map changeset_marks marks ≡ marks_in_extras extras.now) }
 {
@@ -144,7 +175,10 @@ fn read_marks(alloc: Global, extras: &Extras) -> Result<Option<ChangesetMarks>, 
     let Some((message, behind)) = part_at(alloc, extras, behind, MESSAGE)? else {
         return Ok(None);
     };
-    let Some(parents) = count_at(extras, behind) else {
+    let Some((parents, behind)) = count_at(extras, behind) else {
+        return Ok(None);
+    };
+    let Some(tree) = tree_at(alloc, extras, behind)? else {
         return Ok(None);
     };
     Ok(Some(ChangesetMarks {
@@ -153,6 +187,7 @@ fn read_marks(alloc: Global, extras: &Extras) -> Result<Option<ChangesetMarks>, 
         headers,
         message,
         parents,
+        tree,
     }))
 }
 
@@ -180,23 +215,21 @@ fn part_at(
     }
 }
 
-// The number of parents, whose item alone may stand at a place and behind it.
-fn count_at(extras: &Extras, place: usize) -> Option<Option<u8>>
+// The number of parents, where the item at a place has its key, and the place behind it.
+fn count_at(extras: &Extras, place: usize) -> Option<(Option<u8>, usize)>
     requires { place ≤ length extras.now }
-    ensures { result ≡ count_at (drop place extras.now) }
+    ensures read { option_map (λ p. (p.0, drop p.1 extras.now)) result ≡ count_at (drop place extras.now) }
+    ensures within { IfSome result (λ p. p.1 ≤ length extras.now) }
 {
     if place == extras.len() {
-        return Some(None);
+        return Some((None, place));
     }
     let item = extras.at(place);
-    if place + 1 < extras.len() {
-        return None;
-    }
     if item.key.as_slice() != PARENTS {
-        return None;
+        return Some((None, place));
     }
     let count = count_of(item.value.as_slice())?;
-    Some(Some(count))
+    Some((Some(count), place + 1))
 }
 
 // The number of parents that a decimal names, from 3 to 64.
@@ -208,5 +241,30 @@ fn count_of(text: &[u8]) -> Option<u8>
         Some(count as u8)
     } else {
         None
+    }
+}
+
+// The residue, whose item alone may stand at a place and behind it.
+fn tree_at(
+    alloc: Global,
+    extras: &Extras,
+    place: usize,
+) -> Result<Option<Option<Residue>>, NoMemory>
+    requires { place ≤ length extras.now }
+    ensures { IfOk result (λ tree. tree ≡ tree_at (drop place extras.now)) }
+{
+    if place == extras.len() {
+        return Ok(Some(None));
+    }
+    let item = extras.at(place);
+    if place + 1 < extras.len() {
+        return Ok(None);
+    }
+    if item.key.as_slice() != TREE {
+        return Ok(None);
+    }
+    match read_residue(alloc, item.value.as_slice())? {
+        Some(tree) => Ok(Some(Some(tree))),
+        None => Ok(None),
     }
 }

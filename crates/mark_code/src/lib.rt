@@ -11,6 +11,7 @@ mod list;
 mod mark;
 mod order;
 mod reading;
+mod residue_text;
 mod writing;
 
 pub use changeset_marks::ChangesetMarks;

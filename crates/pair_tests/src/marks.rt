@@ -218,3 +218,65 @@ fn extras_read_and_write(rt: HostRuntime) -> Result<(), Fail> {
     }
     Ok(())
 }
+
+/// A date line with an extra of a residue, and how many items the residue has; none where the
+/// extras are no marks.
+const TREES: &[(&[u8], Option<usize>)] = &[
+    (b"0 0 hg-git-tree:", Some(0)),
+    (
+        b"0 0 hg-git-tree:link:2222222222222222222222222222222222222222:lib",
+        Some(1),
+    ),
+    (b"0 0 hg-git-tree:group:a", Some(1)),
+    (b"0 0 hg-git-tree:empty:d", Some(1)),
+    (b"0 0 hg-git-tree:empty:", Some(1)),
+    (
+        b"0 0 hg-git-tree:group:a%20b empty:c:d link:0f0f0f0f0f0f0f0f0f0f0f0f0f0f0f0f0f0f0f0f:e%25",
+        Some(3),
+    ),
+    (
+        b"0 0 hg-git-author:a\0hg-git-parents:3\0hg-git-tree:group:a",
+        Some(1),
+    ),
+    (b"0 0 hg-git-tree:group:b group:a", None),
+    (b"0 0 hg-git-tree:group:a empty:a", None),
+    (b"0 0 hg-git-tree:group:a  group:b", None),
+    (b"0 0 hg-git-tree:group:a ", None),
+    (b"0 0 hg-git-tree: group:a", None),
+    (b"0 0 hg-git-tree:group", None),
+    (b"0 0 hg-git-tree:file:a", None),
+    (b"0 0 hg-git-tree:group:a%62", None),
+    (b"0 0 hg-git-tree:group:a\xff", None),
+    (b"0 0 hg-git-tree:link:22:lib", None),
+    (
+        b"0 0 hg-git-tree:link:222222222222222222222222222222222222222A:lib",
+        None,
+    ),
+    (
+        b"0 0 hg-git-tree:link:2222222222222222222222222222222222222222",
+        None,
+    ),
+    (b"0 0 hg-git-tree:group:a\0hg-git-x:a", None),
+];
+
+// Whether the extras of the line are those of a residue of so many items, or of no marks.
+fn has_residue(alloc: Global, text: &[u8], items: &Option<usize>) -> Result<bool, Fail> {
+    let DateLine::Plain { extras, .. } = DateLine::read(alloc, text)? else {
+        return Ok(false);
+    };
+    let Some(marks) = ChangesetMarks::read(alloc, &extras)? else {
+        return Ok(items.is_none());
+    };
+    let written = marks.to_extras(alloc)?;
+    let count = marks.tree.as_ref().map(|tree| tree.len());
+    Ok(count.is_some() && count == *items && are_items(&written, &extras))
+}
+
+#[test]
+fn residues_read_and_write(rt: HostRuntime) -> Result<(), Fail> {
+    for (text, items) in TREES {
+        let has_residue = has_residue(rt.alloc(), text, items)?;
+        assert!(rt; has_residue);
+    }
+    Ok(())
+}
