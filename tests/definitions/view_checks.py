@@ -35,10 +35,10 @@ class Shapes:
             id = git.object_id(b'blob', body).decode()
         return record(path=path, mode=Con(mode), id=bytes.fromhex(id), content=body)
 
-    def commit(self, rows, parents=(), message=b'one\n', author=AUTHOR, headers=b''):
+    def commit(self, rows, parents=(), message=b'one\n', author=AUTHOR, headers=b'', committer=None):
         rows = [self.tree_row(*row) for row in rows]
         root = self.checks.value('view_model.View.root_of_rows', rows)
-        value = record(tree_id=root, parents=list(parents), author=author, committer=author, headers=headers, message=message)
+        value = record(tree_id=root, parents=list(parents), author=author, committer=committer or author, headers=headers, message=message)
         return record(value=value, rows=rows)
 
 

@@ -1,2 +1,2 @@
-//! The partners of changesets and commits, as definitions that contracts cite. No code.
+//! Marks, unmarkings, depth and partners of changesets and commits, as definitions that contracts cite. No code.
 #![tactic(auto)]

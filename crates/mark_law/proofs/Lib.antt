@@ -1,0 +1,11 @@
+pub mod TextFacts
+pub mod Marks
+pub mod Residues
+pub mod Extras
+pub mod Copies
+pub mod MarkTypes
+pub mod Sections
+pub mod Listed
+pub mod Views
+pub mod Decided
+pub mod Entries

@@ -1,0 +1,10 @@
+pub mod Up
+pub mod Roots
+pub mod Given
+pub mod Parities
+pub mod Agreeing
+pub mod Blocks
+pub mod Returns
+pub mod Partners
+pub mod Longer
+pub mod Choices
