@@ -65,6 +65,34 @@ pub fn run_over(
     counted::<Brand>(alloc, &words, outside, Blank::new(1))
 }
 
+fn input_of(alloc: Global, outside: &Outside<'_>) -> Result<MemSource, AllocError> {
+    let bytes = outside.input.to_vec(alloc)?;
+    let fails = outside.input_fails.to_vec(alloc)?;
+    Ok(MemSource::new(bytes, outside.cut, fails))
+}
+
+// A sink with so much room, some calls of which fail.
+fn sink_of(alloc: Global, room: usize, cut: usize, fails: &[u64]) -> Result<MemSink, AllocError> {
+    let bytes = Vec::with_capacity(alloc, room)?;
+    let fails = fails.to_vec(alloc)?;
+    Ok(MemSink::new(bytes, room, cut, fails))
+}
+
+fn outcome_of(
+    alloc: Global,
+    status: Status,
+    output: &MemSink,
+    errors: &MemSink,
+) -> Result<Outcome, AllocError> {
+    let output = output.bytes().to_vec(alloc)?;
+    let errors = errors.bytes().to_vec(alloc)?;
+    Ok(Outcome {
+        status,
+        output,
+        errors,
+    })
+}
+
 fn counted<L: Ledger>(
     alloc: Global,
     words: &Words,
@@ -76,23 +104,9 @@ fn counted<L: Ledger>(
     requires some { 0 < blank.parts }
 {
     let mut steps = Steps::<L>::new(blank);
-    let mut input = MemSource::new(
-        outside.input.to_vec(alloc)?,
-        outside.cut,
-        outside.input_fails.to_vec(alloc)?,
-    );
-    let mut output = MemSink::new(
-        Vec::with_capacity(alloc, outside.room)?,
-        outside.room,
-        outside.cut,
-        outside.output_fails.to_vec(alloc)?,
-    );
-    let mut errors = MemSink::new(
-        Vec::with_capacity(alloc, ROOM)?,
-        ROOM,
-        outside.cut,
-        Vec::new(alloc),
-    );
+    let mut input = input_of(alloc, &outside)?;
+    let mut output = sink_of(alloc, outside.room, outside.cut, outside.output_fails)?;
+    let mut errors = sink_of(alloc, ROOM, outside.cut, &[])?;
     let mut slot = MemSlot::new(None, Vec::new(alloc), 0, Vec::new(alloc));
     let status = run(
         alloc,
@@ -103,9 +117,5 @@ fn counted<L: Ledger>(
         &mut slot,
         &mut steps,
     );
-    Ok(Outcome {
-        status,
-        output: output.bytes().to_vec(alloc)?,
-        errors: errors.bytes().to_vec(alloc)?,
-    })
+    outcome_of(alloc, status, &output, &errors)
 }

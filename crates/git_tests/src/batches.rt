@@ -74,18 +74,22 @@ fn is_next(
     }
 }
 
+// Whether the objects come one after the other, and then the end.
+fn are_read(src: &mut MemSource, into: &mut Vec<u8>) -> bool {
+    let mut reader = BatchReader::new();
+    for object in OBJECTS {
+        if !is_next(&mut reader, src, into, object) {
+            return false;
+        }
+    }
+    reader.next(src, into) == Ok(Item::End) && into.is_empty()
+}
+
 // Whether the stream is read in pieces of at most `cut` bytes.
 fn is_read(alloc: Global, cut: usize) -> Result<bool, Fail> {
     let mut src = source(alloc, STREAM, cut, &[])?;
-    let mut reader = BatchReader::new();
     let mut into = b"left".to_vec(alloc)?;
-    for object in OBJECTS {
-        if !is_next(&mut reader, &mut src, &mut into, object) {
-            return Ok(false);
-        }
-    }
-    let is_at_end = reader.next(&mut src, &mut into) == Ok(Item::End);
-    Ok(is_at_end && into.is_empty())
+    Ok(are_read(&mut src, &mut into))
 }
 
 #[test]
@@ -161,12 +165,18 @@ fn long_line(alloc: Global, letters: usize, rest: &[u8]) -> Result<Vec<u8>, Fail
     Ok(bytes)
 }
 
+// Whether the line of so many letters and this has the fault.
+fn is_long(alloc: Global, letters: usize, rest: &[u8], fault: BatchFault) -> Result<bool, Fail> {
+    let bytes = long_line(alloc, letters, rest)?;
+    let found = fault_of(alloc, &bytes, 0)?;
+    Ok(found == Some(fault))
+}
+
 #[test]
 fn a_line_has_4096_bytes_at_most(rt: HostRuntime) -> Result<(), Fail> {
     for (letters, rest, want) in long_lines() {
-        let bytes = long_line(rt.alloc(), letters, rest)?;
-        let fault = fault_of(rt.alloc(), &bytes, 0)?;
-        assert!(rt; fault == Some(want), "{letters}");
+        let is_long = is_long(rt.alloc(), letters, rest, want)?;
+        assert!(rt; is_long);
     }
     Ok(())
 }
@@ -177,13 +187,28 @@ fn other_blob(alloc: Global) -> Result<MemSource, Fail> {
     source(alloc, &bytes, 0, &[])
 }
 
+// Whether the next item, whose id isn't compared, is the object with this id.
+fn is_taken(src: &mut MemSource, into: &mut Vec<u8>) -> bool {
+    match BatchReader::new().next(src, into) {
+        Ok(item) => is_object(&item, HELLO, Kind::Blob, 0)
+            && into.as_slice() == b"hallo\n".as_slice(),
+        Err(_) => false,
+    }
+}
+
 #[test]
 fn ids_are_not_compared(rt: HostRuntime) -> Result<(), Fail> {
     let mut src = other_blob(rt.alloc())?;
     let mut into = Vec::new(rt.alloc());
-    let item = BatchReader::new().next(&mut src, &mut into)?;
-    assert!(rt; is_object(&item, HELLO, Kind::Blob, 0) && into.as_slice() == b"hallo\n".as_slice());
+    let is_taken = is_taken(&mut src, &mut into);
+    assert!(rt; is_taken);
     Ok(())
+}
+
+// Why the next item, whose id is compared, isn't given, where nothing is left of it.
+fn fault_of_checked(src: &mut MemSource, into: &mut Vec<u8>) -> Option<BatchFault> {
+    let fault = BatchReader::new().next_checked(src, into).err();
+    if into.is_empty() { fault } else { None }
 }
 
 #[test]
@@ -191,8 +216,8 @@ fn another_id_is_seen_where_ids_are_compared(rt: HostRuntime) -> Result<(), Fail
     let id = hello()?;
     let mut src = other_blob(rt.alloc())?;
     let mut into = Vec::new(rt.alloc());
-    let checked = BatchReader::new().next_checked(&mut src, &mut into);
-    assert!(rt; checked == Err(BatchFault::IdWrong(id, 0)) && into.is_empty());
+    let fault = fault_of_checked(&mut src, &mut into);
+    assert!(rt; fault == Some(BatchFault::IdWrong(id, 0)));
     Ok(())
 }
 
@@ -202,27 +227,37 @@ fn failing(alloc: Global, call: u64) -> Result<MemSource, Fail> {
     source(alloc, &bytes, 1, &[call])
 }
 
+// Why the blob isn't read.
+fn fault_at_call(alloc: Global, call: u64) -> Result<Option<BatchFault>, Fail> {
+    let mut src = failing(alloc, call)?;
+    let mut into = Vec::new(alloc);
+    Ok(fault_of_checked(&mut src, &mut into))
+}
+
 /// A read that fails in a line or in a content.
 #[test]
 fn a_failed_read_is_told(rt: HostRuntime) -> Result<(), Fail> {
     for call in [0, 5, 47, 48, 50, 54] {
-        let mut src = failing(rt.alloc(), call)?;
-        let mut into = Vec::new(rt.alloc());
-        let read = BatchReader::new().next_checked(&mut src, &mut into);
-        assert!(rt; read == Err(BatchFault::Read) && into.is_empty(), "{call}");
+        let fault = fault_at_call(rt.alloc(), call)?;
+        assert!(rt; fault == Some(BatchFault::Read));
     }
     Ok(())
+}
+
+// Whether a reader gives the blob, and then this.
+fn ends(src: &mut MemSource, into: &mut Vec<u8>, end: Result<Item, BatchFault>) -> bool {
+    let mut reader = BatchReader::new();
+    let is_blob = reader.next(src, into).is_ok();
+    is_blob && reader.next(src, into) == end
 }
 
 /// A read that fails where the end is due.
 #[test]
 fn a_failed_read_is_no_end(rt: HostRuntime) -> Result<(), Fail> {
     let mut src = failing(rt.alloc(), 55)?;
-    let mut reader = BatchReader::new();
     let mut into = Vec::new(rt.alloc());
-    let is_blob = reader.next(&mut src, &mut into).is_ok();
-    let end = reader.next(&mut src, &mut into);
-    assert!(rt; is_blob && end == Err(BatchFault::Read));
+    let ends = ends(&mut src, &mut into, Err(BatchFault::Read));
+    assert!(rt; ends);
     Ok(())
 }
 

@@ -119,20 +119,20 @@ fn id(place: usize) -> Result<Id, Fail> {
     Ok(Id::from_hex(digits).ok_or("40 digits")?)
 }
 
-// Adds an object; whether it has this id.
-fn add(store: &mut GitStore, kind: Kind, digits: &[u8], content: Vec<u8>) -> bool {
-    let its_id = object_id(kind, &content);
-    let is_its_id = its_id.hex().as_slice() == digits;
-    is_its_id && store.add(its_id, kind, content).is_ok()
+// Adds an object; whether it has its id.
+fn add(alloc: Global, store: &mut GitStore, object: &Object) -> Result<bool, Fail> {
+    let Object(kind, digits, content) = object;
+    let its_id = object_id(*kind, content);
+    let content = content.to_vec(alloc)?;
+    let is_added = store.add(its_id, *kind, content).is_ok();
+    Ok(is_added && its_id.hex().as_slice() == *digits)
 }
 
-fn filled(alloc: Global) -> Result<GitStore, Fail> {
+fn filled(rt: &impl Abort, alloc: Global) -> Result<GitStore, Fail> {
     let mut store = GitStore::new(alloc);
-    for Object(kind, digits, content) in OBJECTS {
-        let content = content.to_vec(alloc)?;
-        if !add(&mut store, *kind, digits, content) {
-            return Err(Fail::from("another id"));
-        }
+    for object in OBJECTS {
+        let is_added = add(alloc, &mut store, object)?;
+        assert!(rt; is_added);
     }
     Ok(store)
 }
@@ -199,7 +199,7 @@ fn is_written(rt: &impl Abort, alloc: Global, store: &GitStore, case: &Case) -> 
 
 #[test]
 fn streams(rt: HostRuntime) -> Result<(), Fail> {
-    let store = filled(rt.alloc())?;
+    let store = filled(&rt, rt.alloc())?;
     for (i, case) in CASES.iter().enumerate() {
         let is_written = is_written(&rt, rt.alloc(), &store, case)?;
         assert!(rt; is_written, "at {i}");

@@ -2,6 +2,7 @@
 use bridge_text::{Id, IdList, IdSet, Kind, object_id};
 use git_store::{GitStore, OrderFault};
 use std::alloc::Global;
+use std::process::Abort;
 use std::test::Fail;
 
 /// A commit, and two over it, and one over both.
@@ -20,8 +21,10 @@ const F: &[u8] = b"50fe92c8f559d47e7280ff38ec7afa02bed44391";
 
 const NEVER: &[u8] = b"1111111111111111111111111111111111111111";
 
-/// The ids of commits, as `git hash-object -t commit` prints them, with their parents and messages.
-const COMMITS: &[(&[u8], &[&[u8]], u8)] = &[
+/// A commit: its id, as `git hash-object -t commit` prints it, with its parents and its message.
+type Row = (&'static [u8], &'static [&'static [u8]], u8);
+
+const COMMITS: &[Row] = &[
     (A, &[], b'a'),
     (B, &[A], b'b'),
     (C, &[A], b'c'),
@@ -50,20 +53,20 @@ fn content(alloc: Global, parents: &[&[u8]], message: u8) -> Result<Vec<u8>, Fai
     Ok(text)
 }
 
-// Adds a commit; whether it has this id.
-fn add(store: &mut GitStore, content: Vec<u8>, digits: &[u8]) -> bool {
+// Adds a commit; whether it has its id.
+fn add(alloc: Global, store: &mut GitStore, commit: &Row) -> Result<bool, Fail> {
+    let (digits, parents, message) = *commit;
+    let content = content(alloc, parents, message)?;
     let its_id = object_id(Kind::Commit, &content);
-    let is_its_id = its_id.hex().as_slice() == digits;
-    is_its_id && store.add(its_id, Kind::Commit, content).is_ok()
+    let is_added = store.add(its_id, Kind::Commit, content).is_ok();
+    Ok(is_added && its_id.hex().as_slice() == digits)
 }
 
-fn filled(alloc: Global) -> Result<GitStore, Fail> {
+fn filled(rt: &impl Abort, alloc: Global) -> Result<GitStore, Fail> {
     let mut store = GitStore::new(alloc);
-    for (digits, parents, message) in COMMITS {
-        let content = content(alloc, parents, *message)?;
-        if !add(&mut store, content, digits) {
-            return Err(Fail::from("another id"));
-        }
+    for commit in COMMITS {
+        let is_added = add(alloc, &mut store, commit)?;
+        assert!(rt; is_added);
     }
     Ok(store)
 }
@@ -131,7 +134,7 @@ fn is_ordered(alloc: Global, store: &GitStore, case: &Case) -> Result<bool, Fail
 
 #[test]
 fn orders(rt: HostRuntime) -> Result<(), Fail> {
-    let store = filled(rt.alloc())?;
+    let store = filled(&rt, rt.alloc())?;
     for (i, case) in CASES.iter().enumerate() {
         let is_ordered = is_ordered(rt.alloc(), &store, case)?;
         assert!(rt; is_ordered, "at {i}");

@@ -24,15 +24,22 @@ fn id(digits: &[u8]) -> Result<Id, Fail> {
     Ok(Id::from_hex(digits).ok_or("40 digits")?)
 }
 
+fn row_of(alloc: Global, row: &Row) -> Result<FileRow, Fail> {
+    let (path, mode, byte) = *row;
+    let path = Bytes::of(alloc, path)?;
+    Ok(FileRow {
+        path,
+        mode,
+        blob: Id::new([byte; 20]),
+    })
+}
+
 /// These rows, each with a blob id of 20 equal bytes.
 fn listed(alloc: Global, rows: &[Row]) -> Result<Vec<FileRow>, Fail> {
     let mut list = Vec::new(alloc);
-    for (path, mode, byte) in rows {
-        list.push(FileRow {
-            path: Bytes::of(alloc, path)?,
-            mode: *mode,
-            blob: Id::new([*byte; 20]),
-        })?;
+    for row in rows {
+        let row = row_of(alloc, row)?;
+        list.push(row)?;
     }
     Ok(list)
 }
@@ -41,80 +48,77 @@ fn files(alloc: Global, rows: &[Row]) -> Result<Files, Fail> {
     Ok(Files::from_rows(listed(alloc, rows)?).ok_or("files")?)
 }
 
+const THREE_ROWS: &[Row] = &[
+    (b"a.b", Mode::File, 0x11),
+    (b"a/c", Mode::File, 0x22),
+    (b"a0", Mode::Link, 0x33),
+];
+
+// Whether the trees are that of the file `c` and the root.
+fn are_two(made: &[TreeItem]) -> bool {
+    let [first, last] = made else {
+        return false;
+    };
+    first.content() == b"100644 c\0\"\"\"\"\"\"\"\"\"\"\"\"\"\"\"\"\"\"\"\"".as_slice()
+        && first.id().hex().as_slice() == b"c71263b47c34258e0fe8230e9162a8a37fa1372b".as_slice()
+        && last.id().hex().as_slice() == b"dc19504b320e98015af1a0ac28a3e74365d3bb82".as_slice()
+}
+
 /// Three files, whose tree has its entries in the order `a.b`, `a`, `a0`. The ids are SHA-1 of the two contents with
 /// their headers, worked out apart.
 #[test]
 fn trees_of_files(rt: HostRuntime) -> Result<(), Fail> {
-    let rows: &[Row] = &[
-        (b"a.b", Mode::File, 0x11),
-        (b"a/c", Mode::File, 0x22),
-        (b"a0", Mode::Link, 0x33),
-    ];
-    let files = files(rt.alloc(), rows)?;
+    let files = files(rt.alloc(), THREE_ROWS)?;
     let trees = build(rt.alloc(), &files)?;
-    let root = id(b"dc19504b320e98015af1a0ac28a3e74365d3bb82")?;
-    let inner = id(b"c71263b47c34258e0fe8230e9162a8a37fa1372b")?;
-    assert!(rt; trees.root == root && are_two(trees.made.as_slice(), &inner, &root));
+    let root = trees.root.hex();
+    assert!(rt; root.as_slice() == b"dc19504b320e98015af1a0ac28a3e74365d3bb82".as_slice());
+    assert!(rt; are_two(trees.made.as_slice()));
     Ok(())
 }
 
-// Whether the trees are that of the file `c` and the root.
-fn are_two(made: &[TreeItem], inner: &Id, root: &Id) -> bool {
-    let [first, last] = made else {
-        return false;
-    };
-    let has_file = first.content()
-        == b"100644 c\0\"\"\"\"\"\"\"\"\"\"\"\"\"\"\"\"\"\"\"\"".as_slice();
-    has_file && first.id() == inner && last.id() == root
-}
-
 /// Rows of which one lies below another, with the place of the first such row.
-fn clashes() -> [(&'static [Row], usize); 3] {
-    [
-        (&[(b"a", Mode::File, 0), (b"a/b", Mode::File, 0)], 1),
-        (
-            &[
-                (b"a", Mode::File, 0),
-                (b"a.b", Mode::Exec, 0),
-                (b"a/c", Mode::File, 0),
-            ],
-            2,
-        ),
-        (
-            &[
-                (b"b/a", Mode::File, 0),
-                (b"b/a-/c", Mode::File, 0),
-                (b"b/a.", Mode::File, 0),
-                (b"b/a/d/e", Mode::File, 0),
-                (b"b/a/d/e/f", Mode::File, 0),
-            ],
-            3,
-        ),
-    ]
-}
+const CLASHES: &[(&'static [Row], usize)] = &[
+    (&[(b"a", Mode::File, 0), (b"a/b", Mode::File, 0)], 1),
+    (
+        &[
+            (b"a", Mode::File, 0),
+            (b"a.b", Mode::Exec, 0),
+            (b"a/c", Mode::File, 0),
+        ],
+        2,
+    ),
+    (
+        &[
+            (b"b/a", Mode::File, 0),
+            (b"b/a-/c", Mode::File, 0),
+            (b"b/a.", Mode::File, 0),
+            (b"b/a/d/e", Mode::File, 0),
+            (b"b/a/d/e/f", Mode::File, 0),
+        ],
+        3,
+    ),
+];
 
 #[test]
 fn rows_without_trees(rt: HostRuntime) -> Result<(), Fail> {
-    for (rows, place) in clashes() {
+    for (rows, place) in CLASHES {
         let files = files(rt.alloc(), rows)?;
         let fault = build(rt.alloc(), &files).err();
-        assert!(rt; fault == Some(BuildFault::PathClash(place)));
+        assert!(rt; fault == Some(BuildFault::PathClash(*place)));
     }
     Ok(())
 }
 
 /// Rows that are no files: one doesn't rise, one has a path that isn't fit, one is a directory that isn't empty.
-fn other_rows() -> [&'static [Row]; 3] {
-    [
-        &[(b"a", Mode::File, 0), (b"a", Mode::File, 0)],
-        &[(b"a//b", Mode::File, 0)],
-        &[(b"a", Mode::Dir, 0)],
-    ]
-}
+const OTHER_ROWS: &[&'static [Row]] = &[
+    &[(b"a", Mode::File, 0), (b"a", Mode::File, 0)],
+    &[(b"a//b", Mode::File, 0)],
+    &[(b"a", Mode::Dir, 0)],
+];
 
 #[test]
 fn rows_that_are_no_files(rt: HostRuntime) -> Result<(), Fail> {
-    for rows in other_rows() {
+    for rows in OTHER_ROWS {
         let listed = listed(rt.alloc(), rows)?;
         assert!(rt; Files::from_rows(listed).is_none());
     }
@@ -141,23 +145,33 @@ fn keep_entry(alloc: Global, store: &mut GitStore, mode: &[u8], id: &Id) -> Resu
     keep(alloc, store, Kind::Tree, &content)
 }
 
+// The ids of a blob and the empty tree, which it adds.
+fn keep_leaves(alloc: Global, store: &mut GitStore) -> Result<[Id; 2], Fail> {
+    let blob = keep(alloc, store, Kind::Blob, b"x")?;
+    let empty = keep(alloc, store, Kind::Tree, b"")?;
+    Ok([blob, empty])
+}
+
+fn has_no_files(alloc: Global, store: &GitStore, root: &Id) -> Result<bool, Fail> {
+    let files = flatten(alloc, store, root)?;
+    Ok(files.is_empty())
+}
+
 /// Roots that stand for no files, and the empty tree.
 #[test]
 fn faults_of_walks(rt: HostRuntime) -> Result<(), Fail> {
     let mut store = GitStore::new(rt.alloc());
-    let blob = keep(rt.alloc(), &mut store, Kind::Blob, b"x")?;
-    let empty = keep(rt.alloc(), &mut store, Kind::Tree, b"")?;
+    let [blob, empty] = keep_leaves(rt.alloc(), &mut store)?;
     let above_blob = keep_entry(rt.alloc(), &mut store, b"40000", &blob)?;
     let tree_as_blob = keep_entry(rt.alloc(), &mut store, b"100644", &empty)?;
-    let files = flatten(rt.alloc(), &store, &empty)?;
-    assert!(rt; files.is_empty());
-    let cases = [
+    let has_no_files = has_no_files(rt.alloc(), &store, &empty)?;
+    assert!(rt; has_no_files);
+    for (root, unknown) in [
         (above_blob, blob),
         (blob, blob),
         (tree_as_blob, empty),
         (Id::NULL, Id::NULL),
-    ];
-    for (root, unknown) in cases {
+    ] {
         let fault = fault_at(rt.alloc(), &store, &root);
         assert!(rt; fault == Some(TreeFault::ObjectUnknown(unknown)));
     }
@@ -175,35 +189,40 @@ fn nested(alloc: Global, store: &mut GitStore, count: u16) -> Result<Id, Fail> {
     Ok(inner)
 }
 
+// Whether the tree has one file, in so many trees.
+fn is_nested(alloc: Global, store: &GitStore, tree: &Id, count: usize) -> Result<bool, Fail> {
+    let files = flatten(alloc, store, tree)?;
+    let trees = build(alloc, &files)?;
+    Ok(files.len() == 1 && trees.made.len() == count)
+}
+
 /// A path of 256 names is fit, and one of 257 isn't.
 #[test]
 fn a_path_has_256_names_at_most(rt: HostRuntime) -> Result<(), Fail> {
     let mut store = GitStore::new(rt.alloc());
     let tree = nested(rt.alloc(), &mut store, 256)?;
     let deeper = nested(rt.alloc(), &mut store, 257)?;
-    let files = flatten(rt.alloc(), &store, &tree)?;
-    let trees = build(rt.alloc(), &files)?;
-    assert!(rt; files.len() == 1 && trees.made.len() == 256);
+    let is_nested = is_nested(rt.alloc(), &store, &tree, 256)?;
     let fault = fault_at(rt.alloc(), &store, &deeper);
-    assert!(rt; fault == Some(TreeFault::PathUnfit));
+    assert!(rt; is_nested && fault == Some(TreeFault::PathUnfit));
     Ok(())
 }
 
-// The rows of these paths, modes and ids.
+// The row of a path, a mode and an id.
+fn file_row(alloc: Global, row: &(&[u8], Mode, Id)) -> Result<FileRow, Fail> {
+    let (path, mode, blob) = *row;
+    let path = Bytes::of(alloc, path)?;
+    Ok(FileRow { path, mode, blob })
+}
+
+// The files of these rows, which rise.
 fn files_of(alloc: Global, rows: &[(&[u8], Mode, Id)]) -> Result<Files, Fail> {
-    let mut files = Files::new(alloc);
-    for (path, mode, blob) in rows {
-        let row = FileRow {
-            path: Bytes::of(alloc, path)?,
-            mode: *mode,
-            blob: *blob,
-        };
-        if !files.fits(&row) {
-            return Err(Fail::from("a row that doesn't fit"));
-        }
-        files.push(row)?;
+    let mut list = Vec::new(alloc);
+    for row in rows {
+        let row = file_row(alloc, row)?;
+        list.push(row)?;
     }
-    Ok(files)
+    Ok(Files::from_rows(list).ok_or("files")?)
 }
 
 fn same_rows(files: &Files, others: &Files) -> bool {
@@ -263,21 +282,37 @@ fn are_kept(
     Ok(kept == *root && come_back && have_items)
 }
 
+fn blob_of(letter: u8) -> Id {
+    object_id(Kind::Blob, &[letter])
+}
+
+// The files `a.b`, `a/c` and `a0`, whose contents are these letters.
+fn three_files(alloc: Global, letters: &[u8; 3]) -> Result<Files, Fail> {
+    let [first, inner, last] = *letters;
+    files_of(
+        alloc,
+        &[
+            (b"a.b", Mode::File, blob_of(first)),
+            (b"a/c", Mode::Exec, blob_of(inner)),
+            (b"a0", Mode::Link, blob_of(last)),
+        ],
+    )
+}
+
+fn with_letters(alloc: Global) -> Result<GitStore, Fail> {
+    let mut store = GitStore::new(alloc);
+    keep(alloc, &mut store, Kind::Blob, b"x")?;
+    keep(alloc, &mut store, Kind::Blob, b"y")?;
+    Ok(store)
+}
+
 /// The root is that which `git mktree` prints.
 #[test]
 fn files_come_back(rt: HostRuntime) -> Result<(), Fail> {
-    let alloc = rt.alloc();
-    let mut store = GitStore::new(alloc);
-    let x = keep(alloc, &mut store, Kind::Blob, b"x")?;
-    let y = keep(alloc, &mut store, Kind::Blob, b"y")?;
-    let rows = [
-        (b"a.b".as_slice(), Mode::File, x),
-        (b"a/c", Mode::Exec, y),
-        (b"a0", Mode::Link, x),
-    ];
-    let files = files_of(alloc, &rows)?;
+    let mut store = with_letters(rt.alloc())?;
+    let files = three_files(rt.alloc(), b"xyx")?;
     let root = id(b"084f82933eef1697d79978d0c6383ba25d6e3377")?;
-    let are_kept = are_kept(alloc, &mut store, &root, &files, &[])?;
+    let are_kept = are_kept(rt.alloc(), &mut store, &root, &files, &[])?;
     assert!(rt; are_kept);
     Ok(())
 }
@@ -286,100 +321,127 @@ fn files_come_back(rt: HostRuntime) -> Result<(), Fail> {
 /// behind. The root is that which `git mktree` prints.
 #[test]
 fn what_stands_beside_files_comes_back(rt: HostRuntime) -> Result<(), Fail> {
-    let alloc = rt.alloc();
-    let mut store = GitStore::new(alloc);
-    let x = keep(alloc, &mut store, Kind::Blob, b"x")?;
-    let empty = keep(alloc, &mut store, Kind::Tree, b"")?;
+    let mut store = GitStore::new(rt.alloc());
+    let [x, empty] = keep_leaves(rt.alloc(), &mut store)?;
     let other = id(b"084f82933eef1697d79978d0c6383ba25d6e3377")?;
-    let rows = [
-        (b"d".as_slice(), Mode::Dir, empty),
+    let rows: [(&[u8], Mode, Id); 3] = [
+        (b"d", Mode::Dir, empty),
         (b"d.x", Mode::Group, x),
         (b"lib", Mode::Gitlink, other),
     ];
-    let items = [
-        (b"d".as_slice(), Empty),
-        (b"d.x", Group),
-        (b"lib", Link(other)),
-    ];
-    let files = files_of(alloc, &rows)?;
+    let items: [(&[u8], ResidueKind); 3] = [(b"d", Empty), (b"d.x", Group), (b"lib", Link(other))];
+    let files = files_of(rt.alloc(), &rows)?;
     let root = id(b"c1b489772a8e088d2c625e76f0636aff74dedcf9")?;
-    let are_kept = are_kept(alloc, &mut store, &root, &files, &items)?;
+    let are_kept = are_kept(rt.alloc(), &mut store, &root, &files, &items)?;
     assert!(rt; are_kept);
     Ok(())
+}
+
+// Whether a commit with these files hands these items on to a child with those.
+fn hands_on(
+    alloc: Global,
+    parent: &Files,
+    child: &Files,
+    items: &[(&[u8], ResidueKind)],
+) -> Result<bool, Fail> {
+    let residue = residue_of(alloc, parent)?;
+    let handed = carry(alloc, &residue, child)?;
+    Ok(are_items(&handed, items))
 }
 
 /// What a commit hands on to a child with these files: `d.x` is a plain file again, and a file lies below `lib`.
 #[test]
 fn what_fits_is_handed_on(rt: HostRuntime) -> Result<(), Fail> {
-    let alloc = rt.alloc();
     let id = Id::new([0x11; 20]);
-    let rows = [
-        (b"d".as_slice(), Mode::Dir, object_id(Kind::Tree, b"")),
+    let rows: [(&[u8], Mode, Id); 4] = [
+        (b"d", Mode::Dir, object_id(Kind::Tree, b"")),
         (b"d.x", Mode::Group, id),
         (b"e", Mode::Group, id),
         (b"lib", Mode::Gitlink, id),
     ];
-    let of_child = [
-        (b"d.x".as_slice(), Mode::File, id),
+    let of_child: [(&[u8], Mode, Id); 3] = [
+        (b"d.x", Mode::File, id),
         (b"e", Mode::Exec, id),
         (b"lib/a", Mode::File, id),
     ];
-    let parent = files_of(alloc, &rows)?;
-    let child = files_of(alloc, &of_child)?;
-    let residue = residue_of(alloc, &parent)?;
-    let handed = carry(alloc, &residue, &child)?;
-    assert!(rt; are_items(&handed, &[(b"d", Empty), (b"d.x", Group)]));
+    let parent = files_of(rt.alloc(), &rows)?;
+    let child = files_of(rt.alloc(), &of_child)?;
+    let hands_on = hands_on(
+        rt.alloc(),
+        &parent,
+        &child,
+        &[(b"d", Empty), (b"d.x", Group)],
+    )?;
+    assert!(rt; hands_on);
     Ok(())
 }
 
-// The files `a.b`, `a/c` and `a0` with these ids.
-fn three_files(alloc: Global, ids: [Id; 3]) -> Result<Files, Fail> {
-    let [first, inner, last] = ids;
-    let rows = [
-        (b"a.b".as_slice(), Mode::File, first),
-        (b"a/c", Mode::Exec, inner),
-        (b"a0", Mode::Link, last),
-    ];
-    files_of(alloc, &rows)
-}
-
 // Whether the trees are these, by their ids.
-fn are_trees(made: &[TreeItem], ids: &[Id]) -> bool {
-    made.len() == ids.len() && made.iter().zip(ids).all(|(tree, id)| tree.id() == id)
+fn are_trees(made: &[TreeItem], ids: &[&[u8]]) -> bool {
+    made.len() == ids.len()
+        && made
+            .iter()
+            .zip(ids)
+            .all(|(tree, digits)| tree.id().hex().as_slice() == *digits)
 }
 
-// Whether these files over a tree make these trees alone, the last of which is the root.
+// Whether these files over a tree make these trees alone.
 fn make_alone(
     alloc: Global,
     store: &GitStore,
     old: &Id,
     files: &Files,
-    ids: &[Id],
+    ids: &[&[u8]],
 ) -> Result<bool, Fail> {
     let old_files = flatten(alloc, store, old)?;
     let trees = rebuild(alloc, store, old, &old_files, files)?;
-    let root = ids.last().unwrap_or(old);
-    Ok(trees.root == *root && are_trees(trees.made.as_slice(), ids))
+    let has_root = match trees.made.as_slice().last() {
+        Some(made) => *made.id() == trees.root,
+        None => trees.root == *old,
+    };
+    Ok(has_root && are_trees(trees.made.as_slice(), ids))
 }
 
-/// A tree with the same rows in the same place is not made again. The ids are those that `git mktree` prints.
+/// Contents of the three files, and the ids of the trees that they make over those of `xyx`, as `git mktree` prints them.
+const OVER_OLD: &[(&[u8; 3], &[&[u8]])] = &[
+    (
+        b"xxx",
+        &[
+            b"3b78ffb8fb4c81551d805944d10dd5ad15e5f34e",
+            b"af4b695875af22aaa69d6378e6fee7e0c1046ce1",
+        ],
+    ),
+    (b"xyy", &[b"73abc9c3d65eff728b76320607ee8aa9768c8e3f"]),
+    (b"xyx", &[]),
+];
+
+// Adds the trees of the old files, and gives the root.
+fn keep_old(alloc: Global, store: &mut GitStore) -> Result<Id, Fail> {
+    let files = three_files(alloc, b"xyx")?;
+    keep_trees(alloc, store, &files)
+}
+
+// Whether the files with these contents make these trees.
+fn make_over(
+    alloc: Global,
+    store: &GitStore,
+    old: &Id,
+    letters: &[u8; 3],
+    ids: &[&[u8]],
+) -> Result<bool, Fail> {
+    let files = three_files(alloc, letters)?;
+    make_alone(alloc, store, old, &files, ids)
+}
+
+/// A tree with the same rows in the same place is not made again.
 #[test]
 fn trees_that_stay_are_not_made(rt: HostRuntime) -> Result<(), Fail> {
-    let alloc = rt.alloc();
-    let mut store = GitStore::new(alloc);
-    let x = keep(alloc, &mut store, Kind::Blob, b"x")?;
-    let y = keep(alloc, &mut store, Kind::Blob, b"y")?;
-    let old_files = three_files(alloc, [x, y, x])?;
-    let old = keep_trees(alloc, &mut store, &old_files)?;
-    let inner = id(b"3b78ffb8fb4c81551d805944d10dd5ad15e5f34e")?;
-    let over_inner = id(b"af4b695875af22aaa69d6378e6fee7e0c1046ce1")?;
-    let over_last = id(b"73abc9c3d65eff728b76320607ee8aa9768c8e3f")?;
-    let below = three_files(alloc, [x, x, x])?;
-    let beside = three_files(alloc, [x, y, y])?;
-    let below_made = make_alone(alloc, &store, &old, &below, &[inner, over_inner])?;
-    let beside_made = make_alone(alloc, &store, &old, &beside, &[over_last])?;
-    let same_made = make_alone(alloc, &store, &old, &old_files, &[])?;
-    assert!(rt; below_made && beside_made && same_made);
+    let mut store = with_letters(rt.alloc())?;
+    let old = keep_old(rt.alloc(), &mut store)?;
+    for (letters, ids) in OVER_OLD {
+        let make_over = make_over(rt.alloc(), &store, &old, letters, ids)?;
+        assert!(rt; make_over);
+    }
     Ok(())
 }
 

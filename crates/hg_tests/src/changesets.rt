@@ -116,7 +116,7 @@ fn is_shown(changeset: &Changeset, shown: &Shown) -> bool {
 fn is_appended(alloc: Global, changeset: &Changeset, text: &[u8]) -> Result<bool, Fail> {
     let mut out = Vec::from_slice(alloc, b"front ")?;
     changeset.write_into(&mut out)?;
-    Ok(out.starts_with(b"front ") && &out[6..] == text)
+    Ok(out.strip_prefix(b"front ") == Some(text))
 }
 
 // Whether a changeset is the one of the case.
@@ -265,15 +265,30 @@ const LINES: &[Line] = &[
     },
 ];
 
-// Reads and writes a changeset with this date line.
-fn written(alloc: Global, date: &[u8]) -> Result<bool, Fail> {
+// The text of a changeset with this date line.
+fn text_with(alloc: Global, date: &[u8]) -> Result<Vec<u8>, Fail> {
     let mut text = Vec::from_slice(alloc, b"0000000000000000000000000000000000000000\nu\n")?;
     text.extend_from_slice(date)?;
     text.extend_from_slice(b"\n\n")?;
-    let changeset = Changeset::read(alloc, &text).map_err(|_| "a changeset")?;
-    let mut out = Vec::new(alloc);
-    changeset.write_into(&mut out)?;
-    Ok(out == text)
+    Ok(text)
+}
+
+// Whether the text is what the changeset that is read of it writes.
+fn comes_back(alloc: Global, text: &[u8]) -> Result<bool, Fail> {
+    match Changeset::read(alloc, text) {
+        Ok(changeset) => {
+            let mut out = Vec::new(alloc);
+            changeset.write_into(&mut out)?;
+            Ok(out.as_slice() == text)
+        }
+        Err(_) => Ok(false),
+    }
+}
+
+// Reads and writes a changeset with this date line.
+fn is_written(alloc: Global, date: &[u8]) -> Result<bool, Fail> {
+    let text = text_with(alloc, date)?;
+    comes_back(alloc, &text)
 }
 
 fn has_item(extras: &Extras, place: usize, key: &[u8], value: &[u8]) -> bool {
@@ -311,21 +326,25 @@ fn is_read(alloc: Global, line: &Line) -> Result<bool, Fail> {
 #[test]
 fn date_lines(rt: HostRuntime) -> Result<(), Fail> {
     for (i, line) in LINES.iter().enumerate() {
-        let is_written = written(rt.alloc(), line.text)?;
+        let is_written = is_written(rt.alloc(), line.text)?;
         let is_read = is_read(rt.alloc(), line)?;
         assert!(rt; is_written && is_read, "at {i}");
     }
     Ok(())
 }
 
+fn item_of(alloc: Global, key: &[u8], value: &[u8]) -> Result<ExtraItem, Fail> {
+    let key = Bytes::of(alloc, key)?;
+    let value = Bytes::of(alloc, value)?;
+    Ok(ExtraItem { key, value })
+}
+
 #[test]
 fn extras_pushed(rt: HostRuntime) -> Result<(), Fail> {
     let mut extras = Extras::new(rt.alloc());
     assert!(rt; extras.is_empty());
-    extras.push(ExtraItem {
-        key: Bytes::of(rt.alloc(), b"branch")?,
-        value: Bytes::of(rt.alloc(), b"a\rb")?,
-    })?;
+    let item = item_of(rt.alloc(), b"branch", b"a\rb")?;
+    extras.push(item)?;
     assert!(rt; extras.len() == 1);
     assert!(rt; extras.get(b"branch") == Some(b"a\rb".as_slice()));
     Ok(())

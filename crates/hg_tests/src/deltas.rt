@@ -92,7 +92,7 @@ fn is_appended(alloc: Global, base_len: u32, text: &[u8], want: &[u8]) -> Result
     let mut delta = Vec::new(alloc);
     delta.push(b'7')?;
     let is_made = replace_into(&mut delta, base_len, text).is_ok();
-    Ok(is_made && delta.starts_with(b"7") && &delta[1..] == want)
+    Ok(is_made && delta.strip_prefix(b"7") == Some(want))
 }
 
 #[test]

@@ -295,13 +295,20 @@ const MORE: &[Piece] = &[
     Piece::Bytes(b"\0\0\0\0"),
 ];
 
+fn put_piece(bytes: &mut Vec<u8>, piece: &Piece) -> Result<(), Fail> {
+    match piece {
+        Piece::Id(digits) => {
+            let id = id(digits)?;
+            Ok(bytes.extend_from_slice(&id.bytes())?)
+        }
+        Piece::Bytes(raw) => Ok(bytes.extend_from_slice(raw)?),
+    }
+}
+
 fn joined(alloc: Global, pieces: &[Piece]) -> Result<Vec<u8>, Fail> {
     let mut bytes = Vec::new(alloc);
     for piece in pieces {
-        match piece {
-            Piece::Id(digits) => bytes.extend_from_slice(&id(digits)?.bytes())?,
-            Piece::Bytes(raw) => bytes.extend_from_slice(raw)?,
-        }
+        put_piece(&mut bytes, piece)?;
     }
     Ok(bytes)
 }
@@ -325,12 +332,21 @@ fn listed(alloc: Global, nodes: &[&[u8]]) -> Result<IdList, Fail> {
     Ok(order)
 }
 
+fn is_added(
+    rt: &impl Abort,
+    alloc: Global,
+    store: &mut HgStore,
+    step: &Step,
+) -> Result<bool, Fail> {
+    let ids = ids(step)?;
+    let text = step.4.to_vec(alloc)?;
+    Ok(add(rt, store, step.0, ids, text))
+}
+
 fn filled(rt: &impl Abort, alloc: Global) -> Result<HgStore, Fail> {
     let mut store = HgStore::new(alloc);
     for step in STEPS {
-        let ids = ids(step)?;
-        let text = Vec::from_slice(alloc, step.4)?;
-        let is_added = add(rt, &mut store, step.0, ids, text);
+        let is_added = is_added(rt, alloc, &mut store, step)?;
         assert!(rt; is_added);
     }
     Ok(store)

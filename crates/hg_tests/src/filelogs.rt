@@ -63,7 +63,7 @@ fn is_split(alloc: Global, case: &Case) -> Result<bool, Fail> {
     };
     let mut out = Vec::from_slice(alloc, b"front ")?;
     join_into(&mut out, meta, body)?;
-    Ok(out.starts_with(b"front ") && &out[6..] == case.text)
+    Ok(out.strip_prefix(b"front ") == Some(case.text))
 }
 
 #[test]

@@ -27,15 +27,18 @@ fn listed(
     Ok(list(alloc, &mut src, out))
 }
 
+// Whether these lines list the bundle, which is given in pieces of `cut` bytes.
+fn lists(alloc: Global, input: &[u8], cut: usize, lines: &[u8]) -> Result<bool, Fail> {
+    let mut out = Vec::new(alloc);
+    let answer = listed(alloc, input, cut, &[], &mut out)?;
+    Ok(answer == Ok(()) && out.as_slice() == lines)
+}
+
 // Whether these lines list the bundle, in whatever pieces it is given.
 fn is_listed(alloc: Global, input: &[u8], lines: &[u8]) -> Result<bool, Fail> {
-    let mut whole = Vec::new(alloc);
-    let mut cut = Vec::new(alloc);
-    let answers = [
-        listed(alloc, input, 0, &[], &mut whole)?,
-        listed(alloc, input, 1, &[], &mut cut)?,
-    ];
-    Ok(answers == [Ok(()), Ok(())] && whole.as_slice() == lines && cut.as_slice() == lines)
+    let at_once = lists(alloc, input, 0, lines)?;
+    let byte_by_byte = lists(alloc, input, 1, lines)?;
+    Ok(at_once && byte_by_byte)
 }
 
 // The fault of a bundle that is given in pieces of `cut` bytes, where the output is as it was.
@@ -66,16 +69,25 @@ fn one(alloc: Global) -> Result<Vec<u8>, Fail> {
     Ok(bundle)
 }
 
-// Two changesets, a manifest, and a revision of one of two files.
+// The chunks of two changesets, and their end.
+fn put_changesets(bundle: &mut Vec<u8>) -> Result<(), Fail> {
+    put_entry(bundle, 84, [0x11, 0x22, 0x33, 0x44], b"")?;
+    put_entry(bundle, 85, [0x55, 0x11, 0, 0x55], b"x")?;
+    Ok(bundle.extend_from_slice(&[0; 4])?)
+}
+
+// A manifest, and a revision of one of two files.
+fn put_others(bundle: &mut Vec<u8>) -> Result<(), Fail> {
+    put_entry(bundle, 96, [0x66, 0x77, 0x88, 0x11], b"twelve bytes")?;
+    bundle.extend_from_slice(b"\0\0\0\0\0\0\0\x09a b%\xff")?;
+    put_entry(bundle, 84, [0x99, 0xaa, 0xbb, 0x55], b"")?;
+    Ok(bundle.extend_from_slice(b"\0\0\0\0\0\0\0\x05c\0\0\0\0\0\0\0\0")?)
+}
+
 fn all(alloc: Global) -> Result<Vec<u8>, Fail> {
     let mut bundle = b"HG10UN".to_vec(alloc)?;
-    put_entry(&mut bundle, 84, [0x11, 0x22, 0x33, 0x44], b"")?;
-    put_entry(&mut bundle, 85, [0x55, 0x11, 0, 0x55], b"x")?;
-    bundle.extend_from_slice(&[0; 4])?;
-    put_entry(&mut bundle, 96, [0x66, 0x77, 0x88, 0x11], b"twelve bytes")?;
-    bundle.extend_from_slice(b"\0\0\0\0\0\0\0\x09a b%\xff")?;
-    put_entry(&mut bundle, 84, [0x99, 0xaa, 0xbb, 0x55], b"")?;
-    bundle.extend_from_slice(b"\0\0\0\0\0\0\0\x05c\0\0\0\0\0\0\0\0")?;
+    put_changesets(&mut bundle)?;
+    put_others(&mut bundle)?;
     Ok(bundle)
 }
 

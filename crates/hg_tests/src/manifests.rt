@@ -2,6 +2,7 @@
 use bridge_text::{Bytes, Id, fit_path};
 use hg_manifest::{Entry, Flag, Manifest, ManifestFault};
 use std::alloc::Global;
+use std::process::Abort;
 use std::test::Fail;
 
 /// A manifest of three entries.
@@ -101,7 +102,7 @@ const CASES: &[Case] = &[
 fn is_appended(alloc: Global, manifest: &Manifest, text: &[u8]) -> Result<bool, Fail> {
     let mut out = Vec::from_slice(alloc, b"front ")?;
     manifest.write_into(&mut out)?;
-    Ok(out.starts_with(b"front ") && &out[6..] == text)
+    Ok(out.strip_prefix(b"front ") == Some(text))
 }
 
 fn is_answered(alloc: Global, case: &Case) -> Result<bool, Fail> {
@@ -172,19 +173,25 @@ fn entries_by_place_and_path(rt: HostRuntime) -> Result<(), Fail> {
     Ok(())
 }
 
-#[test]
-fn an_entry_is_pushed(rt: HostRuntime) -> Result<(), Fail> {
-    let mut manifest = Manifest::new(rt.alloc());
+// A manifest of the program `a` with a null node.
+fn with_entry(rt: &impl Abort, alloc: Global) -> Result<Manifest, Fail> {
+    let mut manifest = Manifest::new(alloc);
     assert!(rt; manifest.is_empty());
-    let path = Bytes::of(rt.alloc(), b"a")?;
+    let path = Bytes::of(alloc, b"a")?;
     assert!(rt; fit_path(path.as_slice()));
     manifest.push(Entry {
         path,
         node: Id::NULL,
         flag: Flag::Exec,
     })?;
-    let mut out = Vec::new(rt.alloc());
-    manifest.write_into(&mut out)?;
-    assert!(rt; out.as_slice() == b"a\00000000000000000000000000000000000000000x\n".as_slice());
+    Ok(manifest)
+}
+
+#[test]
+fn an_entry_is_pushed(rt: HostRuntime) -> Result<(), Fail> {
+    let manifest = with_entry(&rt, rt.alloc())?;
+    let line = b"a\00000000000000000000000000000000000000000x\n";
+    let is_appended = is_appended(rt.alloc(), &manifest, line)?;
+    assert!(rt; is_appended);
     Ok(())
 }

@@ -1,19 +1,14 @@
 // Whether files of changesets are those that the rule gives.
-use crate::sides::id;
-use bridge_text::{Added, Bytes, Id, fit_path};
-use file_rule::{Parent, are_ruled};
+use crate::sides::{NULL, Revision, id, store_of};
+use bridge_text::{Bytes, Id};
+use file_rule::{Parent, are_ruled, parents_over};
 use hg_manifest::{Flag, Manifest};
-use hg_store::HgStore;
+use hg_store::{Group, HgStore};
 use pair_known::{HgRow, HgRows};
 use std::alloc::Global;
-use std::process::Abort;
 use std::test::Fail;
 
-const NULL: &[u8] = b"0000000000000000000000000000000000000000";
-
 const ONE: &[u8] = b"b470b8df2f97b19e505a12557fca38e48d59561c";
-
-const ONE_TEXT: &[u8] = b"0000000000000000000000000000000000000000\nu\n0 0\n\none";
 
 /// Revisions of the files `a`, `b` and `c`: x, y over x, and z over both; and of `a` alone w, which names a copy.
 const X: &[u8] = b"d00600e0b09ff8a1909934023a08399f084bc6bc";
@@ -27,60 +22,24 @@ const COPY: &[u8] = b"cebcfa19f27ab49a648e2686ecf970353c4a8d51";
 const COPY_TEXT: &[u8] =
     b"\x01\ncopy: b\ncopyrev: d00600e0b09ff8a1909934023a08399f084bc6bc\n\x01\nw";
 
-/// A revision of a file: the path, the node with the parents, and the text.
-struct Revision(&'static [u8], [&'static [u8]; 3], &'static [u8]);
-
 const REVISIONS: &[Revision] = &[
-    Revision(b"a", [X, NULL, NULL], b"x"),
-    Revision(b"a", [Y, X, NULL], b"y"),
-    Revision(b"a", [Z, X, Y], b"z"),
-    Revision(b"b", [X, NULL, NULL], b"x"),
-    Revision(b"b", [Y, X, NULL], b"y"),
-    Revision(b"b", [Z, X, Y], b"z"),
-    Revision(b"c", [X, NULL, NULL], b"x"),
-    Revision(b"c", [Y, X, NULL], b"y"),
-    Revision(b"c", [Z, X, Y], b"z"),
-    Revision(b"a", [COPY, X, NULL], COPY_TEXT),
+    Revision(
+        Group::Changesets,
+        [ONE, NULL, NULL],
+        ONE,
+        b"0000000000000000000000000000000000000000\nu\n0 0\n\none",
+    ),
+    Revision(Group::FilesAt(b"a"), [X, NULL, NULL], ONE, b"x"),
+    Revision(Group::FilesAt(b"a"), [Y, X, NULL], ONE, b"y"),
+    Revision(Group::FilesAt(b"a"), [Z, X, Y], ONE, b"z"),
+    Revision(Group::FilesAt(b"b"), [X, NULL, NULL], ONE, b"x"),
+    Revision(Group::FilesAt(b"b"), [Y, X, NULL], ONE, b"y"),
+    Revision(Group::FilesAt(b"b"), [Z, X, Y], ONE, b"z"),
+    Revision(Group::FilesAt(b"c"), [X, NULL, NULL], ONE, b"x"),
+    Revision(Group::FilesAt(b"c"), [Y, X, NULL], ONE, b"y"),
+    Revision(Group::FilesAt(b"c"), [Z, X, Y], ONE, b"z"),
+    Revision(Group::FilesAt(b"a"), [COPY, X, NULL], ONE, COPY_TEXT),
 ];
-
-// Adds a revision that the changeset with this node brought; whether it is new.
-fn add(
-    rt: &impl Abort,
-    store: &mut HgStore,
-    path: &[u8],
-    ids: [Id; 3],
-    link: Id,
-    text: Vec<u8>,
-) -> bool {
-    assert!(rt; text.len() <= 1 << 26 && fit_path(path));
-    let [node, p, q] = ids;
-    store.add_file(path, node, p, q, link, text) == Ok(Added::New)
-}
-
-fn add_changeset(rt: &impl Abort, store: &mut HgStore, node: Id, text: Vec<u8>) -> bool {
-    assert!(rt; text.len() <= 1 << 26);
-    store.add_changeset(node, Id::NULL, Id::NULL, node, text) == Ok(Added::New)
-}
-
-fn ids(digits: &[&[u8]; 3]) -> Result<[Id; 3], Fail> {
-    let [node, p, q] = *digits;
-    Ok([id(node)?, id(p)?, id(q)?])
-}
-
-fn store_of(rt: &impl Abort, alloc: Global) -> Result<HgStore, Fail> {
-    let mut store = HgStore::new(alloc);
-    let one = id(ONE)?;
-    let text = Vec::from_slice(alloc, ONE_TEXT)?;
-    let is_new = add_changeset(rt, &mut store, one, text);
-    assert!(rt; is_new);
-    for Revision(path, digits, text) in REVISIONS {
-        let ids = ids(digits)?;
-        let text = Vec::from_slice(alloc, text)?;
-        let is_new = add(rt, &mut store, path, ids, one, text);
-        assert!(rt; is_new);
-    }
-    Ok(store)
-}
 
 /// A file: its path and its node.
 type File = (&'static [u8], &'static [u8]);
@@ -228,7 +187,7 @@ fn comes_back(
 
 #[test]
 fn files_that_come_back(rt: HostRuntime) -> Result<(), Fail> {
-    let store = store_of(&rt, rt.alloc())?;
+    let store = store_of(&rt, rt.alloc(), REVISIONS)?;
     for (node, parents, want) in CASES {
         let comes_back = comes_back(rt.alloc(), &store, node, parents)?;
         assert!(rt; comes_back == *want);
@@ -238,10 +197,27 @@ fn files_that_come_back(rt: HostRuntime) -> Result<(), Fail> {
 
 #[test]
 fn lists_that_come_back(rt: HostRuntime) -> Result<(), Fail> {
-    let store = store_of(&rt, rt.alloc())?;
+    let store = store_of(&rt, rt.alloc(), REVISIONS)?;
     for (lists, want) in LISTS {
         let come_back = come_back(rt.alloc(), &store, lists)?;
         assert!(rt; come_back == *want);
     }
     Ok(())
+}
+
+/// The nodes of a file in two parents, and the parents of a new revision over them.
+const PARENTS: &[([u8; 2], [u8; 2])] = &[
+    ([0, 0], [0, 0]),
+    ([1, 0], [1, 0]),
+    ([0, 1], [1, 0]),
+    ([1, 1], [1, 0]),
+    ([2, 1], [1, 2]),
+];
+
+#[test]
+fn parents_of_revisions(rt: HostRuntime) {
+    for ([first, second], [p, q]) in PARENTS {
+        let parents = parents_over(Id::new([*first; 20]), Id::new([*second; 20]));
+        assert!(rt; parents == (Id::new([*p; 20]), Id::new([*q; 20])));
+    }
 }

@@ -2,9 +2,7 @@
 #![tactic(auto)]
 
 #[cfg(test)]
-mod changesets;
-#[cfg(test)]
-mod commits;
+mod drafts;
 #[cfg(test)]
 mod files;
 #[cfg(test)]

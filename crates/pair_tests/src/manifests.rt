@@ -1,14 +1,13 @@
 // Manifests and lists of files that the rule gives.
-use crate::sides::id;
-use bridge_text::{Added, Bytes, Id, Paths};
+use crate::sides::{NULL, Revision, id, store_of};
+use bridge_text::{Bytes, Id, Paths};
 use file_rule::Parent;
 use hg_manifest::{Entry, Manifest};
-use hg_store::HgStore;
+use hg_store::{Group, HgStore};
 use manifest_rule::{is_ruled_manifest, lines_fit, make_manifest, ruled_files};
 use mark_code::ManifestRev;
 use pair_known::{HgRow, HgRows};
 use std::alloc::Global;
-use std::process::Abort;
 use std::test::Fail;
 
 /// A file: its path, a digit that stands 40 times in its node, and its flag.
@@ -116,18 +115,20 @@ fn there<'a>(files: Option<&'static [File]>, manifest: &'a Manifest) -> Option<&
     }
 }
 
-fn listed(alloc: Global, case: &Case) -> Result<Paths, Fail> {
-    let manifest = manifest_of(alloc, case.rows)?;
-    let rows = rows_of(alloc, &manifest)?;
+fn files_of(alloc: Global, files: &[File]) -> Result<HgRows, Fail> {
+    let manifest = manifest_of(alloc, files)?;
+    rows_of(alloc, &manifest)
+}
+
+// Whether the rule lists what the case says.
+fn are_listed(alloc: Global, case: &Case) -> Result<bool, Fail> {
+    let rows = files_of(alloc, case.rows)?;
     let first = manifest_of(alloc, case.first.unwrap_or(&[]))?;
     let second = manifest_of(alloc, case.second.unwrap_or(&[]))?;
-    let paths = ruled_files(
-        alloc,
-        &rows,
-        there(case.first, &first),
-        there(case.second, &second),
-    )?;
-    Ok(paths)
+    let first = there(case.first, &first);
+    let second = there(case.second, &second);
+    let paths = ruled_files(alloc, &rows, first, second)?;
+    Ok(are_paths(&paths, case.listed))
 }
 
 fn are_paths(paths: &Paths, want: &[&[u8]]) -> bool {
@@ -145,55 +146,41 @@ fn are_paths(paths: &Paths, want: &[&[u8]]) -> bool {
 #[test]
 fn listed_files(rt: HostRuntime) -> Result<(), Fail> {
     for case in CASES {
-        let paths = listed(rt.alloc(), case)?;
-        let are_listed = are_paths(&paths, case.listed);
+        let are_listed = are_listed(rt.alloc(), case)?;
         assert!(rt; are_listed);
     }
     Ok(())
 }
 
-const NULL: &[u8] = b"0000000000000000000000000000000000000000";
-
 const ONE: &[u8] = b"b470b8df2f97b19e505a12557fca38e48d59561c";
-
-const ONE_TEXT: &[u8] = b"0000000000000000000000000000000000000000\nu\n0 0\n\none";
 
 /// The manifest of the one file `a` with a node of ones, over null parents, and over one of twos.
 const OF_ONES: &[u8] = b"6c5053c163dcb67eb3f93b9687cfede08c9e3f04";
-
-const OF_ONES_TEXT: &[u8] = b"a\01111111111111111111111111111111111111111\n";
 
 const OVER_TWOS: &[u8] = b"6b5541cc5173bc7592e2710ce822f410a5c64ec3";
 
 const OF_TWOS: &[u8] = b"4ef3c3ee1c826ddf832532cafbadb2ae981b83dd";
 
-const OF_TWOS_TEXT: &[u8] = b"a\02222222222222222222222222222222222222222\n";
-
-// Adds a manifest that the changeset with this node brought; whether it is new.
-fn add(rt: &impl Abort, store: &mut HgStore, node: Id, link: Id, text: Vec<u8>) -> bool {
-    assert!(rt; text.len() <= 1 << 26);
-    store.add_manifest(node, Id::NULL, Id::NULL, link, text) == Ok(Added::New)
-}
-
-fn add_changeset(rt: &impl Abort, store: &mut HgStore, node: Id, text: Vec<u8>) -> bool {
-    assert!(rt; text.len() <= 1 << 26);
-    store.add_changeset(node, Id::NULL, Id::NULL, node, text) == Ok(Added::New)
-}
-
-fn store_of(rt: &impl Abort, alloc: Global) -> Result<HgStore, Fail> {
-    let mut store = HgStore::new(alloc);
-    let one = id(ONE)?;
-    let text = Vec::from_slice(alloc, ONE_TEXT)?;
-    let is_new = add_changeset(rt, &mut store, one, text);
-    assert!(rt; is_new);
-    for (node, text) in [(OF_ONES, OF_ONES_TEXT), (OF_TWOS, OF_TWOS_TEXT)] {
-        let node = id(node)?;
-        let text = Vec::from_slice(alloc, text)?;
-        let is_new = add(rt, &mut store, node, one, text);
-        assert!(rt; is_new);
-    }
-    Ok(store)
-}
+const REVISIONS: &[Revision] = &[
+    Revision(
+        Group::Changesets,
+        [ONE, NULL, NULL],
+        ONE,
+        b"0000000000000000000000000000000000000000\nu\n0 0\n\none",
+    ),
+    Revision(
+        Group::Manifests,
+        [OF_ONES, NULL, NULL],
+        ONE,
+        b"a\01111111111111111111111111111111111111111\n",
+    ),
+    Revision(
+        Group::Manifests,
+        [OF_TWOS, NULL, NULL],
+        ONE,
+        b"a\02222222222222222222222222222222222222222\n",
+    ),
+];
 
 /// The node of the first parent's manifest, and the node and the first parent of the manifest that the rule gives to the file `a` of ones.
 const RULED: &[[&'static [u8]; 3]] = &[
@@ -248,9 +235,8 @@ fn holds(
 
 #[test]
 fn ruled_manifests(rt: HostRuntime) -> Result<(), Fail> {
-    let store = store_of(&rt, rt.alloc())?;
-    let manifest = manifest_of(rt.alloc(), &[(b"a", b'1', b"")])?;
-    let rows = rows_of(rt.alloc(), &manifest)?;
+    let store = store_of(&rt, rt.alloc(), REVISIONS)?;
+    let rows = files_of(rt.alloc(), &[(b"a", b'1', b"")])?;
     assert!(rt; lines_fit(&rows));
     for ruled in RULED {
         let holds = holds(rt.alloc(), &store, &rows, ruled)?;

@@ -8,63 +8,59 @@ use std::test::Fail;
 type LineRow = (&'static [u8], i64, i64, &'static [u8]);
 
 /// Users, times, zones in seconds west of UTC, and the lines of an author.
-fn line_rows() -> [LineRow; 26] {
-    [
-        (b"Ann", 0, 0, b"Ann <none@none> 0 +0000"),
-        (b"Ann <ann@x>", 5, -19800, b"Ann <ann@x> 5 +0530"),
-        (b"ann@x", 0, 0, b"ann@x <ann@x> 0 +0000"),
-        (b"none@none", 0, 0, b"none@none <none@none> 0 +0000"),
-        (b"Ann <none@none>", 0, 0, b"Ann <none@none> 0 +0000"),
-        (b"A@b <none@none>", 0, 0, b"A@b <none@none> 0 +0000"),
-        (b"", 0, 0, b" <none@none> 0 +0000"),
-        (b"<>", 0, 0, b"unknown <none@none> 0 +0000"),
-        (b"><", 0, 0, b"unknown <none@none> 0 +0000"),
-        (b"<", 0, 0, b"unknown <none@none> 0 +0000"),
-        (b"<ann@x>", 0, 0, b"ann@x <ann@x> 0 +0000"),
-        (b" <ann@x>", 0, 0, b" ann@x < ann@x> 0 +0000"),
-        (b"  <a>", 0, 0, b"  <a> 0 +0000"),
-        (b"Ann <>", 0, 0, b"Ann <> 0 +0000"),
-        (b"Ann  <a b>", 0, 0, b"Ann  <a b> 0 +0000"),
-        (b" Ann <a>", 0, 0, b" Ann <a> 0 +0000"),
-        (b"a<b>c", 0, 0, b"abc <none@none> 0 +0000"),
-        (b"Ann<ann@x>", 0, 0, b"Annann@x <Annann@x> 0 +0000"),
-        (b"Ann <ann@x", 0, 0, b"Ann ann@x <Ann ann@x> 0 +0000"),
-        (b"Ann ann@x>", 0, 0, b"Ann ann@x <Ann ann@x> 0 +0000"),
-        (b"Ann <a> ", 0, 0, b"Ann a  <none@none> 0 +0000"),
-        (b"Ann <<a>>", 0, 0, b"Ann a <none@none> 0 +0000"),
-        (b"Ann <a><b>", 0, 0, b"Ann ab <none@none> 0 +0000"),
-        (b"A>n <a@b>", 0, 0, b"An a@b <An a@b> 0 +0000"),
-        (b"\xff <\xfe>", 0, 0, b"\xff <\xfe> 0 +0000"),
-        (
-            b"B",
-            9223372036854775807,
-            0,
-            b"B <none@none> 9223372036854775807 +0000",
-        ),
-    ]
-}
+const LINES: &[LineRow] = &[
+    (b"Ann", 0, 0, b"Ann <none@none> 0 +0000"),
+    (b"Ann <ann@x>", 5, -19800, b"Ann <ann@x> 5 +0530"),
+    (b"ann@x", 0, 0, b"ann@x <ann@x> 0 +0000"),
+    (b"none@none", 0, 0, b"none@none <none@none> 0 +0000"),
+    (b"Ann <none@none>", 0, 0, b"Ann <none@none> 0 +0000"),
+    (b"A@b <none@none>", 0, 0, b"A@b <none@none> 0 +0000"),
+    (b"", 0, 0, b" <none@none> 0 +0000"),
+    (b"<>", 0, 0, b"unknown <none@none> 0 +0000"),
+    (b"><", 0, 0, b"unknown <none@none> 0 +0000"),
+    (b"<", 0, 0, b"unknown <none@none> 0 +0000"),
+    (b"<ann@x>", 0, 0, b"ann@x <ann@x> 0 +0000"),
+    (b" <ann@x>", 0, 0, b" ann@x < ann@x> 0 +0000"),
+    (b"  <a>", 0, 0, b"  <a> 0 +0000"),
+    (b"Ann <>", 0, 0, b"Ann <> 0 +0000"),
+    (b"Ann  <a b>", 0, 0, b"Ann  <a b> 0 +0000"),
+    (b" Ann <a>", 0, 0, b" Ann <a> 0 +0000"),
+    (b"a<b>c", 0, 0, b"abc <none@none> 0 +0000"),
+    (b"Ann<ann@x>", 0, 0, b"Annann@x <Annann@x> 0 +0000"),
+    (b"Ann <ann@x", 0, 0, b"Ann ann@x <Ann ann@x> 0 +0000"),
+    (b"Ann ann@x>", 0, 0, b"Ann ann@x <Ann ann@x> 0 +0000"),
+    (b"Ann <a> ", 0, 0, b"Ann a  <none@none> 0 +0000"),
+    (b"Ann <<a>>", 0, 0, b"Ann a <none@none> 0 +0000"),
+    (b"Ann <a><b>", 0, 0, b"Ann ab <none@none> 0 +0000"),
+    (b"A>n <a@b>", 0, 0, b"An a@b <An a@b> 0 +0000"),
+    (b"\xff <\xfe>", 0, 0, b"\xff <\xfe> 0 +0000"),
+    (
+        b"B",
+        9223372036854775807,
+        0,
+        b"B <none@none> 9223372036854775807 +0000",
+    ),
+];
 
 /// Times and zones of the user `B`, with the end of the line.
-fn date_rows() -> [(i64, i64, &'static [u8]); 16] {
-    [
-        (-1, 0, b"B <none@none> 0 +0000"),
-        (-9223372036854775808, 0, b"B <none@none> 0 +0000"),
-        (1, 3600, b"B <none@none> 1 -0100"),
-        (1, -3600, b"B <none@none> 1 +0100"),
-        (1, 60, b"B <none@none> 1 -0001"),
-        (1, -60, b"B <none@none> 1 +0001"),
-        (1, 90, b"B <none@none> 1 +0000"),
-        (1, -90, b"B <none@none> 1 +0000"),
-        (1, 59, b"B <none@none> 1 +0000"),
-        (1, 3599, b"B <none@none> 1 +0000"),
-        (1, 43140, b"B <none@none> 1 -1159"),
-        (1, 359940, b"B <none@none> 1 -9959"),
-        (1, -359940, b"B <none@none> 1 +9959"),
-        (1, 360000, b"B <none@none> 1 +0000"),
-        (1, -360000, b"B <none@none> 1 +0000"),
-        (1, -9223372036854775808, b"B <none@none> 1 +0000"),
-    ]
-}
+const DATES: &[(i64, i64, &'static [u8])] = &[
+    (-1, 0, b"B <none@none> 0 +0000"),
+    (-9223372036854775808, 0, b"B <none@none> 0 +0000"),
+    (1, 3600, b"B <none@none> 1 -0100"),
+    (1, -3600, b"B <none@none> 1 +0100"),
+    (1, 60, b"B <none@none> 1 -0001"),
+    (1, -60, b"B <none@none> 1 +0001"),
+    (1, 90, b"B <none@none> 1 +0000"),
+    (1, -90, b"B <none@none> 1 +0000"),
+    (1, 59, b"B <none@none> 1 +0000"),
+    (1, 3599, b"B <none@none> 1 +0000"),
+    (1, 43140, b"B <none@none> 1 -1159"),
+    (1, 359940, b"B <none@none> 1 -9959"),
+    (1, -359940, b"B <none@none> 1 +9959"),
+    (1, 360000, b"B <none@none> 1 +0000"),
+    (1, -360000, b"B <none@none> 1 +0000"),
+    (1, -9223372036854775808, b"B <none@none> 1 +0000"),
+];
 
 fn has_line(alloc: Global, user: &[u8], time: i64, tz: i64, want: &[u8]) -> Result<bool, Fail> {
     let line = line_of_user(alloc, user, time, tz)?;
@@ -73,8 +69,8 @@ fn has_line(alloc: Global, user: &[u8], time: i64, tz: i64, want: &[u8]) -> Resu
 
 #[test]
 fn lines_of_users(rt: HostRuntime) -> Result<(), Fail> {
-    for (user, time, tz, want) in line_rows() {
-        let has_line = has_line(rt.alloc(), user, time, tz, want)?;
+    for (user, time, tz, want) in LINES {
+        let has_line = has_line(rt.alloc(), user, *time, *tz, want)?;
         assert!(rt; has_line);
     }
     Ok(())
@@ -82,8 +78,8 @@ fn lines_of_users(rt: HostRuntime) -> Result<(), Fail> {
 
 #[test]
 fn lines_of_dates(rt: HostRuntime) -> Result<(), Fail> {
-    for (time, tz, want) in date_rows() {
-        let has_line = has_line(rt.alloc(), b"B", time, tz, want)?;
+    for (time, tz, want) in DATES {
+        let has_line = has_line(rt.alloc(), b"B", *time, *tz, want)?;
         assert!(rt; has_line);
     }
     Ok(())
@@ -92,49 +88,45 @@ fn lines_of_dates(rt: HostRuntime) -> Result<(), Fail> {
 type UserRow = (&'static [u8], &'static [u8], i64, i64);
 
 /// Lines of an author that are idents, and their users, times and zones.
-fn user_rows() -> [UserRow; 18] {
-    [
-        (b"Ann <ann@x> 0 +0000", b"Ann <ann@x>", 0, 0),
-        (b"Ann <none@none> 5 +0530", b"Ann", 5, -19800),
-        (b"ann@x <ann@x> 0 -0100", b"ann@x", 0, 3600),
-        (b"none@none <none@none> 1 +0000", b"none@none", 1, 0),
-        (b"A@b <none@none> 0 +0000", b"A@b <none@none>", 0, 0),
-        (b"A@b <a@b> 0 +0000", b"A@b <a@b>", 0, 0),
-        (b"Ann <Ann> 0 +0000", b"Ann <Ann>", 0, 0),
-        (b" <ann@x> 0 +0000", b"<ann@x>", 0, 0),
-        (b" <none@none> 0 +0000", b"<none@none>", 0, 0),
-        (b" <> 1 +0000", b"<>", 1, 0),
-        (b"Ann <> 1 -0000", b"Ann <>", 1, 0),
-        (b"Ann  <none@none> 0 +0000", b"Ann ", 0, 0),
-        (b"  <a> 0 +0000", b"  <a>", 0, 0),
-        (b"unknown <none@none> 0 +0000", b"unknown", 0, 0),
-        (b"Ann <a> 0 +0060", b"Ann <a>", 0, -3600),
-        (b"Ann <a> 0 +9999", b"Ann <a>", 0, -362340),
-        (b"Ann <a> 0 -9999", b"Ann <a>", 0, 362340),
-        (
-            b"Ann <a> 4611686018427387904 +0000",
-            b"Ann <a>",
-            4611686018427387904,
-            0,
-        ),
-    ]
-}
+const USERS: &[UserRow] = &[
+    (b"Ann <ann@x> 0 +0000", b"Ann <ann@x>", 0, 0),
+    (b"Ann <none@none> 5 +0530", b"Ann", 5, -19800),
+    (b"ann@x <ann@x> 0 -0100", b"ann@x", 0, 3600),
+    (b"none@none <none@none> 1 +0000", b"none@none", 1, 0),
+    (b"A@b <none@none> 0 +0000", b"A@b <none@none>", 0, 0),
+    (b"A@b <a@b> 0 +0000", b"A@b <a@b>", 0, 0),
+    (b"Ann <Ann> 0 +0000", b"Ann <Ann>", 0, 0),
+    (b" <ann@x> 0 +0000", b"<ann@x>", 0, 0),
+    (b" <none@none> 0 +0000", b"<none@none>", 0, 0),
+    (b" <> 1 +0000", b"<>", 1, 0),
+    (b"Ann <> 1 -0000", b"Ann <>", 1, 0),
+    (b"Ann  <none@none> 0 +0000", b"Ann ", 0, 0),
+    (b"  <a> 0 +0000", b"  <a>", 0, 0),
+    (b"unknown <none@none> 0 +0000", b"unknown", 0, 0),
+    (b"Ann <a> 0 +0060", b"Ann <a>", 0, -3600),
+    (b"Ann <a> 0 +9999", b"Ann <a>", 0, -362340),
+    (b"Ann <a> 0 -9999", b"Ann <a>", 0, 362340),
+    (
+        b"Ann <a> 4611686018427387904 +0000",
+        b"Ann <a>",
+        4611686018427387904,
+        0,
+    ),
+];
 
 /// Lines that are no idents and so are themselves the users.
-fn other_lines() -> [&'static [u8]; 10] {
-    [
-        b"Ann",
-        b"Ann <a>",
-        b"<a> 0 +0000",
-        b"Ann<a> 0 +0000",
-        b"Ann <a> -5 +0000",
-        b"Ann <a> 05 +0000",
-        b"Ann <a> 0 0000",
-        b"Ann <a> 0 +000",
-        b"Ann <a> 0 +0000 ",
-        b"Ann <a> 4611686018427387905 +0000",
-    ]
-}
+const OTHER_LINES: &[&'static [u8]] = &[
+    b"Ann",
+    b"Ann <a>",
+    b"<a> 0 +0000",
+    b"Ann<a> 0 +0000",
+    b"Ann <a> -5 +0000",
+    b"Ann <a> 05 +0000",
+    b"Ann <a> 0 0000",
+    b"Ann <a> 0 +000",
+    b"Ann <a> 0 +0000 ",
+    b"Ann <a> 4611686018427387905 +0000",
+];
 
 fn has_user(alloc: Global, line: &[u8], user: &[u8], time: i64, tz: i64) -> Result<bool, Fail> {
     let found = user_of_line(alloc, line)?;
@@ -143,8 +135,8 @@ fn has_user(alloc: Global, line: &[u8], user: &[u8], time: i64, tz: i64) -> Resu
 
 #[test]
 fn users_of_lines(rt: HostRuntime) -> Result<(), Fail> {
-    for (line, user, time, tz) in user_rows() {
-        let has_user = has_user(rt.alloc(), line, user, time, tz)?;
+    for (line, user, time, tz) in USERS {
+        let has_user = has_user(rt.alloc(), line, user, *time, *tz)?;
         assert!(rt; has_user);
     }
     Ok(())
@@ -152,7 +144,7 @@ fn users_of_lines(rt: HostRuntime) -> Result<(), Fail> {
 
 #[test]
 fn lines_that_are_users(rt: HostRuntime) -> Result<(), Fail> {
-    for line in other_lines() {
+    for line in OTHER_LINES {
         let is_user = has_user(rt.alloc(), line, line, 0, 0)?;
         assert!(rt; is_user);
     }
@@ -162,60 +154,58 @@ fn lines_that_are_users(rt: HostRuntime) -> Result<(), Fail> {
 }
 
 /// Zones, and the seconds west of UTC.
-fn zone_rows() -> [([u8; 5], Option<i64>); 14] {
-    [
-        (*b"+0000", Some(0)),
-        (*b"-0000", Some(0)),
-        (*b"+0530", Some(-19800)),
-        (*b"-0100", Some(3600)),
-        (*b"-0001", Some(60)),
-        (*b"+0060", Some(-3600)),
-        (*b"-0060", Some(3600)),
-        (*b"+9999", Some(-362340)),
-        (*b"-9999", Some(362340)),
-        (*b"00000", None),
-        (*b" 0100", None),
-        (*b"+010a", None),
-        (*b"+-100", None),
-        (*b"-01:0", None),
-    ]
-}
+const ZONES: &[([u8; 5], Option<i64>)] = &[
+    (*b"+0000", Some(0)),
+    (*b"-0000", Some(0)),
+    (*b"+0530", Some(-19800)),
+    (*b"-0100", Some(3600)),
+    (*b"-0001", Some(60)),
+    (*b"+0060", Some(-3600)),
+    (*b"-0060", Some(3600)),
+    (*b"+9999", Some(-362340)),
+    (*b"-9999", Some(362340)),
+    (*b"00000", None),
+    (*b" 0100", None),
+    (*b"+010a", None),
+    (*b"+-100", None),
+    (*b"-01:0", None),
+];
 
 #[test]
 fn zones(rt: HostRuntime) -> Result<(), Fail> {
-    for (zone, want) in zone_rows() {
-        assert!(rt; tz_of_zone(&zone) == want);
+    for (zone, want) in ZONES {
+        assert!(rt; tz_of_zone(zone) == *want);
     }
     assert!(rt; zone_of_tz(-19800) == *b"+0530" && zone_of_tz(3600) == *b"-0100");
     Ok(())
 }
 
 /// Messages, and their descriptions.
-fn message_rows() -> [(&'static [u8], &'static [u8]); 8] {
-    [
-        (b"", b""),
-        (b"\n", b""),
-        (b"one", b"one"),
-        (b"one\n", b"one"),
-        (b"one\n\n", b"one\n"),
-        (b"\n\n", b"\n"),
-        (b"one\r\n", b"one\r"),
-        (b"one\ntwo", b"one\ntwo"),
-    ]
-}
+const MESSAGES: &[(&'static [u8], &'static [u8])] = &[
+    (b"", b""),
+    (b"\n", b""),
+    (b"one", b"one"),
+    (b"one\n", b"one"),
+    (b"one\n\n", b"one\n"),
+    (b"\n\n", b"\n"),
+    (b"one\r\n", b"one\r"),
+    (b"one\ntwo", b"one\ntwo"),
+];
 
 #[test]
 fn descriptions_of_messages(rt: HostRuntime) -> Result<(), Fail> {
-    for (message, desc) in message_rows() {
-        assert!(rt; desc_of_message(message) == desc);
+    for (message, desc) in MESSAGES {
+        assert!(rt; desc_of_message(message) == *desc);
     }
     Ok(())
 }
 
 /// Descriptions, and their messages.
-fn desc_rows() -> [(&'static [u8], &'static [u8]); 3] {
-    [(b"", b"\n"), (b"one", b"one\n"), (b"one\n", b"one\n\n")]
-}
+const DESCRIPTIONS: &[(&'static [u8], &'static [u8])] = &[
+    (b"", b"\n"),
+    (b"one", b"one\n"),
+    (b"one\n", b"one\n\n"),
+];
 
 fn has_message(alloc: Global, desc: &[u8], want: &[u8]) -> Result<bool, Fail> {
     let message = message_of_desc(alloc, desc)?;
@@ -224,7 +214,7 @@ fn has_message(alloc: Global, desc: &[u8], want: &[u8]) -> Result<bool, Fail> {
 
 #[test]
 fn messages_of_descriptions(rt: HostRuntime) -> Result<(), Fail> {
-    for (desc, message) in desc_rows() {
+    for (desc, message) in DESCRIPTIONS {
         let has_message = has_message(rt.alloc(), desc, message)?;
         assert!(rt; has_message);
     }

@@ -50,16 +50,22 @@ fn partners(rt: HostRuntime) -> Result<(), Fail> {
     Ok(())
 }
 
-#[test]
-fn fresh_files(rt: HostRuntime) -> Result<(), Fail> {
-    let mut files = FreshFiles::new(rt.alloc());
-    files.push(FreshFile {
-        path: Bytes::of(rt.alloc(), b"a")?,
+fn fresh_file(alloc: Global) -> Result<FreshFile, Fail> {
+    let path = Bytes::of(alloc, b"a")?;
+    Ok(FreshFile {
+        path,
         node: id(1),
         p: Id::NULL,
         q: Id::NULL,
-        text: Bytes::of(rt.alloc(), b"x")?,
-    })?;
+        text: Bytes::new(alloc),
+    })
+}
+
+#[test]
+fn fresh_files(rt: HostRuntime) -> Result<(), Fail> {
+    let mut files = FreshFiles::new(rt.alloc());
+    let file = fresh_file(rt.alloc())?;
+    files.push(file)?;
     assert!(rt; files.len() == 1 && !files.is_empty() && files.at(0).node == id(1));
     assert!(rt; files.get(b"a", &id(1)).is_some() && files.get(b"a", &id(2)).is_none());
     assert!(rt; files.get(b"b", &id(1)).is_none());
@@ -71,7 +77,7 @@ fn fresh_blobs(rt: HostRuntime) -> Result<(), Fail> {
     let mut blobs = FreshBlobs::new(rt.alloc());
     blobs.push(FreshBlob {
         id: id(1),
-        content: Bytes::of(rt.alloc(), b"x")?,
+        content: Bytes::new(rt.alloc()),
     })?;
     assert!(rt; blobs.len() == 1 && !blobs.is_empty() && blobs.at(0).id == id(1));
     assert!(rt; blobs.get(&id(1)).is_some() && blobs.get(&id(2)).is_none());
@@ -82,7 +88,7 @@ fn fresh_blobs(rt: HostRuntime) -> Result<(), Fail> {
 fn rows(rt: HostRuntime) -> Result<(), Fail> {
     let mut rows = HgRows::new(rt.alloc());
     rows.push(HgRow {
-        path: Bytes::of(rt.alloc(), b"a")?,
+        path: Bytes::new(rt.alloc()),
         flag: Flag::Exec,
         node: id(1),
         blob: id(2),
@@ -92,22 +98,29 @@ fn rows(rt: HostRuntime) -> Result<(), Fail> {
     Ok(())
 }
 
+// The fields of a changeset without files.
+fn bare_changeset(alloc: Global) -> Result<Changeset, Fail> {
+    let user = Bytes::of(alloc, b"u")?;
+    Ok(Changeset {
+        manifest: Id::NULL,
+        user,
+        date: DateLine::Plain {
+            time: 0,
+            tz: 0,
+            extras: Extras::new(alloc),
+        },
+        files: Paths::new(alloc),
+        desc: Bytes::new(alloc),
+    })
+}
+
 // The draft of a changeset without parents and files.
 fn bare_draft(alloc: Global) -> Result<HgDraft, Fail> {
+    let changeset = bare_changeset(alloc)?;
     Ok(HgDraft {
         p1: Id::NULL,
         p2: Id::NULL,
-        changeset: Changeset {
-            manifest: Id::NULL,
-            user: Bytes::of(alloc, b"u")?,
-            date: DateLine::Plain {
-                time: 0,
-                tz: 0,
-                extras: Extras::new(alloc),
-            },
-            files: Paths::new(alloc),
-            desc: Bytes::new(alloc),
-        },
+        changeset,
         manifest: ManifestRev::Null,
         rows: HgRows::new(alloc),
         fresh: FreshFiles::new(alloc),

@@ -1,6 +1,6 @@
 // The slot of the program, over files that are read and written.
 use bridge_io::{Failed, FileSlot, Slot, SlotFault};
-use std::alloc::Allocator;
+use std::alloc::{Allocator, Global};
 use std::fs::{Metadata, OpenFile, OpenOptions};
 use std::io::{ErrorKind, Read, Seek, SeekFrom, Write};
 use std::process::Abort;
@@ -33,43 +33,65 @@ fn a_file_slot_holds_its_last_replacement(rt: HostRuntime) -> Result<(), Fail> {
     Ok(())
 }
 
-fn small_texts(rt: &(impl Files + AllocGlobal + Abort)) -> Result<(), Fail> {
-    let mut slot = FileSlot::new(rt);
+// Whether the slot has no text yet.
+fn is_new(rt: &(impl Files + AllocGlobal)) -> bool {
     let mut into = Vec::new(rt.alloc());
-    assert_eq!(rt; slot.fetch(9, &mut into), Ok(false));
-    for text in ["one", "", "longer than before", "four"] {
-        assert_eq!(rt; slot.replace(text.as_bytes()), Ok(()));
-        assert_eq!(rt; fs::exists(rt, NEW_STATE)?, false);
-        into.clear();
-        assert_eq!(rt; slot.fetch(text.len(), &mut into), Ok(true));
-        assert_eq!(rt; into.as_slice(), text.as_bytes());
+    FileSlot::new(rt).fetch(9, &mut into) == Ok(false)
+}
+
+// Whether a text is put into the slot, and no other file is left.
+fn is_replaced(rt: &(impl Files + AllocGlobal), text: &[u8]) -> Result<bool, Fail> {
+    let is_put = FileSlot::new(rt).replace(text) == Ok(());
+    let is_left = fs::exists(rt, NEW_STATE)?;
+    Ok(is_put && !is_left)
+}
+
+// Whether the slot has this text, of `limit` bytes at most.
+fn is_fetched(rt: &(impl Files + AllocGlobal), limit: usize, text: &[u8]) -> bool {
+    let mut into = Vec::new(rt.alloc());
+    FileSlot::new(rt).fetch(limit, &mut into) == Ok(true) && into.as_slice() == text
+}
+
+// Whether the slot gives nothing for this reason.
+fn is_refused(rt: &(impl Files + AllocGlobal), limit: usize, fault: SlotFault) -> bool {
+    let mut into = Vec::new(rt.alloc());
+    FileSlot::new(rt).fetch(limit, &mut into) == Err(fault) && into.is_empty()
+}
+
+const TEXTS: &[&[u8]] = &[b"one", b"", b"longer than before", b"four"];
+
+fn small_texts(rt: &(impl Files + AllocGlobal + Abort)) -> Result<(), Fail> {
+    assert!(rt; is_new(rt));
+    for text in TEXTS {
+        let is_replaced = is_replaced(rt, text)?;
+        let is_fetched = is_fetched(rt, text.len(), text);
+        assert!(rt; is_replaced && is_fetched);
     }
-    into.clear();
-    assert_eq!(rt; slot.fetch(3, &mut into), Err(SlotFault::TooLong));
-    assert!(rt; into.is_empty());
+    assert!(rt; is_refused(rt, 3, SlotFault::TooLong));
     Ok(())
 }
 
-fn large_text(rt: &(impl Files + AllocGlobal + Abort)) -> Result<(), Fail> {
-    let mut text = Vec::new(rt.alloc());
-    for number in 0..300_000u32 {
+// The numbers below a count, in four bytes each.
+fn numbers(alloc: Global, count: u32) -> Result<Vec<u8>, Fail> {
+    let mut text = Vec::new(alloc);
+    for number in 0..count {
         text.extend_from_slice(&number.to_le_bytes())?;
     }
-    let mut slot = FileSlot::new(rt);
-    let mut into = Vec::new(rt.alloc());
-    assert_eq!(rt; slot.replace(&text), Ok(()));
-    assert_eq!(rt; slot.fetch(usize::MAX, &mut into), Ok(true));
-    assert!(rt; into == text);
+    Ok(text)
+}
+
+fn large_text(rt: &(impl Files + AllocGlobal + Abort)) -> Result<(), Fail> {
+    let text = numbers(rt.alloc(), 300_000)?;
+    let is_replaced = is_replaced(rt, &text)?;
+    let is_fetched = is_fetched(rt, usize::MAX, &text);
+    assert!(rt; is_replaced && is_fetched);
     Ok(())
 }
 
 fn no_plain_file(rt: &(impl Files + AllocGlobal + Abort)) -> Result<(), Fail> {
-    let mut slot = FileSlot::new(rt);
-    let mut into = Vec::new(rt.alloc());
     fs::create_dir(rt, STATE)?;
-    assert_eq!(rt; slot.fetch(9, &mut into), Err(SlotFault::Failed));
-    assert_eq!(rt; slot.replace(b"text"), Err(Failed));
-    assert!(rt; into.is_empty());
+    let is_put = FileSlot::new(rt).replace(b"text") == Err(Failed);
+    assert!(rt; is_put && is_refused(rt, 9, SlotFault::Failed));
     Ok(())
 }
 
@@ -177,22 +199,32 @@ impl<F: Read + Write + Seek + Drop> OpenFile for Changed<'_, F> {
     }
 }
 
+// Texts that are fetched where the length was that of `leaf`.
+const CHANGED: &[(&str, Result<bool, SlotFault>)] = &[
+    ("tree", Ok(true)),
+    ("trees", Err(SlotFault::Failed)),
+    ("oak", Err(SlotFault::Failed)),
+    ("", Err(SlotFault::Failed)),
+];
+
+// What is fetched of a file that was another.
+fn fetched_after(rt: &(impl Files + AllocGlobal), before: &Metadata) -> Result<bool, SlotFault> {
+    let mut into = Vec::new(rt.alloc());
+    FileSlot::new(Changing { files: rt, before }).fetch(4, &mut into)
+}
+
+// The metadata of the file `leaf`, which has another text then.
+fn metadata_before(rt: &impl Files, text: &str) -> Result<Metadata, Fail> {
+    fs::write(rt, STATE, "leaf")?;
+    let before = fs::metadata(rt, STATE)?;
+    fs::write(rt, STATE, text)?;
+    Ok(before)
+}
+
 fn changing_text(rt: &(impl Files + AllocGlobal + Abort)) -> Result<(), Fail> {
-    for (text, want) in [
-        ("tree", Ok(true)),
-        ("trees", Err(SlotFault::Failed)),
-        ("oak", Err(SlotFault::Failed)),
-        ("", Err(SlotFault::Failed)),
-    ] {
-        fs::write(rt, STATE, "leaf")?;
-        let before = fs::metadata(rt, STATE)?;
-        fs::write(rt, STATE, text)?;
-        let mut slot = FileSlot::new(Changing {
-            files: rt,
-            before: &before,
-        });
-        let got = slot.fetch(4, &mut Vec::new(rt.alloc()));
-        assert_eq!(rt; got, want, "{text}");
+    for (text, want) in CHANGED {
+        let before = metadata_before(rt, text)?;
+        assert!(rt; fetched_after(rt, &before) == *want);
     }
     Ok(())
 }

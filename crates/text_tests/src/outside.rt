@@ -5,113 +5,183 @@ use bridge_io::{
     Failed, FillFault, MemSink, MemSlot, MemSource, Sink, Slot, SlotFault, Source, StdSink,
     StdSource, Steps, fill_vec, skip, write_all,
 };
+use std::alloc::Global;
 use std::io;
 use std::io::{ErrorKind, Read, Write};
 use std::marker::Brand;
 use std::sync::ledger::{Blank, Ledger};
 use std::test::Fail;
 
+/// What the calls of a source give that fails twice; none where the call fails.
+const PIECES: &[Option<&[u8]>] = &[
+    Some(b"abc"),
+    None,
+    Some(b"def"),
+    None,
+    Some(b"g"),
+    Some(b""),
+];
+
+// Whether the next call gives these bytes, or fails where there are none.
+fn gives(source: &mut MemSource, want: Option<&[u8]>) -> bool {
+    let mut buf = [0; 5];
+    match source.read(&mut buf) {
+        Ok(count) => want == Some(&buf[..count]),
+        Err(Failed) => want.is_none(),
+    }
+}
+
 #[test]
 fn a_source_gives_pieces_and_fails_where_told(rt: HostRuntime) -> Result<(), Fail> {
     let alloc = rt.alloc();
     let bytes = b"abcdefg".to_vec(alloc)?;
     let mut source = MemSource::new(bytes, 3, [1, 3].to_vec(alloc)?);
-    let wanted = ["abc", "failed", "def", "failed", "g", ""];
-    for (call, want) in wanted.iter().enumerate() {
-        let mut buf = [0; 5];
-        let got = match source.read(&mut buf) {
-            Ok(count) => &buf[..count],
-            Err(Failed) => b"failed",
-        };
-        assert_eq!(rt; got, want.as_bytes(), "call {call}");
+    for want in PIECES {
+        let gives = gives(&mut source, *want);
+        assert!(rt; gives);
     }
     Ok(())
+}
+
+/// How many bytes are skipped and how many are asked for, the call that fails, and what comes.
+const READS: &[(u64, usize, u64, Result<&[u8], FillFault>)] = &[
+    (0, 5, 9, Ok(b"abcde")),
+    (2, 4, 9, Ok(b"cdef")),
+    (5, 4, 9, Ok(b"fg")),
+    (9, 1, 9, Ok(b"")),
+    (2, 4, 2, Err(FillFault::Read)),
+];
+
+// A source of seven bytes, in pieces of at most two, of which a call fails.
+fn seven_bytes(alloc: Global, failing: u64) -> Result<MemSource, Fail> {
+    Ok(MemSource::new(b"abcdefg".to_vec(alloc)?, 2, [failing].to_vec(alloc)?))
+}
+
+fn are_skipped(source: &mut MemSource, count: u64) -> bool {
+    skip(source, count) == Ok(count.min(7))
+}
+
+// Whether this comes where so many bytes are asked for.
+fn comes(
+    alloc: Global,
+    source: &mut MemSource,
+    count: usize,
+    want: &Result<&[u8], FillFault>,
+) -> bool {
+    let mut into = Vec::new(alloc);
+    match (fill_vec(source, &mut into, count), want) {
+        (Ok(()), Ok(bytes)) => into.as_slice() == *bytes,
+        (Err(fault), Err(wanted)) => fault == *wanted && into.is_empty(),
+        _ => false,
+    }
 }
 
 #[test]
 fn reads_go_on_until_enough_came(rt: HostRuntime) -> Result<(), Fail> {
-    let alloc = rt.alloc();
-    // how many bytes are skipped and how many are asked for, the call that fails, and what comes
-    let cases: [(u64, usize, u64, Result<&str, FillFault>); 5] = [
-        (0, 5, 9, Ok("abcde")),
-        (2, 4, 9, Ok("cdef")),
-        (5, 4, 9, Ok("fg")),
-        (9, 1, 9, Ok("")),
-        (2, 4, 2, Err(FillFault::Read)),
-    ];
-    for (skipped, count, failing, want) in cases {
-        let mut source = MemSource::new(b"abcdefg".to_vec(alloc)?, 2, [failing].to_vec(alloc)?);
-        assert_eq!(rt; skip(&mut source, skipped), Ok(skipped.min(7)));
-        let mut into = Vec::new(alloc);
-        let came = fill_vec(&mut source, &mut into, count);
-        assert_eq!(rt; came, want.map(|_| ()), "{skipped} {count}");
-        assert_eq!(rt;
-            into.as_slice(),
-            want.unwrap_or("").as_bytes(),
-            "{skipped} {count}"
-        );
+    for (skipped, count, failing, want) in READS {
+        let mut source = seven_bytes(rt.alloc(), *failing)?;
+        let are_skipped = are_skipped(&mut source, *skipped);
+        let comes = comes(rt.alloc(), &mut source, *count, want);
+        assert!(rt; are_skipped && comes);
     }
     Ok(())
+}
+
+/// Pieces, and how many of their bytes a sink with five bytes of room takes.
+const TAKEN: &[(&[u8], Result<usize, Failed>)] = &[
+    (b"abc", Ok(2)),
+    (b"c", Err(Failed)),
+    (b"c", Ok(1)),
+    (b"", Ok(0)),
+    (b"de", Ok(2)),
+    (b"", Ok(0)),
+    (b"f", Err(Failed)),
+];
+
+// A sink with so much room, in pieces of at most `cut` bytes, of which a call fails.
+fn sink(alloc: Global, room: usize, cut: usize, failing: u64) -> Result<MemSink, Fail> {
+    let bytes = Vec::with_capacity(alloc, room)?;
+    Ok(MemSink::new(bytes, room, cut, [failing].to_vec(alloc)?))
+}
+
+fn takes(sink: &mut MemSink, piece: &[u8], want: Result<usize, Failed>) -> bool {
+    sink.write(piece) == want
+}
+
+// Whether the flush of a sink with these bytes goes well, and not before it they are flushed.
+fn is_flushed(sink: &mut MemSink, bytes: &[u8]) -> bool {
+    let is_flushed_early = !sink.flushed().is_empty();
+    let is_flushed = sink.flush() == Ok(()) && sink.flushed() == bytes && sink.bytes() == bytes;
+    is_flushed && !is_flushed_early
 }
 
 #[test]
 fn a_sink_takes_pieces_up_to_its_room(rt: HostRuntime) -> Result<(), Fail> {
-    let alloc = rt.alloc();
-    let room = Vec::with_capacity(alloc, 5)?;
-    let mut sink = MemSink::new(room, 5, 2, [1].to_vec(alloc)?);
-    let calls = [
-        ("abc", Ok(2)),
-        ("c", Err(Failed)),
-        ("c", Ok(1)),
-        ("", Ok(0)),
-        ("de", Ok(2)),
-        ("", Ok(0)),
-        ("f", Err(Failed)),
-    ];
-    for (piece, want) in calls {
-        assert_eq!(rt; sink.write(piece.as_bytes()), want, "{piece}");
+    let mut sink = sink(rt.alloc(), 5, 2, 1)?;
+    for (piece, want) in TAKEN {
+        let takes = takes(&mut sink, piece, *want);
+        assert!(rt; takes);
     }
-    assert!(rt; sink.flushed().is_empty());
-    assert_eq!(rt; sink.flush(), Ok(()));
-    assert_eq!(rt; sink.flushed(), b"abcde".as_slice());
-    assert_eq!(rt; sink.bytes(), b"abcde".as_slice());
+    let is_flushed = is_flushed(&mut sink, b"abcde");
+    assert!(rt; is_flushed);
     Ok(())
+}
+
+/// The longest piece that a sink takes, the call that fails, the answer, and what the sink has taken then.
+const WRITTEN: &[(usize, u64, Result<(), Failed>, &[u8])] = &[
+    (0, 9, Ok(()), b"abcdefg"),
+    (3, 9, Ok(()), b"abcdefg"),
+    (3, 2, Err(Failed), b"abcdef"),
+    (3, 0, Err(Failed), b""),
+];
+
+fn is_written(sink: &mut MemSink, want: Result<(), Failed>, taken: &[u8]) -> bool {
+    write_all(sink, b"abcdefg") == want && sink.bytes() == taken
 }
 
 #[test]
 fn all_is_written_or_a_front(rt: HostRuntime) -> Result<(), Fail> {
-    let alloc = rt.alloc();
-    let cases = [
-        (0, 9, Ok(()), "abcdefg"),
-        (3, 9, Ok(()), "abcdefg"),
-        (3, 2, Err(Failed), "abcdef"),
-        (3, 0, Err(Failed), ""),
-    ];
-    for (cut, failing, want, taken) in cases {
-        let room = Vec::with_capacity(alloc, 7)?;
-        let mut sink = MemSink::new(room, 7, cut, [failing].to_vec(alloc)?);
-        assert_eq!(rt; write_all(&mut sink, b"abcdefg"), want, "call {failing}");
-        assert_eq!(rt; sink.bytes(), taken.as_bytes(), "call {failing}");
+    for (cut, failing, want, taken) in WRITTEN {
+        let mut sink = sink(rt.alloc(), 7, *cut, *failing)?;
+        let is_written = is_written(&mut sink, *want, taken);
+        assert!(rt; is_written);
     }
     Ok(())
 }
 
+fn is_replaced(slot: &mut MemSlot, text: &[u8], want: Result<(), Failed>) -> bool {
+    slot.replace(text) == want
+}
+
+// Whether so many bytes at most are fetched so; where the answer is that there are some, these.
+fn is_fetched(
+    alloc: Global,
+    slot: &mut MemSlot,
+    limit: usize,
+    want: Result<bool, SlotFault>,
+    bytes: &[u8],
+) -> bool {
+    let mut into = Vec::new(alloc);
+    slot.fetch(limit, &mut into) == want && into.as_slice() == bytes
+}
+
+/// A slot with five bytes of room, whose third call fails.
+fn small_slot(alloc: Global) -> Result<MemSlot, Fail> {
+    let room = Vec::with_capacity(alloc, 5)?;
+    Ok(MemSlot::new(None, room, 5, [2].to_vec(alloc)?))
+}
+
 #[test]
 fn a_slot_in_memory_holds_its_last_replacement(rt: HostRuntime) -> Result<(), Fail> {
-    let alloc = rt.alloc();
-    let room = Vec::with_capacity(alloc, 5)?;
-    let mut slot = MemSlot::new(None, room, 5, [2].to_vec(alloc)?);
-    let mut into = Vec::new(alloc);
-    assert_eq!(rt; slot.fetch(9, &mut into), Ok(false));
-    assert_eq!(rt; slot.replace(b"abc"), Ok(()));
-    assert_eq!(rt; slot.fetch(3, &mut into), Err(SlotFault::Failed));
-    assert_eq!(rt; slot.replace(b"def"), Err(Failed));
-    assert_eq!(rt; slot.bytes(), Some(b"abc".as_slice()));
-    assert_eq!(rt; slot.replace(b"de"), Ok(()));
-    assert_eq!(rt; slot.fetch(1, &mut into), Err(SlotFault::TooLong));
-    assert!(rt; into.is_empty());
-    assert_eq!(rt; slot.fetch(2, &mut into), Ok(true));
-    assert_eq!(rt; into.as_slice(), b"de".as_slice());
+    let mut slot = small_slot(rt.alloc())?;
+    assert!(rt; is_fetched(rt.alloc(), &mut slot, 9, Ok(false), b""));
+    assert!(rt; is_replaced(&mut slot, b"abc", Ok(())));
+    assert!(rt; is_fetched(rt.alloc(), &mut slot, 3, Err(SlotFault::Failed), b""));
+    assert!(rt; is_replaced(&mut slot, b"def", Err(Failed)));
+    assert!(rt; slot.bytes() == Some(b"abc".as_slice()));
+    assert!(rt; is_replaced(&mut slot, b"de", Ok(())));
+    assert!(rt; is_fetched(rt.alloc(), &mut slot, 1, Err(SlotFault::TooLong), b""));
+    assert!(rt; is_fetched(rt.alloc(), &mut slot, 2, Ok(true), b"de"));
     Ok(())
 }
 
@@ -154,26 +224,48 @@ impl Write for Shaky {
     }
 }
 
-#[test]
-fn errors_of_a_stream_are_faults(rt: HostRuntime) {
-    let mut source = StdSource::new(Shaky { fails: false });
+fn reads(source: &mut StdSource<Shaky>, want: Result<usize, Failed>) -> bool {
     let mut buf = [0; 2];
+    source.read(&mut buf) == want
+}
+
+#[test]
+fn errors_of_a_reader_are_faults(rt: HostRuntime) {
+    let mut source = StdSource::new(Shaky { fails: false });
     for want in [Ok(1), Err(Failed), Ok(1)] {
-        assert_eq!(rt; source.read(&mut buf), want);
+        let reads = reads(&mut source, want);
+        assert!(rt; reads);
     }
+}
+
+/// Pieces, and how many of their bytes a shaky writer takes.
+const SHAKY: &[(&[u8], Result<usize, Failed>)] = &[
+    (b"ab", Ok(2)),
+    (b"ab", Err(Failed)),
+    (b"stuck", Err(Failed)),
+    (b"", Err(Failed)),
+    (b"", Ok(0)),
+];
+
+fn writes(sink: &mut StdSink<Shaky>, piece: &[u8], want: Result<usize, Failed>) -> bool {
+    sink.write(piece) == want
+}
+
+fn flushes(sink: &mut StdSink<Shaky>, want: Result<(), Failed>) -> bool {
+    sink.flush() == want
+}
+
+#[test]
+fn errors_of_a_writer_are_faults(rt: HostRuntime) {
     let mut sink = StdSink::new(Shaky { fails: false });
-    let calls = [
-        ("ab", Ok(2)),
-        ("ab", Err(Failed)),
-        ("stuck", Err(Failed)),
-        ("", Err(Failed)),
-        ("", Ok(0)),
-    ];
-    for (piece, want) in calls {
-        assert_eq!(rt; sink.write(piece.as_bytes()), want, "{piece}");
+    for (piece, want) in SHAKY {
+        let writes = writes(&mut sink, piece, *want);
+        assert!(rt; writes);
     }
-    assert_eq!(rt; sink.flush(), Err(Failed));
-    assert_eq!(rt; sink.flush(), Ok(()));
+    for want in [Err(Failed), Ok(())] {
+        let flushes = flushes(&mut sink, want);
+        assert!(rt; flushes);
+    }
 }
 
 #[test]

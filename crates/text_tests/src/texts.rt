@@ -2,6 +2,7 @@ use bridge_text::{
     Bytes, Id, IdList, IdSet, Kind, Paths, TextFault, cut_at, decimal_into, decimal_of,
     escape_into, fit_name, fit_path, line_end, node_id, object_id, unescape_into,
 };
+use std::alloc::Global;
 use std::test::Fail;
 
 #[test]
@@ -75,39 +76,65 @@ fn hashes(rt: HostRuntime) -> Result<(), Fail> {
     Ok(())
 }
 
+/// Texts, and what they are escaped.
+const ESCAPED: &[(&[u8], &[u8])] = &[
+    (b"", b""),
+    (b"a b%\\", b"a%20b%25%5C"),
+    (b"!~\x7F\0\xFF", b"!~%7F%00%FF"),
+    (b"a/b\n", b"a/b%0A"),
+    (b"\xC3\xA9", b"%C3%A9"),
+];
+
+// Whether escaping appends this.
+fn is_escaped(alloc: Global, raw: &[u8], text: &[u8]) -> Result<bool, Fail> {
+    let mut out = b">".to_vec(alloc)?;
+    escape_into(&mut out, raw)?;
+    Ok(out.strip_prefix(b">") == Some(text))
+}
+
+// Whether unescaping appends this.
+fn is_unescaped(alloc: Global, text: &[u8], raw: &[u8]) -> Result<bool, Fail> {
+    let mut out = b">".to_vec(alloc)?;
+    let is_text = unescape_into(&mut out, text).is_ok();
+    Ok(is_text && out.strip_prefix(b">") == Some(raw))
+}
+
 #[test]
 fn escapes(rt: HostRuntime) -> Result<(), Fail> {
-    let both: [(&[u8], &[u8]); 5] = [
-        (b"", b""),
-        (b"a b%\\", b"a%20b%25%5C"),
-        (b"!~\x7F\0\xFF", b"!~%7F%00%FF"),
-        (b"a/b\n", b"a/b%0A"),
-        (b"\xC3\xA9", b"%C3%A9"),
-    ];
-    for (raw, text) in both {
-        let mut out = Vec::from_slice(rt.alloc(), b">")?;
-        escape_into(&mut out, raw)?;
-        assert!(rt; out[0] == b'>' && &out[1..] == text);
-        let mut out = Vec::from_slice(rt.alloc(), b">")?;
-        assert!(rt; unescape_into(&mut out, text).is_ok());
-        assert!(rt; out[0] == b'>' && &out[1..] == raw);
+    for (raw, text) in ESCAPED {
+        let is_escaped = is_escaped(rt.alloc(), raw, text)?;
+        let is_unescaped = is_unescaped(rt.alloc(), text, raw)?;
+        assert!(rt; is_escaped && is_unescaped);
     }
-    let bad: [(&[u8], usize); 10] = [
-        (b"%41", 0),
-        (b"%2a", 0),
-        (b"%7E", 0),
-        (b"a%2", 1),
-        (b"%20%", 3),
-        (b"ab c", 2),
-        (b"%5C\\", 3),
-        (b"%20%G0", 3),
-        (b"%25%255\n", 7),
-        (b"\xE9", 0),
-    ];
-    for (text, place) in bad {
-        let mut out = Vec::from_slice(rt.alloc(), b">")?;
-        assert!(rt; unescape_into(&mut out, text) == Err(TextFault::Shape(place)));
-        assert!(rt; out.as_slice() == b">".as_slice());
+    Ok(())
+}
+
+/// Texts that aren't escaped, and the place of the first byte that shows it.
+const UNESCAPED: &[(&[u8], usize)] = &[
+    (b"%41", 0),
+    (b"%2a", 0),
+    (b"%7E", 0),
+    (b"a%2", 1),
+    (b"%20%", 3),
+    (b"ab c", 2),
+    (b"%5C\\", 3),
+    (b"%20%G0", 3),
+    (b"%25%255\n", 7),
+    (b"\xE9", 0),
+];
+
+// Whether a text is refused at this place, and nothing is appended.
+fn is_refused(alloc: Global, text: &[u8], place: usize) -> Result<bool, Fail> {
+    let mut out = b">".to_vec(alloc)?;
+    let fault = unescape_into(&mut out, text);
+    Ok(fault == Err(TextFault::Shape(place)) && out.as_slice() == b">".as_slice())
+}
+
+#[test]
+fn texts_that_are_not_escaped(rt: HostRuntime) -> Result<(), Fail> {
+    for (text, place) in UNESCAPED {
+        let is_refused = is_refused(rt.alloc(), text, *place)?;
+        assert!(rt; is_refused);
     }
     Ok(())
 }
@@ -142,49 +169,61 @@ fn decimals(rt: HostRuntime) -> Result<(), Fail> {
     Ok(())
 }
 
+/// Paths of files.
+const FIT: &[&[u8]] = &[
+    b"a",
+    b"a/b",
+    b".gitignore",
+    b"a/.hgtags",
+    b"...",
+    b".Git",
+    b"a b/\xFF",
+];
+
+/// Texts that are no such paths.
+const UNFIT: &[&[u8]] = &[
+    b"",
+    b"/a",
+    b"a/",
+    b"a//b",
+    b".",
+    b"a/.",
+    b"..",
+    b"../a",
+    b".git",
+    b"a/.git/b",
+    b".hg/a",
+    b"a\0",
+    b"a\nb",
+    b"\ra",
+];
+
 #[test]
-fn paths(rt: HostRuntime) -> Result<(), Fail> {
-    let fit: [&[u8]; 8] = [
-        b"a",
-        b"a/b",
-        b".gitignore",
-        b"a/.hgtags",
-        b"...",
-        b".Git",
-        b"a b/\xFF",
-        &[b'a'; 4096],
-    ];
-    for path in fit {
+fn paths(rt: HostRuntime) {
+    for path in FIT {
         assert!(rt; fit_path(path));
     }
-    let unfit: [&[u8]; 15] = [
-        b"",
-        b"/a",
-        b"a/",
-        b"a//b",
-        b".",
-        b"a/.",
-        b"..",
-        b"../a",
-        b".git",
-        b"a/.git/b",
-        b".hg/a",
-        b"a\0",
-        b"a\nb",
-        b"\ra",
-        &[b'a'; 4097],
-    ];
-    for path in unfit {
-        assert!(rt; !fit_path(path));
+    for text in UNFIT {
+        assert!(rt; !fit_path(text));
     }
-    let mut deep = Vec::from_slice(rt.alloc(), b"a")?;
-    for _ in 0..255 {
-        deep.extend_from_slice(b"/a")?;
-    }
-    assert!(rt; fit_path(&deep));
-    deep.extend_from_slice(b"/a")?;
-    assert!(rt; !fit_path(&deep));
+    assert!(rt; fit_path(&[b'a'; 4096]) && !fit_path(&[b'a'; 4097]));
     assert!(rt; fit_name(b"a") && !fit_name(b"a/b") && !fit_name(b".git") && !fit_name(b""));
+}
+
+// A path of so many names and one.
+fn deep_path(alloc: Global, names: usize) -> Result<Vec<u8>, Fail> {
+    let mut path = b"a".to_vec(alloc)?;
+    for _ in 0..names {
+        path.extend_from_slice(b"/a")?;
+    }
+    Ok(path)
+}
+
+#[test]
+fn deep_paths(rt: HostRuntime) -> Result<(), Fail> {
+    let deep = deep_path(rt.alloc(), 255)?;
+    let too_deep = deep_path(rt.alloc(), 256)?;
+    assert!(rt; fit_path(&deep) && !fit_path(&too_deep));
     Ok(())
 }
 
@@ -201,29 +240,41 @@ fn lines(rt: HostRuntime) -> Result<(), Fail> {
 }
 
 #[test]
-fn lists(rt: HostRuntime) -> Result<(), Fail> {
+fn bytes(rt: HostRuntime) -> Result<(), Fail> {
     let mut bytes = Bytes::of(rt.alloc(), b"a")?;
     bytes.push(b'b')?;
     assert!(rt; bytes.len() == 2 && *bytes.at(1) == b'b' && !bytes.is_empty());
     assert!(rt; Bytes::keep(bytes.into_vec()).as_slice() == b"ab".as_slice());
     assert!(rt; Bytes::new(rt.alloc()).is_empty());
+    Ok(())
+}
 
+#[test]
+fn lists_of_ids(rt: HostRuntime) -> Result<(), Fail> {
     let mut ids = IdList::new(rt.alloc());
     ids.push(Id::NULL)?;
-    assert!(rt;
-        ids.len() == 1 && *ids.at(0) == Id::NULL && ids.as_slice() == [Id::NULL].as_slice()
-    );
+    assert!(rt; ids.len() == 1 && *ids.at(0) == Id::NULL);
+    assert!(rt; ids.as_slice() == [Id::NULL].as_slice());
+    Ok(())
+}
 
+#[test]
+fn lists_of_paths(rt: HostRuntime) -> Result<(), Fail> {
     let mut paths = Paths::new(rt.alloc());
     assert!(rt; paths.is_empty());
-    paths.push(Bytes::of(rt.alloc(), b"a/b")?)?;
+    let path = Bytes::of(rt.alloc(), b"a/b")?;
+    paths.push(path)?;
     assert!(rt; paths.len() == 1 && paths.at(0).as_slice() == b"a/b".as_slice());
+    Ok(())
+}
 
-    let one = Id::new([1; 20]);
+#[test]
+fn sets_of_ids(rt: HostRuntime) -> Result<(), Fail> {
     let mut set = IdSet::new(rt.alloc());
-    assert!(rt; set.insert(one)?);
-    assert!(rt; !set.insert(one)?);
-    assert!(rt; set.insert(Id::NULL)?);
-    assert!(rt; set.contains(&one) && !set.contains(&Id::new([2; 20])));
+    for (byte, want) in [(1, true), (1, false), (3, true)] {
+        let is_new = set.insert(Id::new([byte; 20]))?;
+        assert!(rt; is_new == want);
+    }
+    assert!(rt; set.contains(&Id::new([1; 20])) && !set.contains(&Id::new([2; 20])));
     Ok(())
 }
