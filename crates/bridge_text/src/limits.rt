@@ -15,6 +15,9 @@ pub const COMMIT_LIMIT: usize = 1 << 24;
 /// The rows of a commit's tree, each counted as the bytes of its path and 42.
 pub const ROWS_LIMIT: usize = 1 << 26;
 
+/// The parents of a commit.
+pub const PARENT_LIMIT: usize = 64;
+
 /// The bytes of a path.
 pub const PATH_LIMIT: usize = 4096;
 

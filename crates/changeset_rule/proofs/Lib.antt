@@ -1,4 +1,3 @@
-pub mod NodeLemmas
 pub mod ParentLemmas
 pub mod KnownParents
 pub mod RowViews

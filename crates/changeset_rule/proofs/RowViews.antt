@@ -10,6 +10,7 @@ use Rattle.text_model.specs.Text.{Bytes, IsBytes}
 use Rattle.text_model.specs.Path.{is_fit_path}
 use Rattle.text_model.specs.Id.{Id, IsId, null, blob_id}
 use Rattle.text_model.proofs.HexLemmas.{IsId-null}
+use Rattle.text_model.proofs.Digests.{IsId-node_id}
 use Rattle.hg_model.proofs.ParentOrder.{file_order-again, file_order-either, file_order-ids}
 use Rattle.hg_model.specs.FileText.{plain_meta, file_text}
 use Rattle.hg_model.specs.Revision.{Revision, FilesAt, is_known_parent}
@@ -21,7 +22,6 @@ use Rattle.pair_model.specs.Rule.{flag_of_mode, revision_at, with_body, node_or_
 use Rattle.pair_known.specs.Ruled.{HasFileParents}
 use Rattle.file_rule.specs.Parents.{row_with}
 use Rattle.file_rule.proofs.RowLemmas.{plain-splits}
-use Rattle.changeset_rule.proofs.NodeLemmas.{IsId-node_id}
 use Rattle.changeset_rule.proofs.KnownParents.{node-known, file-parents}
 
 -- ---- the three cases of the rule

@@ -9,11 +9,14 @@ use Rattle.text_model.specs.Path.{is_fit_path}
 use Rattle.text_model.specs.Id.{Id, IsId, null, is_null, hex}
 use Rattle.text_model.proofs.HexLemmas.{IsId-null}
 use Rattle.text_model.proofs.TestLemmas.{both}
+use Rattle.text_model.proofs.Digests.{IsId-node_id}
+use Rattle.text_model.proofs.Options.{not_true}
 use Rattle.hg_model.proofs.ParentOrder.{manifest_order-again, manifest_order-either, manifest_order-ids}
 use Rattle.hg_model.specs.Changeset.{IsPlainDate}
 use Rattle.hg_model.specs.Manifest.{entry_text, manifest_text, flag_text}
 use Rattle.hg_model.specs.Revision.{Revision, Manifests, is_known_parent}
 use Rattle.hg_model.proofs.ManifestLemmas.{manifest_text-none, manifest_text-cons}
+use Rattle.git_model.proofs.RowOrder.{behind_filter, each_inserted, each_ordered}
 use Rattle.hg_store.specs.Known.{AreAdded}
 use Rattle.hg_view.proofs.Right.{held-is_view, held-node}
 use Rattle.view_model.specs.View.{ChangesetView, changeset_node, IsRevision, ManifestParents, NoManifest, Over, AreManifestParents, manifest_node, Row, rows_text, entry_of_row, file_node}
@@ -24,7 +27,6 @@ use Rattle.pair_model.specs.User.{user_of_line}
 use Rattle.pair_model.proofs.UserLemmas.{time-within, tz-within}
 use Rattle.pair_known.specs.Ruled.{HasManifestParents}
 use Rattle.file_rule.specs.Parents.{IsParentView}
-use Rattle.changeset_rule.proofs.NodeLemmas.{IsId-node_id}
 use Rattle.changeset_rule.proofs.KnownParents.{manifest-parents, manifest-known}
 use Rattle.changeset_rule.proofs.RowViews.{IsRightRow}
 
@@ -34,38 +36,14 @@ each-append : {X : Type 0} (P : X → Type 0) (xs ys : List X) → Each P xs →
 each-append P [] ys a b = b
 each-append P (x ∷ xs) ys a b = (a.0, each-append P xs ys a.1 b)
 
-each-filter : {X : Type 0} (P : X → Type 0) (test : X → Bool) (xs : List X) → Each P xs → Each P (filter test xs)
-each-filter P test [] h = tt
-each-filter P test (x ∷ xs) h = by (test x) refl (each-filter P test xs h.1)
-  where
-    by : (t : Bool) → test x ≡ t → Each P (filter test xs) → Each P (filter test (x ∷ xs))
-    by true e rest = rw e (h.0, rest)
-    by false e rest = rw e rest
-
 each-once : {X : Type 0} (P : X → Type 0) (same : X → X → Bool) (xs : List X) → Each P xs → Each P (first_of_each same xs)
 each-once P same [] h = tt
-each-once P same (x ∷ xs) h = (h.0, each-filter P (λ y. not (same x y)) (first_of_each same xs) (each-once P same xs h.1))
-
-each-inserted : {X : Type 0} (P : X → Type 0) (below : X → X → Bool) (x : X) (ys : List X) → P x → Each P ys → Each P (with_inserted below x ys)
-each-inserted P below x [] p h = (p, tt)
-each-inserted P below x (y ∷ ys) p h = by (below y x) refl (each-inserted P below x ys p h.1)
-  where
-    by : (t : Bool) → below y x ≡ t → Each P (with_inserted below x ys) → Each P (with_inserted below x (y ∷ ys))
-    by true e rest = rw e (h.0, rest)
-    by false e rest = rw e (p, (h.0, h.1))
-
-each-ordered : {X : Type 0} (P : X → Type 0) (below : X → X → Bool) (xs : List X) → Each P xs → Each P (in_order below xs)
-each-ordered P below [] h = tt
-each-ordered P below (x ∷ xs) h = each-inserted P below x (in_order below xs) h.0 (each-ordered P below xs h.1)
+each-once P same (x ∷ xs) h = (h.0, behind_filter P (λ y. not (same x y)) (first_of_each same xs) (each-once P same xs h.1))
 
 -- ---- paths
 
 abbrev pub IsListed : Bytes → Type 0
 IsListed f = (f ≢ []) × (has_byte 10 f ≡ false) × IsBytes f
-
-not-true : (b : Bool) → not b ≡ true → b ≡ false
-not-true true h = absurd (true≢false (sym h))
-not-true false h = refl
 
 pub fit-listed : (path : Bytes) → is_fit_path path ≡ true → IsBytes path → IsListed path
 unfolding is_fit_path
@@ -76,7 +54,7 @@ fit-listed path h bytes =
     let nul = both _ _ newline.0 in
     let many = both _ _ nul.0 in
     let long = both _ _ many.0 in
-    (λ e. true≢false (sym long.0 ∙ ap (λ (p : Bytes). not (length p == 0)) e), not-true (has_byte 10 path) newline.1, bytes)
+    (λ e. true≢false (sym long.0 ∙ ap (λ (p : Bytes). not (length p == 0)) e), not_true (has_byte 10 path) newline.1, bytes)
 
 pub rows-listed : (known : List Revision) (rows : List Row) → Each (IsRightRow known) rows → Each IsListed (map (λ (row : Row). row.path) rows)
 rows-listed known [] h = tt
@@ -86,7 +64,7 @@ pub files-listed : (ps : Parents) (rows : List Row) → Each IsListed (map (λ (
     → Each IsListed (ruled_files ps rows)
 unfolding ruled_files
 files-listed ps rows a b c =
-    each-filter IsListed _ _ (each-ordered IsListed is_below _ (each-once IsListed bytes_eq _ (each-append IsListed _ _ (each-append IsListed _ _ a b) c)))
+    behind_filter IsListed _ _ (each_ordered IsListed is_below _ (each-once IsListed bytes_eq _ (each-append IsListed _ _ (each-append IsListed _ _ a b) c)))
 
 -- ---- dates
 

@@ -23,7 +23,6 @@ pub fn make_changeset(alloc: Global, known: &Known, c: &GitDraft) -> Result<HgDr
     ensures { IfOk result (λ d. (blocks : List Block) (v : CommitView) → IsCommitOver known.now blocks c.now v
         → IsMadeChangeset known.now.hg d (changeset_by_rule blocks v)) }
 {
-    known.hg.check();
     let (p1, p2) = parents_of(known, c);
     let first = parent_of(&known.hg, &p1);
     let second = parent_of(&known.hg, &p2);
@@ -56,8 +55,6 @@ pub fn rule_changeset(alloc: Global, known: &Known, c: &GitDraft) -> Result<HgDr
     ensures limit { result ≡ Err PairLimit → (blocks : List Block) (v : CommitView) → IsCommitOver known.now blocks c.now v
         → ChangesetFits (changeset_by_rule blocks v) → ⊥ }
 {
-    known.hg.check();
-    known.partners.check();
     let changeset = make_changeset(alloc, known, c)?;
     if !changeset_fits(alloc, known, &changeset)? {
         return Err(PairFault::PairLimit);

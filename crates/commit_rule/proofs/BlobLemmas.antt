@@ -10,6 +10,8 @@ use Rattle.text_model.specs.Lists.{SomeOf}
 use Rattle.text_model.specs.Text.{Bytes}
 use Rattle.text_model.specs.Id.{Id}
 use Rattle.text_model.proofs.EachLemmas.{Each-append, Each-weaker}
+use Rattle.text_model.proofs.Options.{none_some, some_is}
+use Rattle.text_model.proofs.Elements.{get_unmap, each_at}
 use Rattle.hg_model.specs.FileText.{IsFileText, mark, lacks_second_mark}
 use Rattle.hg_model.specs.Revision.{Revision, FilesAt, revision_of, is_of}
 use Rattle.hg_filelog.proofs.MarkLemmas.{one_pair, lacks-never}
@@ -18,9 +20,9 @@ use Rattle.git_model.specs.Object.{Object, object_at, knows_object, has_id}
 use Rattle.view_model.specs.View.{Row, TreeRow, text_limit}
 use Rattle.pair_known.specs.Rows.{RowValue, row_value}
 use Rattle.pair_known.specs.Ruled.{blob_of_row}
-use Rattle.pair_known.proofs.HeldViews.{some_is, none_some, held-as}
+use Rattle.pair_known.proofs.HeldViews.{held-as}
 use Rattle.commit_rule.specs.Parts.{IsRowOf, AreRowsOf, AreBrought}
-use Rattle.commit_rule.proofs.ListLemmas.{some-left, some-last, get-unmap, each-at}
+use Rattle.commit_rule.proofs.ListLemmas.{some-left, some-last}
 
 -- ---- the text
 
@@ -132,5 +134,5 @@ one-none f (Some x) b e h = absurd (true≢false h)
 pub row-there : (known : List Revision) (values : List RowValue) (rows : List Row) (i : ℕ) (value : RowValue) → AreRowsOf known values rows → slice_get values i ≡ Some value
     → (r : Row) × (slice_get rows i ≡ Some r) × IsRowOf known value r
 row-there known values rows i value are at =
-    let r = get-unmap row_value rows i value (ap (λ (l : List RowValue). slice_get l i) (sym are.0) ∙ at) in
-    (r.0, r.1, (r.2, each-at (IsFileHeld known) rows i r.0 r.1 are.1))
+    let r = get_unmap row_value rows i value (ap (λ (l : List RowValue). slice_get l i) (sym are.0) ∙ at) in
+    (r.0, r.1, (r.2, each_at (IsFileHeld known) rows i r.0 r.1 are.1))

@@ -17,10 +17,8 @@ use Rattle.git_model.specs.Shape.{Leaf, first_clash, clash_from, shape_objects, 
 use Rattle.hg_model.specs.Manifest.{Flag, Regular, Executable, Symlink}
 use Rattle.tree_shape.specs.Sets.{IsFileRow, IsFiles}
 use Rattle.tree_shape.specs.Shapes.{IsFile}
-use Rattle.tree_shape.proofs.Elements.{in-left, each-in}
 use Rattle.tree_shape.proofs.ClashLemmas.{none-below}
 use Rattle.tree_shape.proofs.FileSets.{fit-file}
-use Rattle.tree_shape.proofs.IdLemmas.{IsId-object_id}
 use Rattle.tree_shape.proofs.Names.{IsName, way, components-some, components-whole, components-append, same-components}
 use Rattle.tree_shape.proofs.Rows.{in-lies}
 use Rattle.view_model.specs.View.{TreeRow, leaf_of_row, tree_paths, has_clash, text_limit, Row, paths_of, ChangesetView, IsChangesetView, IsRevision}
@@ -28,14 +26,12 @@ use Rattle.view_model.specs.Held.{file_row_of}
 use Rattle.pair_model.specs.Rule.{mode_of_flag, tree_row_of}
 use Rattle.pair_known.specs.Rows.{row_value}
 use Rattle.text_model.proofs.Search.{IsRising, rising}
+use Rattle.text_model.proofs.Elements.{in_left, each_in, in_map, none_all}
+use Rattle.text_model.proofs.Digests.{IsId-object_id}
 use Rattle.commit_rule.specs.Parts.{file_of_row, AreShort}
 use Rattle.commit_rule.proofs.LeafObjects.{Begins, AreApart, blob_of_leaf, blob-there}
 
 -- ---- clashes
-
-no-any : {X : Type 0} (test : X → Bool) (xs : List X) → ((x : X) → In x xs → test x ≡ false) → list_any test xs ≡ false
-no-any test [] h = refl
-no-any test (x ∷ xs) h = rw (h x (inl refl)) (no-any test xs (λ y i. h y (inr i)))
 
 pub none-any : {X : Type 0} (test : X → Bool) (xs : List X) → list_any test xs ≡ false → (x : X) → In x xs → test x ≡ false
 none-any test [] h x i = absurd i
@@ -45,10 +41,6 @@ none-any {X} test (y ∷ xs) h x i = by (test y) refl h (λ k j. none-any test x
     by true e k rec = absurd (true≢false k)
     by false e k rec = elim i [ inl q ↦ ap test q ∙ e | inr j ↦ rec k j ]
 
-pub in-mapped : {X Y : Type 0} (f : X → Y) (x : X) (xs : List X) → In x xs → In (f x) (map f xs)
-in-mapped f x [] i = i
-in-mapped f x (y ∷ xs) i = elim i [ inl q ↦ inl (ap f q) | inr j ↦ inr (in-mapped f x xs j) ]
-
 pub of-mapped : {X Y : Type 0} (f : X → Y) (xs : List X) (y : Y) → In y (map f xs) → (x : X) × In x xs × (y ≡ f x)
 of-mapped f [] y i = absurd i
 of-mapped f (x ∷ xs) y i = elim i [ inl q ↦ (x, inl refl, q) | inr j ↦ let r = of-mapped f xs y j in (r.0, inr r.1, r.2) ]
@@ -57,13 +49,13 @@ pub unclashed : (at : ℕ) (before rows : List FileRow) → ((t b : FileRow) →
 unfolding clash_from
 unclashed at before [] h = refl
 unclashed at before (row ∷ rows) h =
-    rw (no-any (λ (b : FileRow). lies_below row.path b.path) before (λ b i. h row b (inl refl) (in-left b before (row ∷ rows) i)))
+    rw (none_all (λ (b : FileRow). lies_below row.path b.path) before (λ b i. h row b (inl refl) (in_left b before (row ∷ rows) i)))
     (unclashed (at + 1) (before ++ row ∷ []) rows (λ t b i j. h t b (inr i) (subst (In b) (append_assoc before (row ∷ []) rows) j)))
 
 pub path-in : (rows : List TreeRow) (x : FileRow) → In x (map file_row_of rows) → In x.path (tree_paths rows)
 path-in rows x i =
     let r = of-mapped file_row_of rows x i in
-    subst (λ (p : Bytes). In p (tree_paths rows)) (sym (ap (λ (f : FileRow). f.path) r.2)) (in-mapped (λ (row : TreeRow). row.path) r.0 rows r.1)
+    subst (λ (p : Bytes). In p (tree_paths rows)) (sym (ap (λ (f : FileRow). f.path) r.2)) (in_map (λ (row : TreeRow). row.path) r.0 rows r.1)
 
 pub paths-same : (rows : List TreeRow) → map (λ r. r.path) (map file_row_of rows) ≡ tree_paths rows
 paths-same [] = refl
@@ -74,10 +66,10 @@ one-row [] up a b i j same = absurd i
 one-row (x ∷ rows) up a b i j same = elim i [
   | inl p ↦ elim j [
     | inl q ↦ p ∙ sym q
-    | inr l ↦ absurd (twice (each-in (λ (z : TreeRow). is_below x.path z.path ≡ true) rows b up.0 l) (sym same ∙ ap (λ (r : TreeRow). r.path) p))
+    | inr l ↦ absurd (twice (each_in (λ (z : TreeRow). is_below x.path z.path ≡ true) rows b up.0 l) (sym same ∙ ap (λ (r : TreeRow). r.path) p))
   ]
   | inr k ↦ elim j [
-    | inl q ↦ absurd (twice (each-in (λ (z : TreeRow). is_below x.path z.path ≡ true) rows a up.0 k) (same ∙ ap (λ (r : TreeRow). r.path) q))
+    | inl q ↦ absurd (twice (each_in (λ (z : TreeRow). is_below x.path z.path ≡ true) rows a up.0 k) (same ∙ ap (λ (r : TreeRow). r.path) q))
     | inr l ↦ one-row rows up.1 a b k l same
   ]
 ]
@@ -123,11 +115,11 @@ module _ (rows : List TreeRow) (files : IsFiles (map file_row_of rows)) (none : 
   apart-paths a b i j =
       let x = of-mapped (λ (row : TreeRow). row.path) rows a i in
       let y = of-mapped (λ (row : TreeRow). row.path) rows b j in
-      (λ k. lies_below (x.2 k) (y.2 k)) ∙ none-below 0 [] (map file_row_of rows) none files.in_order (file_row_of y.0) (file_row_of x.0) (in-mapped file_row_of y.0 rows y.1) (in-mapped file_row_of x.0 rows x.1)
+      (λ k. lies_below (x.2 k) (y.2 k)) ∙ none-below 0 [] (map file_row_of rows) none files.in_order (file_row_of y.0) (file_row_of x.0) (in_map file_row_of y.0 rows y.1) (in_map file_row_of x.0 rows x.1)
 
   -- and the other way round
   pub no-has_clash : has_clash (tree_paths rows) ≡ false
-  no-has_clash = no-any (λ path. list_any (lies_below path) (tree_paths rows)) (tree_paths rows) (λ a i. no-any (lies_below a) (tree_paths rows) (λ b j. apart-paths a b i j))
+  no-has_clash = none_all (λ path. list_any (lies_below path) (tree_paths rows)) (tree_paths rows) (λ a i. none_all (lies_below a) (tree_paths rows) (λ b j. apart-paths a b i j))
 
   up : IsRising (λ (r : TreeRow). r.path) rows
   up = rising (λ (r : TreeRow). r.path) rows (subst (λ (paths : List Bytes). IsTrue (rises is_below paths)) (paths-same rows) files.in_order)
@@ -136,7 +128,7 @@ module _ (rows : List TreeRow) (files : IsFiles (map file_row_of rows)) (none : 
   one-way a b i j h = elim (begins-cases (components a.path) (components b.path) h) [
     | inl e ↦ one-row rows up a b i j (same-components a.path b.path e)
     | inr c ↦
-        let f : IsFileRow (file_row_of b) = each-in IsFileRow (map file_row_of rows) (file_row_of b) files.each (in-mapped file_row_of b rows j) in
+        let f : IsFileRow (file_row_of b) = each_in IsFileRow (map file_row_of rows) (file_row_of b) files.each (in_map file_row_of b rows j) in
         let is : IsFile (file_row_of b) = fit-file (file_row_of b) f.fit f.empty in
         let names : Each IsName (c.0 ∷ c.1) = Each-weaker (λ name. (name ≢ []) × (has_byte 47 name ≡ false)) IsName (λ n k. record { some = k.0; plain = k.1 }) (c.0 ∷ c.1)
         (Each-rest (λ name. (name ≢ []) × (has_byte 47 name ≡ false)) (components a.path) (c.0 ∷ c.1) (subst (Each (λ name. (name ≢ []) × (has_byte 47 name ≡ false))) c.2 is.names)) in
@@ -145,7 +137,7 @@ module _ (rows : List TreeRow) (files : IsFiles (map file_row_of rows)) (none : 
         components-append a.path rest ∙ ap (λ (ns : List Bytes). components a.path ++ ns) (components-whole (c.0 ∷ c.1) (some-names c.0 c.1) names) ∙ sym c.2 in
         let path : a.path ++ 47 ∷ rest ≡ b.path = same-components (a.path ++ 47 ∷ rest) b.path parts in
         absurd (true≢false (sym (in-lies a.path rest) ∙ ap (λ (p : Bytes). lies_below p a.path) path
-        ∙ apart-paths b.path a.path (in-mapped (λ (row : TreeRow). row.path) b rows j) (in-mapped (λ (row : TreeRow). row.path) a rows i)))
+        ∙ apart-paths b.path a.path (in_map (λ (row : TreeRow). row.path) b rows j) (in_map (λ (row : TreeRow). row.path) a rows i)))
   ]
 
   leaves-apart : AreApart (map leaf_of_row rows)
@@ -159,9 +151,9 @@ module _ (rows : List TreeRow) (files : IsFiles (map file_row_of rows)) (none : 
   -- where all objects of the rows are within their limit, the content of each file is
   pub content-short : AreShort (shape_objects shape_depth (map leaf_of_row rows)) → (row : TreeRow) → In row rows → IsBlobRow row → length row.content ≤ text_limit
   content-short all row i file =
-      each-in (λ (o : Object). length o.content ≤ text_limit) (shape_objects shape_depth (map leaf_of_row rows)) (blob_of_leaf (leaf_of_row row)) all
-      (blob-there shape_depth (map leaf_of_row rows) leaves-apart (leaf_of_row row) file (in-mapped leaf_of_row row rows i) (components row.path) refl (components-some row.path)
-      (few-names row.path (each-in IsFileRow (map file_row_of rows) (file_row_of row) files.each (in-mapped file_row_of row rows i)).fit))
+      each_in (λ (o : Object). length o.content ≤ text_limit) (shape_objects shape_depth (map leaf_of_row rows)) (blob_of_leaf (leaf_of_row row)) all
+      (blob-there shape_depth (map leaf_of_row rows) leaves-apart (leaf_of_row row) file (in_map leaf_of_row row rows i) (components row.path) refl (components-some row.path)
+      (few-names row.path (each_in IsFileRow (map file_row_of rows) (file_row_of row) files.each (in_map file_row_of row rows i)).fit))
 
 -- ---- the files of a changeset
 

@@ -8,6 +8,8 @@ use Rattle.text_model.specs.Text.{Bytes, IsBytes, is_below}
 use Rattle.text_model.specs.Id.{Id, IsId, blob, tree, object_id, blob_id}
 use Rattle.text_model.specs.Path.{is_fit_path, lies_below}
 use Rattle.text_model.proofs.EachLemmas.{Each-append}
+use Rattle.text_model.proofs.Elements.{in_left, in_map, map_append}
+use Rattle.text_model.proofs.Digests.{IsId-object_id}
 use Rattle.git_model.specs.Tree.{Mode, File, GroupFile, Exec, Link as LinkMode, Directory, Gitlink, is_directory, is_blob_mode}
 use Rattle.git_model.specs.Unfold.{FileRow, is_path_below}
 use Rattle.git_model.specs.Shape.{first_clash}
@@ -18,13 +20,11 @@ use Rattle.git_model.proofs.FitLemmas.{AreApart, CarriedFits, carried-fits}
 use Rattle.git_model.proofs.SortLemmas.{Ascends, rises-ascends, ascends-rises, in-order, order-same}
 use Rattle.hg_model.specs.Manifest.{Flag, Regular, Executable, Symlink}
 use Rattle.tree_shape.specs.Sets.{IsFileRow, IsFiles}
-use Rattle.tree_shape.proofs.Elements.{in-left}
-use Rattle.tree_shape.proofs.IdLemmas.{IsId-object_id}
 use Rattle.view_model.specs.View.{Row, TreeRow, IsRowId, files_among, tree_paths, has_clash, text_limit}
 use Rattle.view_model.specs.Held.{file_row_of}
 use Rattle.pair_model.specs.Rule.{mode_of_flag, tree_row_of, tree_row_with, tree_rows_with, no_content}
 use Rattle.commit_rule.specs.Parts.{AreShortBodies}
-use Rattle.commit_rule.proofs.FileLemmas.{IsBlobRow, none-any, in-mapped, unclashed, path-in}
+use Rattle.commit_rule.proofs.FileLemmas.{IsBlobRow, none-any, unclashed, path-in}
 
 -- ---- rows of the tree
 
@@ -54,15 +54,11 @@ bare-mapped : (rows : List FileRow) → map file_row_of (map no_content rows) �
 bare-mapped [] = refl
 bare-mapped (row ∷ rows) = ap (λ (l : List FileRow). row ∷ l) (bare-mapped rows)
 
-map-append : {X Y : Type 0} (f : X → Y) (xs ys : List X) → map f (xs ++ ys) ≡ map f xs ++ map f ys
-map-append f [] ys = refl
-map-append {X} {Y} f (x ∷ xs) ys = ap (λ (l : List Y). f x ∷ l) (map-append f xs ys)
-
 pub bare-with : (items : List ResidueItem) (ts : List TreeRow) → map file_row_of (tree_rows_with items ts) ≡ rows_with items (map file_row_of ts)
 unfolding tree_rows_with rows_with
 bare-with items ts =
     map_ordered file_row_of is_path_below (map (tree_row_with items) ts ++ map no_content (filter_map row_of_item items))
-    ∙ ap (in_order is_path_below) (map-append file_row_of (map (tree_row_with items) ts) (map no_content (filter_map row_of_item items))
+    ∙ ap (in_order is_path_below) (map_append file_row_of (map (tree_row_with items) ts) (map no_content (filter_map row_of_item items))
     ∙ (λ i. with-mapped items ts i ++ bare-mapped (filter_map row_of_item items) i))
 
 pub empty-is : {X : Type 0} (xs : List X) → (length xs == 0) ≡ true → xs ≡ []
@@ -261,8 +257,8 @@ pub row-in : (items : List ResidueItem) (rows : List Row) (row : Row) → In row
 unfolding tree_rows_with
 row-in items rows row i =
     in-order (λ (a b : TreeRow). is_below a.path b.path) (tree_row_with items (tree_row_of row)) (map (tree_row_with items) (map tree_row_of rows) ++ map no_content (filter_map row_of_item items))
-    (in-left (tree_row_with items (tree_row_of row)) (map (tree_row_with items) (map tree_row_of rows)) (map no_content (filter_map row_of_item items))
-    (in-mapped (tree_row_with items) (tree_row_of row) (map tree_row_of rows) (in-mapped tree_row_of row rows i)))
+    (in_left (tree_row_with items (tree_row_of row)) (map (tree_row_with items) (map tree_row_of rows)) (map no_content (filter_map row_of_item items))
+    (in_map (tree_row_with items) (tree_row_of row) (map tree_row_of rows) (in_map tree_row_of row rows i)))
 
 pub blob-row : (items : List ResidueItem) (row : Row) → IsBlobRow (tree_row_with items (tree_row_of row))
 blob-row items row = blob-with items row.path (mode_of_flag row.flag) (of-flag row.flag)

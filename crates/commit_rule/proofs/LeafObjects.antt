@@ -6,11 +6,12 @@ use Rattle.std.proofs.lemmas.Slice.Eq.{bytes_eq-Decides}
 use Rattle.text_model.specs.Lists.{In, first_of_each, in_order, with_inserted}
 use Rattle.text_model.specs.Text.{Bytes}
 use Rattle.text_model.specs.Id.{blob, tree}
+use Rattle.text_model.proofs.Elements.{in_left, in_map}
 use Rattle.git_model.specs.Tree.{Mode, File, GroupFile, Exec, Link, Directory, Gitlink, is_directory, is_blob_mode, TreeEntry, tree_text, is_entry_below}
 use Rattle.git_model.specs.Object.{Object, object_of}
 use Rattle.git_model.specs.Shape.{Leaf, first_name_of, first_names, cut_name, leaves_below, is_named, leaf_named, leaf_object, shape_entries, shape_objects}
 use Rattle.tree_shape.specs.Shapes.{entry_of, trees_below}
-use Rattle.tree_shape.proofs.Elements.{in-left, in-flat, in-filter}
+use Rattle.tree_shape.proofs.Elements.{in-flat, in-filter}
 use Rattle.tree_shape.proofs.Leaves.{entry_by, same}
 
 -- ---- elements
@@ -34,10 +35,6 @@ in-first x (y ∷ xs) i = elim i [ inl q ↦ inl q | inr j ↦ by (bytes_eq y x)
     by : (t : Bool) → bytes_eq y x ≡ t → In x (first_of_each bytes_eq xs) → In x (y ∷ filter (λ z. not (bytes_eq y z)) (first_of_each bytes_eq xs))
     by true e k = inl (sym ((bytes_eq-Decides y x).0 e))
     by false e k = inr (in-filter (λ z. not (bytes_eq y z)) x (first_of_each bytes_eq xs) k (ap not e))
-
-in-mapped : {X Y : Type 0} (f : X → Y) (x : X) (xs : List X) → In x xs → In (f x) (map f xs)
-in-mapped f x [] i = i
-in-mapped f x (y ∷ xs) i = elim i [ inl q ↦ inl (ap f q) | inr j ↦ inr (in-mapped f x xs j) ]
 
 in-names : (leaf : Leaf) (leaves : List Leaf) (n : Bytes) → In leaf leaves → first_name_of leaf ≡ Some n → In n (filter_map first_name_of leaves)
 in-names leaf [] n i e = i
@@ -161,12 +158,12 @@ no-directory Gitlink h = refl
 in-entries : (depth : ℕ) (leaves : List Leaf) (a : Leaf) (n : Bytes) → In a leaves → first_name_of a ≡ Some n → In (entry_of depth leaves n) (shape_entries (suc depth) leaves)
 unfolding shape_entries
 in-entries depth leaves a n i e =
-    in-order is_entry_below (entry_of depth leaves n) (map (entry_of depth leaves) (first_names leaves)) (in-mapped (entry_of depth leaves) n (first_names leaves) (in-first n (filter_map first_name_of leaves) (in-names a leaves n i e)))
+    in-order is_entry_below (entry_of depth leaves n) (map (entry_of depth leaves) (first_names leaves)) (in_map (entry_of depth leaves) n (first_names leaves) (in-first n (filter_map first_name_of leaves) (in-names a leaves n i e)))
 
 in-objects : (depth : ℕ) (leaves : List Leaf) (e : TreeEntry) (o : Object) → In e (shape_entries (suc depth) leaves) → In o (trees_below depth leaves e) → In o (shape_objects (suc depth) leaves)
 unfolding shape_objects
 in-objects depth leaves e o i j =
-    in-left o (flat_map (trees_below depth leaves) (shape_entries (suc depth) leaves)) (object_of tree (tree_text (shape_entries (suc depth) leaves)) ∷ []) (in-flat (trees_below depth leaves) (shape_entries (suc depth) leaves) e o i j)
+    in_left o (flat_map (trees_below depth leaves) (shape_entries (suc depth) leaves)) (object_of tree (tree_text (shape_entries (suc depth) leaves)) ∷ []) (in-flat (trees_below depth leaves) (shape_entries (suc depth) leaves) e o i j)
 
 pub blob-there : (depth : ℕ) (leaves : List Leaf) → AreApart leaves → (a : Leaf) → is_blob_mode a.mode ≡ true → In a leaves → (names : List Bytes) → a.names ≡ names → names ≢ [] → length names ≤ depth → In (blob_of_leaf a) (shape_objects depth leaves)
 blob-there depth leaves h a file i [] e some short = absurd (some refl)

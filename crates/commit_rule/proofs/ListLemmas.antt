@@ -3,24 +3,7 @@ use Rattle.std.proofs.Common.{◌≡◌, ◌+◌, ◌<◌, ℕ, zero, suc, List,
 use Rattle.std.specs.Prelude.{slice_get}
 use Rattle.std.proofs.lemmas.Option.{slice_get-get_or}
 use Rattle.text_model.specs.Lists.{Each, SomeOf}
-use Rattle.pair_known.proofs.HeldViews.{some_is, none_some}
-
-pub take-map : {X Y : Type 0} (f : X → Y) (xs : List X) (i : ℕ) (x : X) → slice_get xs i ≡ Some x → map f (take (i + 1) xs) ≡ map f (take i xs) ++ f x ∷ []
-take-map f [] i x at = absurd (none_some at)
-take-map {X} {Y} f (y ∷ xs) zero x at = ap (λ (z : X). f z ∷ []) (some_is at)
-take-map {X} {Y} f (y ∷ xs) (suc i) x at =
-    let plus : suc i + 1 ≡ suc (i + 1) = omega arith in
-    ap (λ (n : ℕ). map f (take n (y ∷ xs))) plus ∙ ap (λ (l : List Y). f y ∷ l) (take-map f xs i x at)
-
-pub get-unmap : {X Y : Type 0} (f : X → Y) (xs : List X) (i : ℕ) (y : Y) → slice_get (map f xs) i ≡ Some y → (x : X) × (slice_get xs i ≡ Some x) × (f x ≡ y)
-get-unmap f [] i y at = absurd (none_some at)
-get-unmap f (x ∷ xs) zero y at = (x, refl, some_is at)
-get-unmap f (x ∷ xs) (suc i) y at = get-unmap f xs i y at
-
-pub each-at : {X : Type 0} (P : X → Type 0) (xs : List X) (i : ℕ) (x : X) → slice_get xs i ≡ Some x → Each P xs → P x
-each-at P [] i x at h = absurd (none_some at)
-each-at P (y ∷ xs) zero x at h = subst P (some_is at) h.0
-each-at P (y ∷ xs) (suc i) x at h = each-at P xs i x at h.1
+use Rattle.text_model.proofs.Options.{none_some, some_is}
 
 -- one element more
 pub each-more : {X : Type 0} (P : X → Type 0) (xs : List X) (i : ℕ) (x : X) → slice_get xs i ≡ Some x → Each P (take i xs) → P x → Each P (take (i + 1) xs)

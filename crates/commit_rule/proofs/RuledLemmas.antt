@@ -16,6 +16,8 @@ use Rattle.hg_model.specs.Manifest.{Flag, Regular, Executable, Symlink}
 use Rattle.hg_model.specs.FileText.{IsFile}
 use Rattle.hg_model.specs.Revision.{Revision}
 use Rattle.text_model.specs.Path.{is_fit_path}
+use Rattle.text_model.proofs.Elements.{each_in, each_from}
+use Rattle.text_model.proofs.Digests.{IsId-object_id}
 use Rattle.git_model.specs.Commit.{Commit, commit_text, IsCommitText, IsLine}
 use Rattle.git_model.specs.Object.{Object, object_of, knows_object}
 use Rattle.git_model.specs.Unfold.{FileRow, row_size, rows_limit, walk_fault, tree_rows}
@@ -25,8 +27,6 @@ use Rattle.git_model.proofs.OneTextLemmas.{one_commit}
 use Rattle.git_model.proofs.SortLemmas.{rises-ascends}
 use Rattle.git_store.specs.Known.{AreKnown, IsCommitAt}
 use Rattle.tree_shape.specs.Sets.{IsFiles}
-use Rattle.tree_shape.proofs.Elements.{each-in, each-from}
-use Rattle.tree_shape.proofs.IdLemmas.{IsId-object_id}
 use Rattle.tree_shape.proofs.TreesWithin.{trees-within}
 use Rattle.tree_shape.proofs.Unfolding.{unfolds, walk-files}
 use Rattle.git_view.proofs.Rows.{rows-are}
@@ -155,7 +155,7 @@ module _ (k : Known) (blocks : List Block) (held : AreBlocksHeld k blocks) (are 
     there = (found-in (λ (x : Block). bytes_eq (node_of x) node) blocks b at).0
 
     walks : walk_fault k.git ((b.commit).value).tree_id ≡ None
-    walks = each-in (λ (x : Block). walk_fault k.git ((x.commit).value).tree_id ≡ None) blocks b held.walks there
+    walks = each_in (λ (x : Block). walk_fault k.git ((x.commit).value).tree_id ≡ None) blocks b held.walks there
 
     pub at-commit : IsCommitHeld k.git (id_of b) b.commit
     at-commit = commit-held k.git blocks b held.commits there
@@ -306,7 +306,7 @@ module _ (k : Known) (blocks : List Block) (d : HgDraft) (v : ChangesetView) (ov
     -- where the commit is within its limits, each body is
     pub bodies-short : CommitFits (rule_commit blocks v) → AreShortBodies v.rows
     unfolding rule_commit commit_objects
-    bodies-short fits = each-from (λ (row : Row). length (row.revision).body ≤ text_limit) v.rows (λ row i.
+    bodies-short fits = each_from (λ (row : Row). length (row.revision).body ≤ text_limit) v.rows (λ row i.
         content-short (rule_commit blocks v).rows right-files right-apart
         (Each-front (λ (o : Object). length o.content ≤ text_limit) (shape_objects shape_depth (map leaf_of_row (rule_commit blocks v).rows)) (object_of commit (commit_text (rule_commit blocks v).value) ∷ []) fits.objects)
         (tree_row_with (carried_to blocks v) (tree_row_of row)) (row-in (carried_to blocks v) v.rows row i) (blob-row (carried_to blocks v) row))

@@ -6,16 +6,17 @@ use Rattle.std.proofs.lemmas.List.Elements.{filter-append}
 use Rattle.text_model.specs.Lists.{In, Each}
 use Rattle.text_model.specs.Text.{Bytes}
 use Rattle.text_model.specs.Id.{Id, tree, blob}
+use Rattle.text_model.proofs.Elements.{each_in, each_from}
+use Rattle.text_model.proofs.Options.{none_some, some_is}
 use Rattle.git_model.specs.Tree.{Mode, is_directory, is_blob_mode, TreeEntry, tree_text}
 use Rattle.git_model.specs.Object.{Object, object_of}
 use Rattle.git_model.specs.Shape.{Leaf, leaf_of, cut_name, leaves_below, is_named, leaf_named, leaf_object, shape_entries, shape_objects, shape_depth, trees_of}
 use Rattle.tree_shape.specs.Shapes.{is_tree, trees_below}
-use Rattle.tree_shape.proofs.Elements.{in-append, of-flat, in-filter, each-in, each-from}
+use Rattle.tree_shape.proofs.Elements.{in-append, of-flat, in-filter}
 use Rattle.tree_shape.proofs.PutRows.{no-tree}
 use Rattle.git_view.proofs.Shapes.{filled, below-filled, entries-filled}
 use Rattle.view_model.specs.View.{TreeRow, leaf_of_row, text_limit}
 use Rattle.view_model.specs.Held.{file_row_of}
-use Rattle.pair_known.proofs.HeldViews.{some_is, none_some}
 use Rattle.commit_rule.specs.Parts.{AreShort}
 
 -- ---- trees without contents
@@ -112,8 +113,8 @@ leaves-short (row ∷ rows) h = (h.0, leaves-short rows h.1)
 
 -- where the trees and the contents of rows are within their limit, all objects of them are
 pub objects-short : (rows : List TreeRow) → AreShort (trees_of (map file_row_of rows)) → Each (λ row. length row.content ≤ text_limit) rows → AreShort (shape_objects shape_depth (map leaf_of_row rows))
-objects-short rows trees short = each-from (λ (o : Object). length o.content ≤ text_limit) (shape_objects shape_depth (map leaf_of_row rows)) (λ o i.
+objects-short rows trees short = each_from (λ (o : Object). length o.content ≤ text_limit) (shape_objects shape_depth (map leaf_of_row rows)) (λ o i.
     elim (tree-or-short shape_depth (map leaf_of_row rows) o (leaves-short rows short) i) [
-      | inl t ↦ each-in (λ (x : Object). length x.content ≤ text_limit) (trees_of (map file_row_of rows)) o trees (subst (In o) (same-trees rows) (in-filter is_tree o (shape_objects shape_depth (map leaf_of_row rows)) i t))
+      | inl t ↦ each_in (λ (x : Object). length x.content ≤ text_limit) (trees_of (map file_row_of rows)) o trees (subst (In o) (same-trees rows) (in-filter is_tree o (shape_objects shape_depth (map leaf_of_row rows)) i t))
       | inr s ↦ s
     ])

@@ -1,9 +1,12 @@
 // What is too large.
 ghost use Rattle.std.specs.Prelude.{◌≡◌, ◌≤◌, ◌↔◌, ◌++◌, List, length, IfOk, IsTrue};
 ghost use Rattle.std.specs.List.{sum_by};
+ghost use Rattle.hg_model.specs.Revision.{Revision};
 ghost use Rattle.git_model.specs.Commit.{commit_text};
+ghost use Rattle.git_model.specs.Object.{Object};
 ghost use Rattle.git_model.specs.Unfold.{row_size, rows_limit};
 ghost use Rattle.view_model.specs.View.{Row, CommitView, CommitFits, commit_limit, text_limit};
+ghost use Rattle.hg_store.specs.Known.{AreAdded};
 ghost use Rattle.pair_known.specs.Ruled.{IsMadeCommit};
 ghost use Rattle.commit_rule.specs.Parts.{IsRowOf, AreRowsOf, AreShortBodies};
 
@@ -40,10 +43,9 @@ fn text_fits(alloc: Global, commit: &Commit) -> Result<bool, NoMemory>
 
 /// Whether each object of a commit that was made and the rows of its tree are within their limits. No tree is looked at: an entry takes at
 /// most 28 bytes beside its name, and a row counts 42 beside its path.
-pub fn commit_fits(alloc: Global, known: &Known, d: &GitDraft) -> Result<bool, NoMemory>
-    ensures { IfOk result (λ fits. (v : CommitView) → IsMadeCommit known.now.git d.now v → (IsTrue fits ↔ CommitFits v)) }
+pub fn commit_fits(alloc: Global, d: &GitDraft) -> Result<bool, NoMemory>
+    ensures { IfOk result (λ fits. (known : List Object) (v : CommitView) → IsMadeCommit known d.now v → (IsTrue fits ↔ CommitFits v)) }
 {
-    let _known = known;
     if !rows_fit(&d.files) {
         return Ok(false);
     }
@@ -53,9 +55,9 @@ pub fn commit_fits(alloc: Global, known: &Known, d: &GitDraft) -> Result<bool, N
 // Whether the body of a row's revision is within the limit of a text. That of a revision of the store is.
 fn body_fits(known: &Known, h: &HgDraft, row: &HgRow) -> bool
     requires held { (r : Row) × IsRowOf (h.now.fresh ++ known.now.hg) row.now r }
-    ensures { (r : Row) → IsRowOf (h.now.fresh ++ known.now.hg) row.now r → (IsTrue result ↔ length (r.revision).body ≤ text_limit) }
+    ensures { (r : Row) → AreAdded known.now.hg → IsRowOf (h.now.fresh ++ known.now.hg) row.now r → (IsTrue result ↔ length (r.revision).body ≤ text_limit) }
 {
-    if is_stored(known, h, row) {
+    if is_stored(h, row) {
         return true;
     }
     body_of(known, h, row).len() <= TEXT_LIMIT
@@ -64,7 +66,7 @@ fn body_fits(known: &Known, h: &HgDraft, row: &HgRow) -> bool
 /// Whether the body of each file revision of a changeset is within the limit of a text.
 pub fn bodies_fit(known: &Known, h: &HgDraft) -> bool
     requires held { (rows : List Row) × AreRowsOf (h.now.fresh ++ known.now.hg) h.now.rows rows }
-    ensures { (rows : List Row) → AreRowsOf (h.now.fresh ++ known.now.hg) h.now.rows rows → (IsTrue result ↔ AreShortBodies rows) }
+    ensures { (rows : List Row) → AreAdded known.now.hg → AreRowsOf (h.now.fresh ++ known.now.hg) h.now.rows rows → (IsTrue result ↔ AreShortBodies rows) }
 {
     let rows = h.rows.as_slice();
     for row in rows {

@@ -1,5 +1,7 @@
 ghost use Rattle.std.specs.Prelude.{◌≡◌, ◌++◌, ◌∷◌, [], ◌≤◌, List, map, length, IfOk, IsTrue, OnOk};
 ghost use Rattle.hg_model.specs.FileText.{IsFileText};
+ghost use Rattle.hg_model.specs.Revision.{Revision};
+ghost use Rattle.hg_store.specs.Known.{AreAdded};
 ghost use Rattle.view_model.specs.View.{Row, text_limit};
 ghost use Rattle.pair_model.specs.Rule.{tree_row_of};
 ghost use Rattle.commit_rule.specs.Parts.{IsRowOf, AreRowsOf, AreBrought};
@@ -38,10 +40,10 @@ pub fn body_of<'a>(known: &'a Known, h: &'a HgDraft, row: &HgRow) -> &'a [u8]
 
 /// Whether the revision of a row stands in the store, and not in the draft. The store takes no text above the limit, so
 /// the body needs no look.
-pub fn is_stored(known: &Known, h: &HgDraft, row: &HgRow) -> bool
-    ensures { IsTrue result → (r : Row) → IsRowOf (h.now.fresh ++ known.now.hg) row.now r → length (r.revision).body ≤ text_limit }
+pub fn is_stored(h: &HgDraft, row: &HgRow) -> bool
+    ensures { IsTrue result → (known : List Revision) (r : Row) → AreAdded known → IsRowOf (h.now.fresh ++ known) row.now r
+        → length (r.revision).body ≤ text_limit }
 {
-    known.hg.check();
     h.fresh.get(row.path.as_slice(), &row.node).is_none()
 }
 

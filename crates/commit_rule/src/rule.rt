@@ -58,7 +58,7 @@ pub fn rule_commit(alloc: Global, known: &Known, h: &HgDraft) -> Result<GitDraft
         return Err(PairFault::PairLimit);
     }
     let draft = make_commit(alloc, known, h)?;
-    if !commit_fits(alloc, known, &draft)? {
+    if !commit_fits(alloc, &draft)? {
         return Err(PairFault::PairLimit);
     }
     Ok(draft)

@@ -7,6 +7,7 @@ use Rattle.std.proofs.lemmas.Slice.Eq.{bytes_eq-Decides}
 use Rattle.text_model.specs.Lists.{Each}
 use Rattle.text_model.specs.Text.{Bytes}
 use Rattle.text_model.specs.Id.{Id, blob_id}
+use Rattle.text_model.proofs.Elements.{each_at}
 use Rattle.git_model.specs.Tree.{is_blob_mode}
 use Rattle.hg_model.specs.FileText.{IsFileText, plain_meta}
 use Rattle.hg_model.specs.Manifest.{ManifestEntry, Flag, Regular, Executable, Symlink}
@@ -18,7 +19,7 @@ use Rattle.view_model.specs.Held.{IsFileHeld}
 use Rattle.pair_model.specs.Block.{Parents}
 use Rattle.pair_model.specs.Rule.{with_body, node_or_null, one_or_two, new_revision, ruled_revision, ruled_row, ruled_rows, tree_row_of, mode_of_flag, flag_of_mode}
 use Rattle.pair_known.specs.Rows.{RowValue}
-use Rattle.pair_known.proofs.HeldViews.{one_row, each_get}
+use Rattle.pair_known.proofs.HeldViews.{one_row}
 use Rattle.file_rule.specs.Parents.{row_with, IsRevisionAt}
 use Rattle.file_rule.specs.Back.{IsHeldRow, row_again}
 use Rattle.file_rule.proofs.OrderLemmas.{plain-order}
@@ -222,5 +223,5 @@ each-more ps hs i t h is before = more hs i h.at before
 pub not-here : (ps : Parents) (hs : List Row) (i : ℕ) (t : Bool) → Here ps hs i t → t ≡ false → (IsTrue false ↔ SameRows (ruled_rows ps (map tree_row_of hs)) hs)
 not-here ps hs i t h isnt = (
   (λ e. absurd (true≢false (sym e))),
-  (λ same. absurd (true≢false (sym (h.same.1 (each_get (λ (r : Row). SameRow (again ps r) r) hs i h.row h.at (same-each ps hs (subst (λ (l : List Row). SameRows l hs) (rows-again ps hs) same)))) ∙ isnt))),
+  (λ same. absurd (true≢false (sym (h.same.1 (each_at (λ (r : Row). SameRow (again ps r) r) hs i h.row h.at (same-each ps hs (subst (λ (l : List Row). SameRows l hs) (rows-again ps hs) same)))) ∙ isnt))),
 )

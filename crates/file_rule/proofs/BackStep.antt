@@ -4,6 +4,7 @@ use Rattle.std.specs.Prelude.{option_map, slice_get, ◌↔◌}
 use Rattle.std.specs.List.{find}
 use Rattle.std.specs.Option.{option_copied}
 use Rattle.text_model.specs.Text.{Bytes}
+use Rattle.text_model.proofs.Elements.{each_at, get_unmap}
 use Rattle.hg_manifest.specs.Values.{manifest_entry}
 use Rattle.hg_manifest.specs.declared.entry.Entry.{Entry}
 use Rattle.hg_model.specs.Manifest.{ManifestEntry}
@@ -13,11 +14,10 @@ use Rattle.view_model.specs.Held.{IsFileHeld}
 use Rattle.pair_model.specs.Block.{Parents}
 use Rattle.pair_model.specs.Rule.{revision_at}
 use Rattle.pair_known.specs.Rows.{RowValue, row_value}
-use Rattle.pair_known.proofs.HeldViews.{each_get}
 use Rattle.file_rule.specs.Back.{IsHeldRow, AreHeldRows, row_again}
 use Rattle.file_rule.specs.declared.parents.Parent.{Parent}
 use Rattle.file_rule.proofs.BackLemmas.{Here}
-use Rattle.file_rule.proofs.RowsLoop.{entry-in, get-unmap}
+use Rattle.file_rule.proofs.RowsLoop.{entry-in}
 
 abbrev pub found : Parent → Bytes → Option ManifestEntry
 found parent p = find (λ x. bytes_eq x.path p) (parent.manifest).now
@@ -33,12 +33,12 @@ pub here : (known : List Revision) (rows : List RowValue) (first second : Parent
     → ((r s : Option FileRevision) (w : Row) → IsHeldRow known item (option_map manifest_entry (option_copied e)) (option_map manifest_entry (option_copied f)) r s w → (IsTrue t ↔ SameRow (row_again r s w) w))
     → Here ps hs i t
 here known rows first second ps hs are i item at p q p_is q_is e f e_is f_is t test =
-    let w = get-unmap row_value hs i item (ap (λ (l : List RowValue). slice_get l i) (sym are.of_rows) ∙ at) in
+    let w = get_unmap row_value hs i item (ap (λ (l : List RowValue). slice_get l i) (sym are.of_rows) ∙ at) in
     let path : item.path ≡ (w.0).path = ap (λ (x : RowValue). x.path) (sym w.2) in
     let is : IsHeldRow known item (option_map manifest_entry (option_copied e)) (option_map manifest_entry (option_copied f)) (revision_at (ps.first).rows (w.0).path) (revision_at (ps.second).rows (w.0).path) w.0 =
     record {
       of_row = sym w.2;
-      held = each_get (IsFileHeld known) hs i w.0 w.1 are.files;
+      held = each_at (IsFileHeld known) hs i w.0 w.1 are.files;
       in_first = entry-in known (first.manifest).now (ps.first).rows (w.0).path (option_map manifest_entry (option_copied e)) (are.in_first).entries (are.in_first).files (copied e ∙ e_is ∙ ap (found first) (p_is ∙ path));
       in_second = entry-in known (second.manifest).now (ps.second).rows (w.0).path (option_map manifest_entry (option_copied f)) (are.in_second).entries (are.in_second).files (copied f ∙ f_is ∙ ap (found second) (q_is ∙ path));
     } in

@@ -7,7 +7,8 @@ use Rattle.std.proofs.lemmas.Slice.Eq.{bytes_eq-Decides}
 use Rattle.text_model.specs.Lists.{Each}
 use Rattle.text_model.specs.Text.{Bytes, IsBytes}
 use Rattle.text_model.specs.Id.{Id, null, blob_id}
-use Rattle.text_model.proofs.TestLemmas.{both}
+use Rattle.text_model.proofs.TestLemmas.{both, bytes_eq-is}
+use Rattle.text_model.proofs.Options.{some_none}
 use Rattle.git_model.specs.Object.{Object, object_at, has_id}
 use Rattle.git_model.specs.Unfold.{FileRow}
 use Rattle.hg_model.specs.FileText.{file_text, IsFile, IsFileText, plain_meta, begins_with_mark, file_order, manifest_order}
@@ -27,12 +28,6 @@ use Rattle.file_rule.specs.Made.{IsRowOf, IsMadeRow, IsKnownAs, revision_with, f
 use Rattle.file_rule.specs.declared.revision.RuledRow.{RuledRow}
 use Rattle.hg_model.proofs.ParentOrder.{file_order-turned, manifest_order-again}
 use Rattle.file_rule.proofs.OrderLemmas.{plain-order}
-
-eq_true : (x y : List ℕ) → bytes_eq x y ≡ true → x ≡ y
-eq_true x y h = (bytes_eq-Decides x y).0 h
-
-some_none : {X : Type 0} (x : X) → Some x ≡ None → ⊥
-some_none x e = cc
 
 -- ---- a parent's revision
 
@@ -65,7 +60,7 @@ object-behind [] ys id h = refl
 object-behind (x ∷ xs) ys id h = by (has_id id x) refl (object-behind xs ys id)
   where
     by : (t : Bool) → has_id id x ≡ t → (object_at xs id ≡ None → object_at (xs ++ ys) id ≡ object_at ys id) → object_at (x ∷ (xs ++ ys)) id ≡ object_at ys id
-    by true e go = absurd (some_none x (sym (rw e refl) ∙ h))
+    by true e go = absurd (some_none {x = x} (sym (rw e refl) ∙ h))
     by false e go = rw e (go (sym (rw e refl) ∙ h))
 
 -- ---- a kept revision
@@ -82,7 +77,7 @@ module _ (known : List Revision) (added : AreAdded known) where
       by true t =
           let same : r ≡ rev = same_Some _ _ (sym (rw t refl) ∙ is) in
           let held : IsFileHeld known (row_with path flag r) = record { revision = h.2.revision; is_held = h.2.is_held; parents = h.2.parents; text = h.2.text } in
-          (ap (λ (x : FileRevision). blob_id x.body) (sym same) ∙ eq_true (blob_id r.body) blob t, subst (λ (x : FileRevision). IsFileHeld known (row_with path flag x)) same held)
+          (ap (λ (x : FileRevision). blob_id x.body) (sym same) ∙ bytes_eq-is (blob_id r.body) blob t, subst (λ (x : FileRevision). IsFileHeld known (row_with path flag x)) same held)
       by false t = absurd (none-some _ (sym (rw t refl) ∙ is))
 
   -- one of the two, the first before the second
@@ -184,10 +179,10 @@ not_known known path node pq text meta body spells order none = by (revision_of 
         cases : (t : Bool) → (bytes_eq pq.0 r.q && bytes_eq pq.1 r.p) ≡ t → file_order meta r.p r.q ≡ pq
         cases true e =
             let parts = both (bytes_eq pq.0 r.q) (bytes_eq pq.1 r.p) e in
-            file_order-turned meta r.p r.q ∙ (λ i. file_order meta (sym (eq_true pq.0 r.q parts.0) i) (sym (eq_true pq.1 r.p parts.1) i)) ∙ sym order
+            file_order-turned meta r.p r.q ∙ (λ i. file_order meta (sym (bytes_eq-is pq.0 r.q parts.0) i) (sym (bytes_eq-is pq.1 r.p parts.1) i)) ∙ sym order
         cases false e =
             let parts = both (bytes_eq pq.0 r.p) (bytes_eq pq.1 r.q) (or_cases (bytes_eq pq.0 r.p && bytes_eq pq.1 r.q) (bytes_eq pq.0 r.q && bytes_eq pq.1 r.p) h e) in
-            (λ i. file_order meta (sym (eq_true pq.0 r.p parts.0) i) (sym (eq_true pq.1 r.q parts.1) i)) ∙ sym order
+            (λ i. file_order meta (sym (bytes_eq-is pq.0 r.p parts.0) i) (sym (bytes_eq-is pq.1 r.q parts.1) i)) ∙ sym order
 
     by : (o : Option Revision) → revision_of known (FilesAt path) node ≡ o → knows_same known (revision_with path node pq.0 pq.1 text) ≡ false
     by None e = ap (is_same_as given) e
@@ -197,7 +192,7 @@ not_known known path node pq text meta body spells order none = by (revision_of 
         test false h = h
         test true h =
             let parts = both (bytes_eq text r.text) (same_parents (FilesAt path) pq.0 pq.1 r.p r.q) h in
-            absurd (none r e (sym (eq_true text r.text parts.0)) (ordered r parts.1))
+            absurd (none r e (sym (bytes_eq-is text r.text parts.0)) (ordered r parts.1))
 
 -- the parents that are found are those of the text
 pub found-parents : (known : List Revision) (path : Bytes) (node : Id) (found : Id × Id) (meta : Option Bytes) (body : Bytes) (r : Revision) → AreFileParents known path node found

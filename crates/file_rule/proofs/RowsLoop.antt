@@ -137,18 +137,6 @@ fresh-rises (r ∷ s ∷ fresh) (Some f) path up below is =
 
 -- ---- one row more
 
-pub take-map : {X Y : Type 0} (f : X → Y) (xs : List X) (i : ℕ) (x : X) → slice_get xs i ≡ Some x → map f (take (i + 1) xs) ≡ map f (take i xs) ++ f x ∷ []
-take-map f [] i x at = absurd (none-some _ at)
-take-map {X} {Y} f (y ∷ xs) zero x at = ap (λ (z : X). f z ∷ []) (same_Some _ _ at)
-take-map {X} {Y} f (y ∷ xs) (suc i) x at =
-    let plus : suc i + 1 ≡ suc (i + 1) = omega arith in
-    ap (λ (n : ℕ). map f (take n (y ∷ xs))) plus ∙ ap (λ (l : List Y). f y ∷ l) (take-map f xs i x at)
-
-pub get-unmap : {X Y : Type 0} (f : X → Y) (xs : List X) (i : ℕ) (y : Y) → slice_get (map f xs) i ≡ Some y → (x : X) × (slice_get xs i ≡ Some x) × (f x ≡ y)
-get-unmap f [] i y at = absurd (none-some _ at)
-get-unmap f (x ∷ xs) zero y at = (x, refl, same_Some _ _ at)
-get-unmap f (x ∷ xs) (suc i) y at = get-unmap f xs i y at
-
 -- ---- files among rows
 
 -- one row more, a file

@@ -24,15 +24,15 @@ use Rattle.pair_known.specs.Rows.{RowValue, row_value}
 use Rattle.pair_known.specs.Fresh.{group_path, fresh_revision}
 use Rattle.pair_known.specs.Drafts.{AreFreshOf}
 use Rattle.pair_known.specs.declared.fresh_files.FreshFile.{FreshFile}
-use Rattle.pair_known.proofs.HeldViews.{each_get}
 use Rattle.text_model.proofs.Search.{IsRising, rising}
+use Rattle.text_model.proofs.Elements.{each_at, get_unmap}
 use Rattle.file_rule.specs.declared.parents.Parent.{Parent}
 use Rattle.file_rule.specs.declared.revision.RuledRow.{RuledRow}
 use Rattle.file_rule.specs.declared.rows.RuledRows.{RuledRows}
 use Rattle.file_rule.specs.Parents.{row_with}
 use Rattle.file_rule.specs.Made.{fresh_list, IsFresh, IsRowOf, IsMadeRow}
 use Rattle.file_rule.specs.Rows.{AreRows, AreMadeRows}
-use Rattle.file_rule.proofs.RowsLoop.{entry-in, IsAhead, ahead-here, among-more, among-same, get-unmap, rows-below, held-more, held-here}
+use Rattle.file_rule.proofs.RowsLoop.{entry-in, IsAhead, ahead-here, among-more, among-same, rows-below, held-more, held-here}
 
 copied : (o : Option (Bor Entry)) → option_map manifest_entry (option_copied o) ≡ option_map (λ e. manifest_entry e.now) o
 copied None = refl
@@ -74,14 +74,14 @@ fresh-more (r ∷ fresh) made rows row h e = (some-left r rows row h.0, fresh-mo
 pub content-at : (objects : List Object) (files : List FileRow) (ts : List TreeRow) (i : ℕ) (file : FileRow) → files ≡ map file_row_of ts → slice_get files i ≡ Some file → is_blob_mode file.mode ≡ true → Each (IsRowHeld objects) ts
     → (t : TreeRow) × (t.id ≡ file.id) × IsBlobHeld objects t
 content-at objects files ts i file same at blob held =
-    let g = get-unmap file_row_of ts i file (ap (λ (l : List FileRow). slice_get l i) (sym same) ∙ at) in
-    (g.0, ap (λ (x : FileRow). x.id) g.2, (each_get (IsRowHeld objects) ts i g.0 g.1 held).blob (ap (λ (x : FileRow). is_blob_mode x.mode) g.2 ∙ blob))
+    let g = get_unmap file_row_of ts i file (ap (λ (l : List FileRow). slice_get l i) (sym same) ∙ at) in
+    (g.0, ap (λ (x : FileRow). x.id) g.2, (each_at (IsRowHeld objects) ts i g.0 g.1 held).blob (ap (λ (x : FileRow). is_blob_mode x.mode) g.2 ∙ blob))
 
 -- a row that is no file is passed over
 pub past : (known : List Revision) (objects : List Object) (files : List FileRow) (first second : Parent) (ps : Parents) (ts : List TreeRow) (ruled : RuledRows) → AreRows known objects files first second ps ts
     → (i : ℕ) (file : FileRow) → slice_get files i ≡ Some file → is_blob_mode file.mode ≡ false → AreMadeRows known ruled ps (take i ts) → AreMadeRows known ruled ps (take (i + 1) ts)
 past known objects files first second ps ts ruled are i file at other before =
-    let g = get-unmap file_row_of ts i file (ap (λ (l : List FileRow). slice_get l i) (sym are.of_files) ∙ at) in
+    let g = get_unmap file_row_of ts i file (ap (λ (l : List FileRow). slice_get l i) (sym are.of_files) ∙ at) in
     let same : ruled_rows ps (take i ts) ≡ ruled_rows ps (take (i + 1) ts) = ap (map (ruled_row ps)) (sym (among-same ts i g.0 g.1 (ap (λ (x : FileRow). is_blob_mode x.mode) g.2 ∙ other))) in
     record {
       rows = before.rows ∙ ap (map row_value) same;
@@ -94,7 +94,7 @@ module _ (known : List Revision) (objects : List Object) (files : List FileRow) 
     (e f : Option (Bor Entry)) (e_is : option_map (λ x. manifest_entry x.now) e ≡ find (λ x. bytes_eq x.path file.path) (first.manifest).now)
     (f_is : option_map (λ x. manifest_entry x.now) f ≡ find (λ x. bytes_eq x.path file.path) (second.manifest).now) where
   pub here : (t : TreeRow) × (slice_get ts i ≡ Some t) × (file_row_of t ≡ file)
-  here = get-unmap file_row_of ts i file (ap (λ (l : List FileRow). slice_get l i) (sym are.of_files) ∙ at)
+  here = get_unmap file_row_of ts i file (ap (λ (l : List FileRow). slice_get l i) (sym are.of_files) ∙ at)
 
   here_is : is_blob_mode (here.0).mode ≡ true
   here_is = ap (λ (x : FileRow). is_blob_mode x.mode) here.2 ∙ file_is
@@ -104,8 +104,8 @@ module _ (known : List Revision) (objects : List Object) (files : List FileRow) 
     in_first = entry-in known (first.manifest).now (ps.first).rows file.path (option_map manifest_entry (option_copied e)) (are.in_first).entries (are.in_first).files (copied e ∙ e_is);
     in_second = entry-in known (second.manifest).now (ps.second).rows file.path (option_map manifest_entry (option_copied f)) (are.in_second).entries (are.in_second).files (copied f ∙ f_is);
     of_file = here.2;
-    blob = each_get (λ (t : TreeRow). is_blob_mode t.mode ≡ true → t.id ≡ blob_id t.content) ts i here.0 here.1 are.ids here_is;
-    content = (each_get (IsRowHeld objects) ts i here.0 here.1 are.contents).blob here_is;
+    blob = each_at (λ (t : TreeRow). is_blob_mode t.mode ≡ true → t.id ≡ blob_id t.content) ts i here.0 here.1 are.ids here_is;
+    content = (each_at (IsRowHeld objects) ts i here.0 here.1 are.contents).blob here_is;
   }
 
   row_is : row_with file.path (flag_of_mode file.mode) (ruled_revision (revision_at (ps.first).rows file.path) (revision_at (ps.second).rows file.path) here.0) ≡ ruled_row ps here.0

@@ -13,7 +13,7 @@ ghost use Rattle.pair_model.specs.Rule as rule;
 ghost use Rattle.file_rule.specs.Parents.{IsRevisionAt, row_with};
 ghost use Rattle.file_rule.specs.Made.{IsMadeRow, IsRowOf, IsFresh, IsKnownAs, revision_with};
 
-use bridge_text::{Bytes, Id, NoMemory, each_is_byte, node_id};
+use bridge_text::{Bytes, Id, NoMemory, node_id};
 use git_object::{Mode, Objects};
 use hg_filelog::{canonical_pair, plain_into};
 use hg_manifest::{Entry, Flag};
@@ -150,7 +150,6 @@ fn plain_text(alloc: Global, body: &[u8]) -> Result<Bytes, NoMemory>
     ensures bytes { IsBytes body.now }
     ensures text { IfOk result (λ text. text ≡ file_text.file_text (plain_meta body.now) body.now) }
 {
-    each_is_byte(body);
     let mut text = Vec::new(alloc);
     plain_into(&mut text, body)?;
     Ok(Bytes::keep(text))

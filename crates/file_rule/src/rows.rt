@@ -27,6 +27,7 @@ impl RuledRows {
         requires { AreFreshFiles (self.old.fresh ++ fresh_list made.fresh) }
         ensures rows { OnOk result (self.new.rows ≡ self.old.rows ++ made.row ∷ []) }
         ensures fresh { OnOk result (self.new.fresh ≡ self.old.fresh ++ fresh_list made.fresh) }
+        ensures rises { OnOk result (AreFreshFiles self.new.fresh) }
     {
         self.rows.push(made.row)?;
         match made.fresh {
@@ -62,7 +63,6 @@ pub fn make_rows(
         let in_first = first_walk.get(file.path());
         let in_second = second_walk.get(file.path());
         let made = make_row(alloc, known, c, file, in_first, in_second)?;
-        ruled.fresh.check();
         ruled.push(made)?;
     }
     Ok(ruled)

@@ -5,7 +5,7 @@ use Rattle.text_model.specs.Text.{Bytes}
 use Rattle.text_model.specs.Id.{object_id}
 use Rattle.text_model.specs.Fault.{FaultName, Refusal, refusal}
 use Rattle.text_model.specs.Fault as fault
-use Rattle.git_model.specs.Object.{Object, object_fault, objects_after}
+use Rattle.git_model.specs.Object.{Object, object_fault, objects_after, objects_after_all}
 use Rattle.git_model.specs.Stream.{Placed, StreamFraming, stream_framing, placed_fault, objects_fault, reading_by, stream_reading}
 use Rattle.bridge_text.specs.Kinds.{object_kind}
 use Rattle.bridge_text.specs.declared.kind.Kind.{Kind}
@@ -14,7 +14,7 @@ use Rattle.git_store.specs.declared.fault.GitAddFault.{GitAddFault}
 use Rattle.git_store.specs.declared.fault.GitAddFault.TheVariants as add
 use Rattle.git_store.specs.Faults as store
 use Rattle.git_batch.specs.StreamFaults.{IsJudgement, addition_fault_at}
-use Rattle.git_batch.specs.Arrivals.{kind_of, arrival_of, known_from, refused, AddsAll}
+use Rattle.git_batch.specs.Arrivals.{kind_of, arrival_of, refused, AddsAll}
 
 pub kind_of-object_kind : (k : Kind) → kind_of (object_kind k) ≡ k
 kind_of-object_kind Blob = refl
@@ -84,15 +84,16 @@ reading-is known bytes objects is none = (λ i. reading_by (is i) (none i))
 
 -- ---- lists
 
-pub known_from-push : (known : List Object) (before : List Placed) (o : Placed) → known_from known (before ++ o ∷ []) ≡ objects_after (known_from known before) o.object
-known_from-push known [] o = refl
-known_from-push known (p ∷ before) o = known_from-push (objects_after known p.object) before o
+pub known-push : (known : List Object) (before : List Placed) (o : Placed)
+    → objects_after_all known (map (λ p. p.object) (before ++ o ∷ [])) ≡ objects_after (objects_after_all known (map (λ p. p.object) before)) o.object
+known-push known [] o = refl
+known-push known (p ∷ before) o = known-push (objects_after known p.object) before o
 
 pub arrivals-push : (before : List Placed) (o : Placed) → map arrival_of (before ++ o ∷ []) ≡ map arrival_of before ++ arrival_of o ∷ []
 arrivals-push [] o = refl
 arrivals-push (p ∷ before) o = ap (λ l. arrival_of p ∷ l) (arrivals-push before o)
 
-pub adds-push : (known : List Object) (before : List Placed) (p : Placed) → AddsAll known (map (λ o. o.object) before) → object_fault (known_from known before) p.object ≡ None
+pub adds-push : (known : List Object) (before : List Placed) (p : Placed) → AddsAll known (map (λ o. o.object) before) → object_fault (objects_after_all known (map (λ o. o.object) before)) p.object ≡ None
     → AddsAll known (map (λ o. o.object) (before ++ p ∷ []))
 adds-push known [] p adds none = (none, tt)
 adds-push known (o ∷ before) p adds none = (adds.0, adds-push (objects_after known o.object) before p adds.1 none)

@@ -109,13 +109,6 @@ pub refused : (at : ℕ) (text digits word size : Bytes) (why : Refusal) → Som
     → line_fault (header_of at (words text)) ≡ Some why
 refused at text digits word size why e is = ap (λ (l : List Bytes). line_fault (header_of at l)) (words_are (words text) digits word size e) ∙ ap line_fault is
 
-pub no_kind : (a b : Bool) → a ≡ false → (a && b) ≡ false
-no_kind a b e = rw e refl
-
-pub no_size : (a b : Bool) → b ≡ false → (a && b) ≡ false
-no_size true b e = e
-no_size false b e = refl
-
 pub no_form : (at : ℕ) (text digits word size : Bytes) → Some (digits, word, size) ≡ three_words (words text) → (is_kind_word word && is_decimal size) ≡ false
     → line_fault (header_of at (words text)) ≡ Some (refusal_at fault.Line at)
 no_form at text digits word size e form = refused at text digits word size (refusal_at fault.Line at) e (header_no_form at digits word size form)

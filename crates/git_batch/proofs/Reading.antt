@@ -6,7 +6,7 @@ use Rattle.text_model.specs.Id.{object_id}
 use Rattle.text_model.specs.Fault.{Refusal, refusal}
 use Rattle.text_model.specs.Fault as fault
 use Rattle.text_model.proofs.Options.{none_some}
-use Rattle.git_model.specs.Object.{Object, object_fault, objects_after}
+use Rattle.git_model.specs.Object.{Object, object_fault, objects_after, objects_after_all}
 use Rattle.git_model.specs.Stream.{object_text, Placed, StreamFraming, object_reading, checked_at, ObjectReading, NoObject, Found, BadObject, stream_from, stream_framing, stream_reading, placed_fault}
 use Rattle.git_model.proofs.StreamLemmas.{stream_refused, stream_item, stream_end}
 use Rattle.git_model.proofs.StreamTakes.{object_takes}
@@ -19,15 +19,15 @@ use Rattle.git_batch.specs.declared.gather.Gathered.{Gathered}
 use Rattle.git_batch.specs.declared.stream_fault.StreamFault.{StreamFault}
 use Rattle.git_batch.specs.declared.stream_fault.StreamFault.TheVariants.{Refused, Read, Memory}
 use Rattle.git_batch.specs.StreamFaults.{IsFault, IsJudgement, stream_fault}
-use Rattle.git_batch.specs.Arrivals.{arrival_of, known_from, Reads, AddsAll}
+use Rattle.git_batch.specs.Arrivals.{arrival_of, Reads, AddsAll}
 use Rattle.git_batch.specs.Steps.{Adds}
-use Rattle.git_batch.proofs.AddLemmas.{placed-wrong, fault-passes, fault-stops, fault-ends, fault_in, refused-is, reading-is, known_from-push, arrivals-push, adds-push}
+use Rattle.git_batch.proofs.AddLemmas.{placed-wrong, fault-passes, fault-stops, fault-ends, fault_in, refused-is, reading-is, known-push, arrivals-push, adds-push}
 use Rattle.git_batch.proofs.StreamLaws.{passes-one}
 
 -- These objects were added to those known, none of which is refused, and listed.
 pub record AreAdded (known : List Object) (g : Gathered) (before : List Placed) : Type 0 where
   pub adds : AddsAll known (map (λ o. o.object) before)
-  pub store : g.store ≡ known_from known before
+  pub store : g.store ≡ objects_after_all known (map (λ o. o.object) before)
   pub listed : g.arrivals ≡ map arrival_of before
 
 -- These objects were read, and the whole input is refused as the rest is behind them. A framing of the rest takes `more` objects at least.
@@ -163,7 +163,7 @@ object_goes_on (suc more) known whole rest g new at o before enough framed fault
 pub added_push : (known : List Object) (g new : Gathered) (before : List Placed) (p : Placed) → AreAdded known g before → Adds p g new → AreAdded known new (before ++ p ∷ [])
 added_push known g new before p so_far adds = record {
   adds = adds-push known before p so_far.adds (subst (λ (k : List Object). object_fault k p.object ≡ None) so_far.store (passes-one g.store p adds.faultless).adds);
-  store = adds.store ∙ ap (λ (k : List Object). objects_after k p.object) so_far.store ∙ sym (known_from-push known before p);
+  store = adds.store ∙ ap (λ (k : List Object). objects_after k p.object) so_far.store ∙ sym (known-push known before p);
   listed = adds.arrivals ∙ ap (λ l. l ++ arrival_of p ∷ []) so_far.listed ∙ sym (arrivals-push before p);
 }
 

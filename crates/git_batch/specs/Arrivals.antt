@@ -3,7 +3,7 @@ use Rattle.std.specs.Prelude.{◌≡◌, ℕ, Bool, List, [], ◌∷◌, map, co
 use Rattle.text_model.specs.Text.{Bytes}
 use Rattle.text_model.specs.Id.{ObjectKind, blob, tree, commit, tag, same_kind}
 use Rattle.text_model.specs.Fault.{Refusal}
-use Rattle.git_model.specs.Object.{Object, object_fault, objects_after}
+use Rattle.git_model.specs.Object.{Object, object_fault, objects_after, objects_after_all}
 use Rattle.git_model.specs.Stream.{Placed, stream_reading}
 use Rattle.bridge_text.specs.Kinds.{object_kind}
 use Rattle.bridge_text.specs.declared.kind.Kind.{Kind}
@@ -30,11 +30,6 @@ is_of kind a = same_kind kind (object_kind a.kind)
 abbrev pub count_of : ObjectKind → List ObjectArrival → ℕ
 count_of kind arrivals = count_by (is_of kind) arrivals
 
--- the known objects after all these, one after the other
-abbrev pub known_from : List Object → List Placed → List Object
-known_from known [] = known
-known_from known (o ∷ objects) = known_from (objects_after known o.object) objects
-
 -- why a reading is refused
 abbrev pub refused : Result (List Placed) Refusal → Option Refusal
 refused (Ok objects) = None
@@ -43,7 +38,7 @@ refused (Err why) = Some why
 -- The bytes bring these objects to those known, all are listed, and the store holds what is known then; or the fault is what the bytes are refused for.
 abbrev pub Reads : List Object → Bytes → Result (List Object × List ObjectArrival) StreamFault → Type 0
 Reads known bytes (Ok read) =
-    (objects : List Placed) × (stream_reading known bytes ≡ Ok objects) × (read.1 ≡ map arrival_of objects) × (read.0 ≡ known_from known objects)
+    (objects : List Placed) × (stream_reading known bytes ≡ Ok objects) × (read.1 ≡ map arrival_of objects) × (read.0 ≡ objects_after_all known (map (λ o. o.object) objects))
 Reads known bytes (Err fault) = IsFault (refused (stream_reading known bytes)) fault
 
 -- none of the objects is refused behind those before it
@@ -57,7 +52,7 @@ pub record Brought (known : List Object) (bytes : Option Bytes) (store : List Ob
   pub objects : List Placed
   pub adds : AddsAll known (map (λ o. o.object) objects)
   pub listed : arrivals ≡ map arrival_of objects
-  pub holds : store ≡ known_from known objects
+  pub holds : store ≡ objects_after_all known (map (λ o. o.object) objects)
   pub reads : IfSome bytes (λ bytes. stream_reading known bytes ≡ Ok objects)
 
 -- the bytes bring exactly these objects

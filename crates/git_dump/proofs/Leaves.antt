@@ -9,11 +9,11 @@ use Rattle.text_model.specs.Lists.{In, Each}
 use Rattle.text_model.specs.Text.{Bytes}
 use Rattle.text_model.specs.Id.{Id}
 use Rattle.text_model.proofs.TestLemmas.{both, or_true}
+use Rattle.text_model.proofs.Options.{not_true}
 use Rattle.git_model.specs.Tree.{is_directory, TreeEntry, has_distinct}
 use Rattle.git_model.specs.Object.{Object, tree_at}
 use Rattle.git_model.specs.Shape.{Leaf, cut_name, leaves_below, is_named, leaf_named}
 use Rattle.tree_shape.proofs.Leaves.{same, other}
-use Rattle.tree_shape.proofs.Names.{not-true}
 use Rattle.git_model.specs.Unfold.{has_no_entries}
 use Rattle.tree_shape.proofs.Rebuilding.{file-leaf}
 use Rattle.tree_shape.specs.Wholes.{put_name, leaf_at, is_leaf, entry_leaves, leaves_in}
@@ -88,7 +88,7 @@ module _ (known : List Object) (below : Id → List Leaf) (named : (id : Id) →
   apart : (e : TreeEntry) (entries : List TreeEntry) → has_distinct (map (λ e. e.name) (e ∷ entries)) ≡ true → (f : TreeEntry) → In f entries → e.name ≢ f.name
   apart e entries h f i q =
       let parts = both (not (list_any (bytes_eq e.name) (map (λ e. e.name) entries))) (has_distinct (map (λ e. e.name) entries)) h in
-      true≢false (sym (any entries f i q) ∙ not-true (list_any (bytes_eq e.name) (map (λ e. e.name) entries)) parts.0)
+      true≢false (sym (any entries f i q) ∙ not_true (list_any (bytes_eq e.name) (map (λ e. e.name) entries)) parts.0)
     where
       any : (es : List TreeEntry) (f : TreeEntry) → In f es → e.name ≡ f.name → list_any (bytes_eq e.name) (map (λ e. e.name) es) ≡ true
       any [] f i q = absurd i

@@ -5,6 +5,7 @@ use Rattle.std.specs.List.{flat_map}
 use Rattle.text_model.specs.Lists.{In}
 use Rattle.text_model.specs.Text.{Bytes}
 use Rattle.text_model.specs.Id.{Id, blob, tree}
+use Rattle.text_model.proofs.Elements.{each_in, each_from}
 use Rattle.git_model.specs.Tree.{is_directory, is_blob_mode, TreeEntry, tree_text}
 use Rattle.git_model.specs.Object.{Object, object_of, object_at, tree_at, AreObjects}
 use Rattle.git_model.specs.Shape.{Leaf, leaves_below, leaf_named, leaf_object, shape_entries, shape_objects}
@@ -12,7 +13,7 @@ use Rattle.git_model.specs.Unfold.{FileRow, is_kind_there, is_object_there, join
 use Rattle.git_model.proofs.ObjectLemmas.{tree_at-tree}
 use Rattle.tree_shape.specs.Walks.{row_at, entry_visits}
 use Rattle.tree_shape.proofs.Again.{root-sound, root-tree}
-use Rattle.tree_shape.proofs.Elements.{each-in, each-from, in-flat}
+use Rattle.tree_shape.proofs.Elements.{in-flat}
 use Rattle.tree_shape.proofs.Held.{held}
 use Rattle.tree_shape.proofs.Rebuilding.{leaves-some, level}
 use Rattle.tree_shape.specs.Wholes.{Sound, leaf_at, entry_leaves, leaves_in}
@@ -48,9 +49,9 @@ module _ (known : List Object) where
   walkable (suc depth) path id entries s all = (
     entries,
     s.0,
-    each-from (IsWalkableEntry known (IsWalkable known depth)) entries (λ e i. record {
+    each_from (IsWalkableEntry known (IsWalkable known depth)) entries (λ e i. record {
       subtree = λ d.
-          let b = each-in _ entries e s.1 i d in
+          let b = each_in _ entries e s.1 i d in
           walkable depth (joined_path path e.name) e.id b.0 b.1 (subtree-there depth path e d (entry-there depth path id entries e s.0 i all));
       file = λ d. file-there depth path e d (entry-there depth path id entries e s.0 i all);
     }),
@@ -89,7 +90,7 @@ module _ (known : List Object) (are : AreObjects known) where
       by : (t : Bool) → is_directory e.mode ≡ t → (if t then shape_objects depth (leaves_below e.name (map full (flat_map (entry_leaves known (leaves_in known depth)) entries)))
           else leaf_object (leaf_named e.name (map full (flat_map (entry_leaves known (leaves_in known depth)) entries)))) ≡ (if t then walk_objects known depth e.id else file_objects known e)
       by true d =
-          let b = each-in _ entries e s.1 i d in
+          let b = each_in _ entries e s.1 i d in
           ap (shape_objects depth) (below-filled (content_for known) e.name (flat_map (entry_leaves known (leaves_in known depth)) entries) ∙ ap (map full) (tree-below known depth entries e (tree_at-tree known id entries are s.0).2 i d))
           ∙ rec (joined_path path e.name) e.id b.0 b.1 (subtree-there known depth path e d all)
       by false d =

@@ -7,9 +7,9 @@ use Rattle.std.proofs.lemmas.Slice.Eq.{bytes_eq-Decides}
 use Rattle.text_model.specs.Lists.{In, first_of_each, only_new}
 use Rattle.text_model.specs.Id.{Id, has_id}
 use Rattle.text_model.proofs.OrderLemmas.{has_id-In, In-has_id}
+use Rattle.text_model.proofs.Elements.{each_in}
 use Rattle.git_model.specs.Object.{Object, same_object}
 use Rattle.git_store.proofs.DistinctLemmas.{bytes_eq-comm}
-use Rattle.tree_shape.proofs.Elements.{each-in}
 use Rattle.tree_shape.proofs.FileSets.{bool-same}
 use Rattle.git_model.specs.Stream.{stream_text}
 use Rattle.git_dump.specs.declared.walk.Walk.{Walk}
@@ -81,7 +81,7 @@ same-ids objects id = bool-same (has_id (ids_of (first_met [] objects)) id) (has
     (λ h. In-has_id (ids_of objects) id (of-first [] objects id (has_id-In (ids_of (first_met [] objects)) id h)))
     (λ h.
     let o = of-ids objects id (has_id-In (ids_of objects) id h) in
-    subst (λ (x : Id). has_id (ids_of (first_met [] objects)) x ≡ true) (sym o.2) (each-in (λ p. has_id (ids_of (first_met [] objects)) p.id ≡ true) objects o.0 (first-met [] objects) o.1))
+    subst (λ (x : Id). has_id (ids_of (first_met [] objects)) x ≡ true) (sym o.2) (each_in (λ p. has_id (ids_of (first_met [] objects)) p.id ≡ true) objects o.0 (first-met [] objects) o.1))
 
 pub first_met-new : (old new : List Object) → first_met (ids_of (first_met [] old)) new ≡ only_new same_object old new
 first_met-new old new =

@@ -15,7 +15,8 @@ use Rattle.git_model.specs.Object.{Object, object_at, entries_of, tree_at}
 use Rattle.git_model.specs.Unfold.{is_kind_there}
 use Rattle.git_model.specs.Stream.{stream_text}
 use Rattle.text_model.proofs.Options.{none_some, some_is}
-use Rattle.tree_shape.proofs.Elements.{in-left, in-right, in-append}
+use Rattle.text_model.proofs.Elements.{in_left, in_right}
+use Rattle.tree_shape.proofs.Elements.{in-append}
 use Rattle.git_view.proofs.Found.{found-id, some-tree, there}
 use Rattle.git_dump.specs.declared.walk.Walk.{Walk}
 use Rattle.git_dump.specs.Walks.{IsKnown, object_list, objects_at, file_objects, entry_objects, walk_objects, IsWalkableEntry, IsWalkable, IsMetEntry, IsClosed}
@@ -26,7 +27,7 @@ abbrev pub AreMet : List Id → List Object → Type 0
 AreMet met objects = Each (λ o. has_id met o.id ≡ true) objects
 
 pub stays-met : (met more : List Id) (id : Id) → has_id met id ≡ true → has_id (met ++ more) id ≡ true
-stays-met met more id h = In-has_id (met ++ more) id (in-left id met more (has_id-In met id h))
+stays-met met more id h = In-has_id (met ++ more) id (in_left id met more (has_id-In met id h))
 
 entry-stays : (met more : List Id) (e : TreeEntry) → IsMetEntry met e → IsMetEntry (met ++ more) e
 entry-stays met more e h = record { subtree = λ d. stays-met met more e.id (h.subtree d); file = λ d. stays-met met more e.id (h.file d) }
@@ -106,7 +107,7 @@ first-met met (o ∷ objects) = by (has_id met o.id) refl (first-met met objects
     by false e known new =
         let rest : List Id = ids_of (first_met (met ++ o.id ∷ []) objects) in
         let is : (met ++ o.id ∷ []) ++ rest ≡ met ++ o.id ∷ rest = append_assoc met (o.id ∷ []) rest in (
-          In-has_id (met ++ o.id ∷ rest) o.id (in-right o.id met (o.id ∷ rest) (inl refl)),
+          In-has_id (met ++ o.id ∷ rest) o.id (in_right o.id met (o.id ∷ rest) (inl refl)),
           subst (λ (m : List Id). AreMet m objects) is new,
         )
 

@@ -12,9 +12,7 @@ use git_batch::put_with_id;
 use git_object::{Objects, TreeEntry};
 use git_store::GitStore;
 use std::alloc::Global;
-
-/// How many trees lie on the way to a file of the root tree at most, the root among them: a path has at most 256 names.
-const TREE_DEPTH: usize = 257;
+use tree_shape::LEVELS;
 
 /// The objects that a walk has met, and the stream of those that it writes.
 #[derive(Drop)]
@@ -62,7 +60,7 @@ impl Walk {
         let Some(commit) = store.commit(id) else {
             return Ok(());
         };
-        self.visit_tree(store, &commit.tree, TREE_DEPTH)?;
+        self.visit_tree(store, &commit.tree, LEVELS)?;
         self.visit_object(store, id)
     }
 

@@ -3,11 +3,13 @@ use Rattle.std.proofs.Common.{◌≡◌, Bool, true, false, true≢false, List, 
 use Rattle.std.specs.Prelude.{not, ◌&&◌, ◌||◌, filter, bytes_eq, if◌then◌else◌}
 use Rattle.std.specs.List.{filter_map, list_any, cons_option}
 use Rattle.std.proofs.lemmas.Slice.Eq.{bytes_eq-Decides}
+use Rattle.std.proofs.lemmas.List.Elements.{filter_map-append}
 use Rattle.text_model.specs.Lists.{Each, in_order}
 use Rattle.text_model.specs.Text.{Bytes, is_below}
 use Rattle.text_model.specs.Id.{Id, tree, object_id}
-use Rattle.text_model.proofs.OrderLemmas.{is_below-irreflexive, is_below-chain}
+use Rattle.text_model.proofs.OrderLemmas.{is_below-irreflexive, is_below-chain, below-other, above-other}
 use Rattle.text_model.proofs.Options.{some_is}
+use Rattle.text_model.proofs.TestLemmas.{bytes_eq-self}
 use Rattle.git_model.specs.Tree.{Mode, File, GroupFile, Exec, Link as LinkMode, Directory, Gitlink, is_directory, is_blob_mode}
 use Rattle.git_model.specs.Unfold.{FileRow, by_paths}
 use Rattle.git_model.specs.Residue.{ResidueKind, Group, Link, Empty, ResidueItem, kind_of_row, item_of, residue_of, is_plain, fits, carried, plain_mode, plain_file, plain_files, is_group_at, mode_with, file_with, row_of_item, rows_with}
@@ -35,23 +37,6 @@ is_group item = elim item.kind as (λ _. Bool) [ Group ↦ true | Link id ↦ fa
 
 -- ---- paths that differ
 
-pub below_apart : (x y : Bytes) → is_below x y ≡ true → bytes_eq x y ≡ false
-below_apart x y h = by (bytes_eq x y) refl
-  where
-    by : (t : Bool) → bytes_eq x y ≡ t → bytes_eq x y ≡ false
-    by true e = absurd (true≢false (sym h ∙ ap (is_below x) (sym ((bytes_eq-Decides x y).0 e)) ∙ is_below-irreflexive x))
-    by false e = e
-
-pub above_apart : (x y : Bytes) → is_below x y ≡ true → bytes_eq y x ≡ false
-above_apart x y h = by (bytes_eq y x) refl
-  where
-    by : (t : Bool) → bytes_eq y x ≡ t → bytes_eq y x ≡ false
-    by true e = absurd (true≢false (sym h ∙ ap (is_below x) ((bytes_eq-Decides y x).0 e) ∙ is_below-irreflexive x))
-    by false e = e
-
-own : (x : Bytes) → bytes_eq x x ≡ true
-own x = (bytes_eq-Decides x x).1 refl
-
 neither_of : (a b r : Bool) → b ≡ false → r ≡ false → (a && b || r) ≡ false
 neither_of true b r h k = rw (h, k) refl
 neither_of false b r h k = k
@@ -77,7 +62,7 @@ at_mode p path Gitlink id rest = refl
 none_at : (p : Bytes) (rows : List FileRow) → Behind path_of p rows → list_any (is_group_at p) (residue_of rows) ≡ false
 none_at p [] h = refl
 none_at p (x ∷ xs) h =
-    at_mode p x.path x.mode x.id (residue_of xs) ∙ neither_of (is_group_mode x.mode) (bytes_eq x.path p) (list_any (is_group_at p) (residue_of xs)) (above_apart p x.path h.0) (none_at p xs h.1)
+    at_mode p x.path x.mode x.id (residue_of xs) ∙ neither_of (is_group_mode x.mode) (bytes_eq x.path p) (list_any (is_group_at p) (residue_of xs)) (above-other p x.path h.0) (none_at p xs h.1)
 
 -- an item says of just those rows that their group may write them
 abbrev pub GroupsAre : List ResidueItem → List FileRow → Type 0
@@ -86,14 +71,14 @@ GroupsAre items rows = Each (λ r. list_any (is_group_at r.path) items ≡ is_gr
 pub groups_again : (rows : List FileRow) → Ascends path_of rows → GroupsAre (residue_of rows) rows
 groups_again [] u = tt
 groups_again (x ∷ xs) u = (
-  at_mode x.path x.path x.mode x.id (residue_of xs) ∙ only_first (is_group_mode x.mode) (bytes_eq x.path x.path) (list_any (is_group_at x.path) (residue_of xs)) (own x.path) (none_at x.path xs u.0),
+  at_mode x.path x.path x.mode x.id (residue_of xs) ∙ only_first (is_group_mode x.mode) (bytes_eq x.path x.path) (list_any (is_group_at x.path) (residue_of xs)) (bytes_eq-self x.path) (none_at x.path xs u.0),
   further xs u.0 (groups_again xs u.1),
 )
   where
     further : (ys : List FileRow) → Behind path_of x.path ys → GroupsAre (residue_of xs) ys → GroupsAre (residue_of (x ∷ xs)) ys
     further [] b g = tt
     further (y ∷ ys) b g =
-        (at_mode y.path x.path x.mode x.id (residue_of xs) ∙ only_last (is_group_mode x.mode) (bytes_eq x.path y.path) (list_any (is_group_at y.path) (residue_of xs)) (below_apart x.path y.path b.0) ∙ g.0, further ys b.1 g.1)
+        (at_mode y.path x.path x.mode x.id (residue_of xs) ∙ only_last (is_group_mode x.mode) (bytes_eq x.path y.path) (list_any (is_group_at y.path) (residue_of xs)) (below-other x.path y.path b.0) ∙ g.0, further ys b.1 g.1)
 
 pub mode_again : (items : List ResidueItem) (path : Bytes) (mode : Mode) → list_any (is_group_at path) items ≡ is_group_mode mode → is_blob_mode mode ≡ true → mode_with items path (plain_mode mode) ≡ mode
 mode_again items path File h b = rw h refl
@@ -157,14 +142,6 @@ filter_append {X = X} p (x ∷ xs) ys = by (p x) refl (filter_append p xs ys)
     by : (t : Bool) → p x ≡ t → filter p (xs ++ ys) ≡ filter p xs ++ filter p ys → filter p (x ∷ xs ++ ys) ≡ filter p (x ∷ xs) ++ filter p ys
     by true e go = rw e (ap (λ (zs : List X). x ∷ zs) go)
     by false e go = rw e go
-
-taken_append : {X Y : Type 0} (f : X → Option Y) (xs ys : List X) → filter_map f (xs ++ ys) ≡ filter_map f xs ++ filter_map f ys
-taken_append f [] ys = refl
-taken_append {Y = Y} f (x ∷ xs) ys = by (f x) (taken_append f xs ys)
-  where
-    by : (o : Option Y) → filter_map f (xs ++ ys) ≡ filter_map f xs ++ filter_map f ys → cons_option o (filter_map f (xs ++ ys)) ≡ cons_option o (filter_map f xs) ++ filter_map f ys
-    by None go = go
-    by (Some y) go = ap (λ (zs : List Y). y ∷ zs) go
 
 blob_with : (items : List ResidueItem) (path : Bytes) (mode : Mode) → is_blob_mode mode ≡ true → is_blob_mode (mode_with items path mode) ≡ true
 blob_with items path mode h = by (list_any (is_group_at path) items) refl
@@ -273,7 +250,7 @@ group_at_is p g h = rw h refl
 
 no_group_at : (p : Bytes) (gs : List ResidueItem) → AllGroups gs → Behind path_of_item p gs → list_any (is_group_at p) gs ≡ false
 no_group_at p [] a b = refl
-no_group_at p (g ∷ gs) a b = rw (group_at_is p g a.0 ∙ above_apart p g.path b.0, no_group_at p gs a.1 b.1) refl
+no_group_at p (g ∷ gs) a b = rw (group_at_is p g a.0 ∙ above-other p g.path b.0, no_group_at p gs a.1 b.1) refl
 
 none_picked : (files : List FileRow) → filter_map (picked []) files ≡ []
 none_picked [] = refl
@@ -282,7 +259,7 @@ none_picked (f ∷ fs) = none_picked fs
 -- the first group item is at none of the files
 picked_past : (g : ResidueItem) (gs : List ResidueItem) (files : List FileRow) → g.kind ≡ Group → Behind path_of g.path files → filter_map (picked (g ∷ gs)) files ≡ filter_map (picked gs) files
 picked_past g gs [] k b = refl
-picked_past g gs (f ∷ fs) k b = rw (group_at_is f.path g k ∙ below_apart g.path f.path b.0) (ap (cons_option (picked gs f)) (picked_past g gs fs k b.1))
+picked_past g gs (f ∷ fs) k b = rw (group_at_is f.path g k ∙ below-other g.path f.path b.0) (ap (cons_option (picked gs f)) (picked_past g gs fs k b.1))
 
 -- each path is that of a file
 abbrev AreThere : List ResidueItem → List FileRow → Type 0
@@ -290,7 +267,7 @@ AreThere gs files = Each (λ g. list_any (λ (row : FileRow). bytes_eq row.path 
 
 there_past : (f : FileRow) (gs : List ResidueItem) (fs : List FileRow) → Behind path_of_item f.path gs → AreThere gs (f ∷ fs) → AreThere gs fs
 there_past f [] fs b h = tt
-there_past f (g ∷ gs) fs b h = (rw (below_apart f.path g.path b.0) at h.0, there_past f gs fs b.1 h.1)
+there_past f (g ∷ gs) fs b h = (rw (below-other f.path g.path b.0) at h.0, there_past f gs fs b.1 h.1)
 
 behind_there : (p q : Bytes) (files : List FileRow) → Behind path_of p files → list_any (λ (row : FileRow). bytes_eq row.path q) files ≡ true → is_below p q ≡ true
 behind_there p q [] b h = absurd (true≢false (sym h))
@@ -312,7 +289,7 @@ all_picked (g ∷ gs) (f ∷ fs) a u v h = by (bytes_eq f.path g.path) refl (all
     by : (t : Bool) → bytes_eq f.path g.path ≡ t → (AreThere gs fs → filter_map (picked gs) fs ≡ gs) → (AreThere (g ∷ gs) fs → filter_map (picked (g ∷ gs)) fs ≡ g ∷ gs) → filter_map (picked (g ∷ gs)) (f ∷ fs) ≡ g ∷ gs
     by true e go later =
         let same = (bytes_eq-Decides f.path g.path).0 e in
-        let at : is_group_at f.path g ≡ true = group_at_is f.path g a.0 ∙ ap (bytes_eq g.path) same ∙ own g.path in
+        let at : is_group_at f.path g ≡ true = group_at_is f.path g a.0 ∙ ap (bytes_eq g.path) same ∙ bytes_eq-self g.path in
         let rest = picked_past g gs fs a.0 (subst (λ p. Behind path_of p fs) same v.0) ∙ go (there_past f gs fs (subst (λ p. Behind path_of_item p gs) (sym same) u.0) h.1) in
         rw at (λ i. record { path = same i; kind = sym a.0 i } ∷ rest i)
     by false e go later =
@@ -320,7 +297,7 @@ all_picked (g ∷ gs) (f ∷ fs) a u v h = by (bytes_eq f.path g.path) refl (all
         let below = behind_there f.path g.path fs v.0 there in
         let behind = further_behind f.path g.path gs below u.0 in
         let no : list_any (is_group_at f.path) gs ≡ false = no_group_at f.path gs a.1 behind in
-        let first : is_group_at f.path g ≡ false = group_at_is f.path g a.0 ∙ above_apart f.path g.path below in
+        let first : is_group_at f.path g ≡ false = group_at_is f.path g a.0 ∙ above-other f.path g.path below in
         rw (first, no) (later (there, there_past f gs fs behind h.1))
 
 is_group_kind : (path : Bytes) (kind : ResidueKind) → is_group (record { path = path; kind = kind }) ≡ true → kind ≡ Group
@@ -395,7 +372,7 @@ item_keeps path (Some kind) i e = ap (λ (x : ResidueItem). x.path) (sym (some_i
 pub residue-with : (items : List ResidueItem) (files : List FileRow) → Ascends path_of files → Each IsPlainRow files → Ascends path_of_item items → AllFit files items → residue_of (rows_with items files) ≡ items
 unfolding rows_with
 residue-with items files u k v f =
-    let a = taken_append item_in (map (file_with items) files) (filter_map row_of_item items) in
+    let a = filter_map-append item_in (map (file_with items) files) (filter_map row_of_item items) in
     let b = items_with items files k ∙ sym (picked_same items files) ∙ all_picked (filter is_group items) files (groups_all items) (up_filter is_group items v) u (groups_there files items f) in
     let c = other_items items in
     taken_ordered item_in path_of path_of_item (λ x y e. item_keeps x.path (kind_of_row x.mode x.id) y e) (map (file_with items) files ++ filter_map row_of_item items)
@@ -422,7 +399,7 @@ plain_is_file Gitlink h = absurd (true≢false (sym h))
 -- of files behind a path none has it
 none_there : (p : Bytes) (files : List FileRow) → Behind path_of p files → list_any (λ (row : FileRow). bytes_eq row.path p && is_plain row.mode) files ≡ false
 none_there p [] b = refl
-none_there p (f ∷ fs) b = rw (above_apart p f.path b.0, none_there p fs b.1) refl
+none_there p (f ∷ fs) b = rw (above-other p f.path b.0, none_there p fs b.1) refl
 
 -- the mode of the file that a group item fits
 fit_mode : (all files : List FileRow) → Ascends path_of files → ((p : Bytes) → list_any (λ (row : FileRow). bytes_eq row.path p && is_plain row.mode) all ≡ true → Each (λ (r : FileRow). r.path ≡ p → r.mode ≡ File) files) → (items : List ResidueItem) → AllFit all items → GroupsFit items files

@@ -13,15 +13,16 @@ use Rattle.text_model.specs.Cuts.{Lacks}
 use Rattle.text_model.specs.Id.{Id, IsId, hex, ObjectKind, blob, tree, commit, tag, kind_word}
 use Rattle.text_model.specs.Fault.{Refusal, refusal_at, reach, input_limit}
 use Rattle.text_model.specs.Fault as fault
-use Rattle.text_model.proofs.TestLemmas.{both}
+use Rattle.text_model.proofs.TestLemmas.{both, bytes_eq-is}
 use Rattle.text_model.proofs.EachLemmas.{Each-append}
 use Rattle.text_model.proofs.HexLemmas.{length-hex, id_of_hex-hex, hex-lacks}
 use Rattle.text_model.proofs.DecimalLemmas.{DigitsOf, digits-is_decimal, number_of-decimal, is_decimal-decimal}
+use Rattle.text_model.proofs.FaultLemmas.{reach-within}
 use Rattle.git_model.specs.Object.{Object}
 use Rattle.git_model.specs.Stream.{object_text, Header, BadLine, header_by, header_of, is_kind_word, kind_of, size_limit, is_missing, unless_bad, line_by, line_reading, body_fault, Found, NoObject, with_content, object_reading, stream_text, IsFit, ReadsAll, StreamFraming, stream_from, stream_framing}
-use Rattle.git_model.proofs.StreamWords.{words, words-more, words-one, header_said, same_bytes}
+use Rattle.git_model.proofs.StreamWords.{words, words-more, words-one, header_said}
 use Rattle.git_model.proofs.StreamLemmas.{stream_item, stream_end}
-use Rattle.git_model.proofs.StreamLine.{reach-within, line_reading-lf, object_behind_line}
+use Rattle.git_model.proofs.StreamLine.{line_reading-lf, object_behind_line}
 
 -- the line of an object without its LF
 abbrev pub header_line : Object → Bytes
@@ -117,7 +118,7 @@ header-says at o is within =
 
 last_of_missing : (text : Bytes) → is_missing text ≡ true → slice_index text (length text - 1) ≡ 103
 last_of_missing text missing =
-    let same : codes " missing" ≡ drop (length text - 8) text = same_bytes (codes " missing") (drop (length text - 8) text) missing in
+    let same : codes " missing" ≡ drop (length text - 8) text = bytes_eq-is (codes " missing") (drop (length text - 8) text) missing in
     let long : 8 ≡ length (drop (length text - 8) text) = ap (λ (l : Bytes). length l) same in
     let place : length text - 8 + 7 ≡ length text - 1 = omega (arith, long, length-drop (length text - 8) text) in
     ap (λ (i : ℕ). get_or text i 0) (sym place) ∙ sym (get_or-drop (length text - 8) text 7 0) ∙ ap (λ (l : Bytes). get_or l 7 0) (sym same)

@@ -16,9 +16,6 @@ use Rattle.git_model.specs.Stream.{NoLine, Header, size_by, line_size, unless_ba
 pub reach-there : (total end : ℕ) → end ≤ total → reach total end ≡ reach end end
 reach-there total end le = grind (arith, nat_tests)
 
-pub reach-within : (total end : ℕ) → end ≤ total → end ≤ input_limit → reach total end ≡ None
-reach-within total end le within = grind (arith, nat_tests)
-
 -- the end of the input is a refusal
 pub record Ends (total end : ℕ) : Type 0 where
   pub why : Refusal

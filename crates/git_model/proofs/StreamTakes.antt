@@ -1,5 +1,5 @@
 -- What is read as an object is what is written of it.
-use Rattle.std.proofs.Common.{◌≡◌, ◌<◌, ◌≤◌, ◌+◌, ◌^◌, ℕ, zero, suc, Bool, true, false, ◌==◌, List, [], ◌∷◌, ◌++◌, length, map, take, drop, Option, None, Some, decimal, refl, sym, ap, ◌∙◌, subst, arith, append_assoc, append-nil, length-append, length-take, take-append-drop, ltb-true, ltb-false, eqb-true}
+use Rattle.std.proofs.Common.{◌≡◌, ◌<◌, ◌≤◌, ◌+◌, ◌^◌, ℕ, zero, suc, Bool, true, false, ◌==◌, List, [], ◌∷◌, ◌++◌, length, map, take, drop, Option, None, Some, decimal, refl, sym, ap, ◌∙◌, subst, arith, append_assoc, append-nil, length-append, length-take, take-append-drop, ltb-false, eqb-true}
 use Rattle.std.specs.Prelude.{nat_lt, slice_index}
 use Rattle.std.specs.List.{join_with_byte}
 use Rattle.std.proofs.lemmas.List.Splits.{join_with_byte-slice_split}
@@ -16,6 +16,7 @@ use Rattle.text_model.proofs.CutLemmas.{cut_of-takes}
 use Rattle.text_model.proofs.HexLemmas.{id_of_hex-takes, id_of_hex-some}
 use Rattle.text_model.proofs.DecimalLemmas.{decimal-number_of}
 use Rattle.text_model.proofs.Options.{some_none}
+use Rattle.text_model.proofs.FaultLemmas.{within-reach}
 use Rattle.git_model.specs.Object.{Object}
 use Rattle.git_model.specs.Stream.{object_text, LineReading, NoLine, Header, BadLine, header_by, header_of, is_kind_word, kind_of, size_limit, is_missing, line_size, unless_bad, line_by, line_reading, or_line, body_fault, ObjectReading, NoObject, Found, BadObject, with_content, object_behind, object_reading, IsFit, IsFitStream, StreamFraming, put_placed, stream_text, stream_from, stream_framing}
 use Rattle.git_model.proofs.StreamWords.{words, kind_of-takes}
@@ -31,20 +32,6 @@ no_header id kind size e = cc
 
 bad_line : (why : Refusal) → BadLine why ≡ NoLine → ⊥
 bad_line why e = cc
-
--- where nothing is refused the end is there and within the limit
-within_reach : (total end : ℕ) → reach total end ≡ None → (end ≤ total) × (end ≤ input_limit)
-within_reach total end none = by (nat_lt input_limit end) (nat_lt input_limit total) (nat_lt total end) refl refl refl
-  where
-    some_none : (why : Refusal) → Some why ≡ None → ⊥
-    some_none why e = cc
-
-    by : (a b d : Bool) → nat_lt input_limit end ≡ a → nat_lt input_limit total ≡ b → nat_lt total end ≡ d → (end ≤ total) × (end ≤ input_limit)
-    by true true d x y z = absurd (some_none (refusal_at fault.InputLimit input_limit) (sym (rw (x, y) refl) ∙ none))
-    by true false true x y z = absurd (some_none (refusal_at fault.Truncated total) (sym (rw (x, y, z) refl) ∙ none))
-    by false b true x y z = absurd (some_none (refusal_at fault.Truncated total) (sym (rw (x, z) refl) ∙ none))
-    by true false false x y z = absurd (omega (arith, ltb-true _ _ x, ltb-false _ _ y, ltb-false _ _ z))
-    by false b false x y z = (ltb-false _ _ z, ltb-false _ _ x)
 
 -- ---- three words that say a header
 
@@ -178,7 +165,7 @@ body_takes at size rest none = by (reach (at + length rest) (at + size + 1)) (sl
     by (Some why) is_lf r i e = absurd (some_none why e)
     by None false r i e = absurd (some_none (refusal_at fault.Line (at + size)) e)
     by None true r i e =
-        let w = within_reach (at + length rest) (at + size + 1) r in
+        let w = within-reach (at + length rest) (at + size + 1) r in
         record { there = omega (arith, w.0); fits = w.1; ends = eqb-true (slice_index rest size) lf i }
 
 found_at : (at : ℕ) (text rest : Bytes) (id : Id) (kind : ObjectKind) (size : ℕ) (o : Object) → (text ≡ spaced (hex id ∷ kind_word kind ∷ decimal size ∷ [])) × IsId id × (size ≤ size_limit kind)

@@ -1,5 +1,5 @@
 -- The three words of an object's line.
-use Rattle.std.proofs.Common.{◌≡◌, ◌<◌, ◌^◌, ℕ, Bool, true, false, ◌&&◌, ◌==◌, List, [], ◌∷◌, ◌++◌, Option, None, Some, refl, sym, ap, ◌∙◌, arith, lt-ltb, ltb-false, eqb-true}
+use Rattle.std.proofs.Common.{◌≡◌, ◌<◌, ◌^◌, ℕ, Bool, true, false, ◌&&◌, ◌==◌, List, [], ◌∷◌, ◌++◌, Option, None, Some, refl, sym, ap, ◌∙◌, arith, lt-ltb, ltb-false}
 use Rattle.std.specs.Prelude.{nat_lt, bytes_eq}
 use Rattle.std.specs.List.{slice_split}
 use Rattle.text_model.specs.Text.{Bytes, sp, is_decimal, number_of, decimal_below}
@@ -7,7 +7,7 @@ use Rattle.text_model.specs.Cuts.{Lacks, cut_of}
 use Rattle.text_model.specs.Id.{Id, is_hex_id, bytes_of_digits, id_of_hex, ObjectKind, blob, tree, commit, tag, kind_word}
 use Rattle.text_model.specs.Fault.{Refusal, refusal, refusal_at}
 use Rattle.text_model.specs.Fault as fault
-use Rattle.text_model.proofs.TestLemmas.{both, differs}
+use Rattle.text_model.proofs.TestLemmas.{both, differs, bytes_eq-is}
 use Rattle.text_model.proofs.CutLemmas.{cut_of-takes, cut_of-none}
 use Rattle.text_model.proofs.Options.{some_is, none_some}
 use Rattle.git_model.specs.Stream.{BadLine, header_of, header_by, is_kind_word, find_kind, kind_of, size_limit}
@@ -96,22 +96,12 @@ header_over at id size kind is none = by (nat_lt (number_of size) (2 ^ 64)) refl
     by true t = absurd (some_none (number_of size) (sym (rw (is, t) refl) ∙ none))
     by false t = rw (lt-ltb (size_limit kind) (number_of size) (omega (arith, ltb-false _ _ t, small kind))) refl
 
-pub same_bytes : (xs ys : Bytes) → bytes_eq xs ys ≡ true → xs ≡ ys
-same_bytes [] [] h = refl
-same_bytes [] (y ∷ ys) h = absurd cc
-same_bytes (x ∷ xs) [] h = absurd cc
-same_bytes (x ∷ xs) (y ∷ ys) h =
-    let p = both (x == y) (bytes_eq xs ys) h in
-    let first : x ≡ y = eqb-true x y p.0 in
-    let others = same_bytes xs ys p.1 in
-    rw (first, others) refl
-
 found_kind : (word : Bytes) (kinds : List ObjectKind) (kind : ObjectKind) → find_kind word kinds ≡ Some kind → word ≡ kind_word kind
 found_kind word [] kind e = absurd (none_some e)
 found_kind word (k ∷ ks) kind e = by (bytes_eq (kind_word k) word) refl (found_kind word ks kind)
   where
     by : (t : Bool) → bytes_eq (kind_word k) word ≡ t → (find_kind word ks ≡ Some kind → word ≡ kind_word kind) → word ≡ kind_word kind
-    by true t others = sym (same_bytes (kind_word k) word t) ∙ ap kind_word (some_is (sym (rw t refl) ∙ e))
+    by true t others = sym (bytes_eq-is (kind_word k) word t) ∙ ap kind_word (some_is (sym (rw t refl) ∙ e))
     by false t others = others (sym (rw t refl) ∙ e)
 
 -- the word of a kind

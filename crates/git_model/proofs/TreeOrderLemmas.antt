@@ -7,7 +7,7 @@ use Rattle.std.proofs.lemmas.Slice.Eq.{bytes_eq-Decides}
 use Rattle.text_model.specs.Lists.{Each, rises}
 use Rattle.text_model.specs.Text.{Bytes, is_below}
 use Rattle.text_model.proofs.EachLemmas.{Each-weaker}
-use Rattle.text_model.proofs.TestLemmas.{both, or_true}
+use Rattle.text_model.proofs.TestLemmas.{both, or_true, bytes_eq-other}
 use Rattle.text_model.proofs.OrderLemmas.{is_below-chain, is_below-irreflexive, is_below-one_way}
 use Rattle.text_model.proofs.Options.{not_true, or_neither}
 use Rattle.git_model.specs.Tree.{is_directory, TreeEntry, RawEntry, order_name, sort_name, raw_sort_name, is_directory_text, is_entry_below, rises_behind, has_name, is_file_named}
@@ -57,13 +57,6 @@ last_below (x ∷ y ∷ ys) e r h =
 
 -- ---- a name that comes twice is that of a file first, and of a directory then
 
-not_one : (a b : Bytes) → (a ≡ b → ⊥) → bytes_eq a b ≡ false
-not_one a b h = by (bytes_eq a b) refl
-  where
-    by : (t : Bool) → bytes_eq a b ≡ t → bytes_eq a b ≡ false
-    by true e = absurd (h ((bytes_eq-Decides a b).0 e))
-    by false e = e
-
 -- a name with its slash doesn't stand before the name
 slash_after : (name : Bytes) → is_below (name ++ 47 ∷ []) name ≡ false
 slash_after name = is_below-one_way name (name ++ 47 ∷ []) (before name)
@@ -75,7 +68,7 @@ slash_after name = is_below-one_way name (name ++ 47 ∷ []) (before name)
 module _ (e : RawEntry) where
   -- behind a file's entry no name of another entry comes again
   file_new : is_directory_text e.mode ≡ false → (x : TreeEntry) → is_below (key x) (raw_sort_name e) ≡ true → bytes_eq x.name e.name ≡ false
-  file_new file x below = not_one x.name e.name (λ same. by (is_directory x.mode) refl same)
+  file_new file x below = bytes_eq-other x.name e.name (λ same. by (is_directory x.mode) refl same)
     where
       as_file : is_below (key x) e.name ≡ true
       as_file = sym (ap (λ (d : Bool). is_below (key x) (order_name d e.name)) file) ∙ below
@@ -94,7 +87,7 @@ module _ (e : RawEntry) where
       by : (t : Bool) → is_directory x.mode ≡ t → bytes_eq x.name e.name ≡ is_file_named e.name x
       by false t = rw t refl
       by true t =
-          not_one x.name e.name (λ same. true≢false (sym (sym (λ i. is_below (order_name (t i) (same i)) (e.name ++ 47 ∷ [])) ∙ as_directory) ∙ is_below-irreflexive (e.name ++ 47 ∷ [])))
+          bytes_eq-other x.name e.name (λ same. true≢false (sym (sym (λ i. is_below (order_name (t i) (same i)) (e.name ++ 47 ∷ [])) ∙ as_directory) ∙ is_below-irreflexive (e.name ++ 47 ∷ [])))
           ∙ sym (rw t refl)
 
   new_by : (d : Bool) → is_directory_text e.mode ≡ d → (xs : List TreeEntry) → Each (λ (x : TreeEntry). is_below (key x) (raw_sort_name e) ≡ true) xs → has_name xs e.name ≡ (d && list_any (is_file_named e.name) xs)

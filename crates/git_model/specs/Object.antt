@@ -1,6 +1,7 @@
 -- Git objects by their ids, and the tests of an object that is added to those known.
 use Rattle.std.specs.Prelude.{◌≡◌, Bool, not, ◌&&◌, nat_lt, if◌then◌else◌, List, [], ◌∷◌, ◌++◌, length, map, Option, Some, None, is_some, bytes_eq, IsTrue}
 use Rattle.std.specs.List.{find, list_any}
+use Rattle.text_model.specs.Limits.{parent_limit}
 use Rattle.text_model.specs.Lists.{Each}
 use Rattle.text_model.specs.Text.{Bytes}
 use Rattle.text_model.specs.Id.{Id, ObjectKind, blob, tree, commit, tag, same_kind, object_id}
@@ -56,7 +57,7 @@ abbrev pub commit_name : Bytes → Option FaultName
 commit_name content =
     if is_some (commit_fault content) then Some fault.ObjectShape
     else if not (has_distinct (parent_ids content)) then Some fault.ParentTwice
-    else if nat_lt 64 (length (parent_ids content)) then Some fault.ParentLimit
+    else if nat_lt parent_limit (length (parent_ids content)) then Some fault.ParentLimit
     else None
 
 abbrev pub content_fault : ObjectKind → Bytes → Option FaultName
@@ -75,3 +76,8 @@ object_fault known o = elim (content_fault o.kind o.content) as (λ _. Option Fa
 -- the known objects after an addition: an object that is there changes nothing
 abbrev pub objects_after : List Object → Object → List Object
 objects_after known o = if knows_object known o.id then known else known ++ o ∷ []
+
+-- the known objects after all these, one after the other
+abbrev pub objects_after_all : List Object → List Object → List Object
+objects_after_all known [] = known
+objects_after_all known (o ∷ os) = objects_after_all (objects_after known o) os

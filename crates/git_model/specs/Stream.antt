@@ -3,7 +3,7 @@ use Rattle.std.specs.Prelude.{◌≡◌, ℕ, zero, suc, ◌+◌, ◌≤◌, Boo
 use Rattle.std.specs.List.{flat_map, list_all, slice_split, ends_with}
 use Rattle.text_model.specs.Limits.{commit_limit, text_limit}
 use Rattle.text_model.specs.Lists.{Each}
-use Rattle.text_model.specs.Text.{Bytes, IsBytes, lf, sp, line, spaced, first_line, is_decimal, number_of}
+use Rattle.text_model.specs.Text.{Bytes, lf, sp, line, spaced, first_line, is_decimal, number_of}
 use Rattle.text_model.specs.Id.{Id, IsId, hex, is_hex_id, bytes_of_digits, ObjectKind, blob, tree, commit, tag, kind_word, same_kind, object_id}
 use Rattle.text_model.specs.Fault.{Refusal, refusal, refusal_at, reach, input_limit}
 use Rattle.text_model.specs.Fault as fault
@@ -15,10 +15,6 @@ object_text o = line (spaced (hex o.id ∷ kind_word o.kind ∷ decimal (length 
 
 unfoldable pub stream_text : List Object → Bytes
 stream_text objects = flat_map object_text objects
-
--- the bytes are the stream of the objects
-abbrev pub IsStream : Bytes → List Object → Type 0
-IsStream bytes objects = Each (λ o. IsId o.id × IsBytes o.content) objects × (bytes ≡ stream_text objects)
 
 -- each object has the id of its kind and content
 abbrev pub IsChecked : List Object → Type 0

@@ -2,6 +2,7 @@
 use Rattle.std.proofs.Common.{◌≡◌, ◌+◌, Bool, true, false, ◌∷◌, ◌++◌, length, drop, Option, Some, None, option_map, refl, sym, ap, subst, ◌∙◌, arith, length-append}
 use Rattle.std.specs.Prelude.{◌&&◌}
 use Rattle.std.specs.Option.{option_and_then}
+use Rattle.std.proofs.lemmas.Bool.{and_right}
 use Rattle.text_model.specs.Text.{Bytes, lf}
 use Rattle.text_model.specs.Id.{Id, IsId, hex, is_hex_id, id_of_hex}
 use Rattle.text_model.specs.Cuts.{Lacks, cut_of}
@@ -84,10 +85,6 @@ no_id text e = by (is_hex_id text) refl
     by true t = absurd (none_some (sym e ∙ id_of_hex-some text t))
     by false t = t
 
-not_id : (a b : Bool) → b ≡ false → (a && b) ≡ false
-not_id true b h = h
-not_id false b h = refl
-
 -- the first line, where there is one, isn't the word and an id
 pub id_line-none : (word text front rest : Bytes) → id_line word text ≡ None → cut_of lf text ≡ Some (front, rest) → is_id_line word front ≡ false
 unfolding id_line worded_line
@@ -97,5 +94,5 @@ id_line-none word text front rest e cut = by (begins word front) refl
     by true t =
         let line : worded_line word text ≡ Some (drop (length word) front, rest) = rw (cut, t) refl in
         let none : id_of_hex (drop (length word) front) ≡ None = map-none (λ (i : Id). (i, rest)) (id_of_hex (drop (length word) front)) (sym (ap (option_and_then (λ (p : Bytes × Bytes). option_map (λ (i : Id). (i, p.1)) (id_of_hex p.0))) line) ∙ e) in
-        not_id (begins word front) (is_hex_id (drop (length word) front)) (no_id (drop (length word) front) none)
+        and_right (begins word front) (is_hex_id (drop (length word) front)) (no_id (drop (length word) front) none)
     by false t = rw t refl

@@ -4,6 +4,7 @@ use Rattle.std.specs.Prelude.{◌||◌}
 use Rattle.std.specs.Option.{option_and_then}
 use Rattle.std.specs.List.{find, list_any}
 use Rattle.std.proofs.lemmas.Slice.Eq.{bytes_eq-Decides}
+use Rattle.std.proofs.lemmas.Bool.{or_cases}
 use Rattle.text_model.specs.Text.{Bytes, IsBytes, lf}
 use Rattle.text_model.specs.Id.{Id, IsId, hex, ObjectKind, blob, tree, commit, tag, kind_word}
 use Rattle.text_model.specs.Cuts.{cut_of}
@@ -43,13 +44,9 @@ type_line-takes text kind rest e =
     let is_word : line.0.0 ≡ kind_word kind = word ∙ ap (λ (p : ObjectKind × Bytes). kind_word p.0) read.2 in
     worded_line-takes (codes "type ") text (kind_word kind) rest (line.1 ∙ (λ i. Some (is_word i, ap (λ (p : ObjectKind × Bytes). p.1) read.2 i)))
 
-either : (a b : Bool) → (a || b) ≡ true → (a ≡ true) ⊎ (b ≡ true)
-either true b h = inl refl
-either false b h = inr h
-
 any-takes : {X : Type 0} (p : X → Bool) (xs : List X) → list_any p xs ≡ true → (x : X) × (p x ≡ true)
 any-takes p [] h = absurd (true≢false (sym h))
-any-takes p (x ∷ xs) h = elim (either (p x) (list_any p xs) h) [
+any-takes p (x ∷ xs) h = elim (or_cases (p x) (list_any p xs) h) [
   | inl e ↦ (x, e)
   | inr e ↦ any-takes p xs e
 ]

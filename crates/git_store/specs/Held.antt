@@ -1,5 +1,6 @@
 -- What this crate's entries are in the words of the model.
 use Rattle.std.specs.Prelude.{◌≡◌, not, nat_lt, if◌then◌else◌, List, map, length, Option, Some, None, ⊤}
+use Rattle.text_model.specs.Limits.{parent_limit}
 use Rattle.text_model.specs.Text.{Bytes}
 use Rattle.text_model.specs.Id.{Id, ObjectKind}
 use Rattle.text_model.specs.Id as kind
@@ -33,7 +34,7 @@ pub record IsParsed (k : ObjectKind) (content : Bytes) (p : Parsed) : Type 0 whe
 
 -- what is wrong with the parents of a commit
 abbrev pub parents_fault : List Id → Option FaultName
-parents_fault ids = if not (has_distinct ids) then Some ParentTwice else if nat_lt 64 (length ids) then Some ParentLimit else None
+parents_fault ids = if not (has_distinct ids) then Some ParentTwice else if nat_lt parent_limit (length ids) then Some ParentLimit else None
 
 abbrev pub object_in : Id × Held → Object
 object_in e = record { id = e.0; kind = parsed_kind e.1.parsed; content = e.1.content }

@@ -1,5 +1,9 @@
-ghost use Rattle.std.specs.Prelude.{◌≡◌, None, MatchOption};
+ghost use Rattle.std.specs.Prelude.{◌≡◌, ℕ, List, None, MatchOption, option_map};
+ghost use Rattle.std.specs.Option.{option_copied};
 ghost use Rattle.text_model.specs.Id as kinds;
+ghost use Rattle.text_model.specs.Id.{ObjectKind};
+ghost use Rattle.bridge_text.specs.Kinds.{object_kind};
+ghost use Rattle.git_model.specs.Object.{AreObjects, object_at, tree_at};
 ghost use Rattle.git_store.specs.Known.{AreKnown, content_at, IsCommitAt, IsTagAt};
 
 use crate::held::Parsed;
@@ -40,12 +44,20 @@ impl GitStore {
 impl Objects for GitStore {
     ghost objects = { λ store. store };
 
-    fn content(&self, id: &Id) -> Option<(Kind, &[u8])> {
+    fn content(&self, id: &Id) -> Option<(Kind, &[u8])>
+        ensures content { option_map {U = ObjectKind × List ℕ} (λ x. (object_kind x.0, x.1.now)) result ≡ option_map {U = ObjectKind × List ℕ} (λ o. (o.kind, o.content)) (object_at self.now id.now) }
+        ensures objects { AreObjects self.now }
+        ensures known { AreKnown self.now }
+    {
         let held = self.get(id)?;
         Some((held.parsed.kind(), held.content.as_slice()))
     }
 
-    fn tree(&self, id: &Id) -> Option<&Tree> {
+    fn tree(&self, id: &Id) -> Option<&Tree>
+        ensures tree { option_copied result ≡ tree_at self.now id.now }
+        ensures objects { AreObjects self.now }
+        ensures known { AreKnown self.now }
+    {
         let held = self.get(id)?;
         match &held.parsed {
             Parsed::Tree(tree) => Some(tree),

@@ -5,11 +5,8 @@ ghost use Rattle.git_store.specs.Faults.{IsFault};
 ghost use Rattle.git_store.specs.Held.{parents_fault};
 
 use crate::fault::GitAddFault;
-use bridge_text::{Id, IdSet, NoMemory};
+use bridge_text::{Id, IdSet, NoMemory, PARENT_LIMIT};
 use std::alloc::Global;
-
-/// How many parents a commit has at most.
-const MOST_PARENTS: usize = 64;
 
 /// Checks that no parent is named twice, and then that there are at most 64.
 pub fn check_parents(alloc: Global, parents: &[Id]) -> Result<(), GitAddFault>
@@ -19,7 +16,7 @@ pub fn check_parents(alloc: Global, parents: &[Id]) -> Result<(), GitAddFault>
     if !are_distinct(alloc, parents)? {
         return Err(GitAddFault::ParentTwice);
     }
-    if parents.len() > MOST_PARENTS {
+    if parents.len() > PARENT_LIMIT {
         return Err(GitAddFault::ParentLimit);
     }
     Ok(())

@@ -10,7 +10,7 @@ use Rattle.text_model.proofs.Options.{none_some}
 use Rattle.hg_model.specs.Chunk.{field_of, chunk_text, magic_text, chunk_fault, magic_fault}
 use Rattle.hg_model.specs.Delta.{Patches}
 use Rattle.hg_model.specs.Bundle.{Place, InGroup, AtPath, Framing, framed_end, put_item, framing_from, bundle_framing, listing_fault, bundle_text, BundleEntry, FileGroup, Bundle, entry_payload, group_text, IsBundleEntry, IsSize, IsBundle, IsWithinLimits, AreShort, delta_limit, path_limit, length_limit, place_after, place_after_empty, is_path}
-use Rattle.hg_model.specs.Revision.{Group, Changesets, Manifests, FilesAt, Revision, knows, known_after}
+use Rattle.hg_model.specs.Revision.{Group, Changesets, Manifests, FilesAt, Revision, knows, known_after, known_after_all}
 use Rattle.hg_model.specs.Reading.{Arrival, base_of, AreTextsFrom, AreTextsOf, revision_by, bundle_reading}
 use Rattle.hg_model.proofs.BundleEntryLemmas.{length-payload, entry_of-payload}
 use Rattle.hg_model.proofs.ChunkLemmas.{length-chunk}
@@ -20,7 +20,7 @@ use Rattle.hg_model.proofs.ListingLemmas.{group_text-cons, group_text-nil, files
 use Rattle.hg_model.proofs.BundleLemmas.{listed_bundle}
 use Rattle.hg_model.proofs.TakenLemmas.{chunk_none}
 use Rattle.hg_bundle.specs.declared.arrival.Arrival as listed
-use Rattle.hg_bundle.specs.Arrivals.{Reads, arrival_of, revisions_of, known_after_all, refused}
+use Rattle.hg_bundle.specs.Arrivals.{Reads, arrival_of, revisions_of, refused}
 use Rattle.hg_bundle.specs.Brought.{revisions_with, AreOfGroup, AreOfFiles, AreListed, BringsBundle}
 use Rattle.hg_bundle.proofs.Reading.{arrivals_of, ends_Ok, ends_Err, reading_is, magic_refused}
 use Rattle.hg_bundle.proofs.Taken.{IsTaken, Brings, entry_brings, path_brings, err_ok, same_ok, all_taken}
@@ -202,10 +202,6 @@ files_bring (suc fuel) known previous sum at (f ∷ fs) arrivals are short bytes
     some (byte ∷ bytes) is = omega arith
 
 -- ---- a whole bundle
-
-known_after_all-append : (known xs ys : List Revision) → known_after_all known (xs ++ ys) ≡ known_after_all (known_after_all known xs) ys
-known_after_all-append known [] ys = refl
-known_after_all-append known (x ∷ xs) ys = known_after_all-append (known_after known x) xs ys
 
 behind_magic : (known : List Revision) (bytes rest : Bytes) (arrivals : List Arrival) → bytes ≡ magic_text ++ rest → bundle_reading known bytes ≡ Ok arrivals
     → arrivals_of known [] 0 (framing_from (suc (suc (suc (suc (suc (suc (length rest))))))) (InGroup Changesets) true 6 rest) ≡ Ok arrivals

@@ -9,7 +9,7 @@ use Rattle.text_model.specs.Fault as fault
 use Rattle.text_model.proofs.Options.{none_some, some_is}
 use Rattle.hg_model.specs.Chunk.{field_of, chunk_text, magic_text, chunk_fault, magic_fault, trailing_fault}
 use Rattle.hg_model.specs.Bundle.{Place, InGroup, AtPath, Framing, framed_end, framing_from, bundle_framing, length_limit, is_short_at, is_path, place_after, place_after_empty, put_item, BundleEntry, entry_of}
-use Rattle.hg_model.specs.Revision.{Group, Changesets, FilesAt, Revision, known_after, knows}
+use Rattle.hg_model.specs.Revision.{Group, Changesets, FilesAt, Revision, known_after, knows, known_after_all}
 use Rattle.hg_model.specs.Reading.{Arrival, EntryText, put_arrival, arrivals_from, bundle_reading, base_of, entry_fault, entry_text, revision_by, text_or_empty}
 use Rattle.hg_model.proofs.ChunkLemmas.{length-chunk}
 use Rattle.hg_model.proofs.FramingLemmas.{framing_at, framing_refused, framing_empty, framing_item, framing_behind_magic}
@@ -21,7 +21,7 @@ use Rattle.hg_bundle.specs.declared.fault.BundleFault.TheVariants.{Refused, Read
 use Rattle.hg_bundle.specs.declared.arrival.Arrival as listed
 use Rattle.hg_bundle.specs.declared.gather.Gathered.{Gathered}
 use Rattle.hg_bundle.specs.Faults.{IsFault, IsJudgement, bundle_fault}
-use Rattle.hg_bundle.specs.Arrivals.{Reads, arrival_of, revisions_of, known_after_all, refused}
+use Rattle.hg_bundle.specs.Arrivals.{Reads, arrival_of, revisions_of, refused}
 use Rattle.hg_bundle.specs.Entry.{base_for, text_for}
 use Rattle.hg_bundle.specs.Listing.{next_place}
 use Rattle.hg_bundle.specs.Steps.{Adds, Begins, Steps, step_refusal, entry_bytes, entry_revision}

@@ -9,7 +9,7 @@ use Rattle.text_model.proofs.Options.{none_some}
 use Rattle.hg_model.specs.Chunk.{field_of, chunk_text, magic_text, magic_fault}
 use Rattle.hg_model.specs.Delta.{Patches}
 use Rattle.hg_model.specs.Bundle.{Place, InGroup, AtPath, Framing, put_item, framing_from, bundle_framing, bundle_text, BundleEntry, FileGroup, Bundle, entry_payload, entry_of, group_text, IsBundleEntry, IsSize, IsBundle, IsWithinLimits, AreShort, delta_limit, path_limit, length_limit, is_short_at, place_after_empty}
-use Rattle.hg_model.specs.Revision.{Group, Changesets, Manifests, FilesAt, Revision, knows, known_after, addition_fault}
+use Rattle.hg_model.specs.Revision.{Group, Changesets, Manifests, FilesAt, Revision, knows, known_after, addition_fault, known_after_all}
 use Rattle.hg_model.specs.Reading.{Arrival, Is, put_arrival, base_of, AreTextsFrom, AreTextsOf, entry_fault, entry_text, text_by, revision_by, sum_limit, text_limit, with_place, bundle_reading}
 use Rattle.hg_model.proofs.BundleEntryLemmas.{length-payload, entry_of-payload}
 use Rattle.hg_model.proofs.ChunkLemmas.{length-chunk}
@@ -22,7 +22,7 @@ use Rattle.hg_bundle.specs.declared.fault.BundleFault.{BundleFault}
 use Rattle.hg_bundle.specs.declared.fault.BundleFault.TheVariants.{Refused, Read, Memory}
 use Rattle.hg_bundle.specs.Faults.{IsFault}
 use Rattle.hg_bundle.specs.declared.arrival.Arrival as listed
-use Rattle.hg_bundle.specs.Arrivals.{Reads, known_after_all, revisions_of, refused}
+use Rattle.hg_bundle.specs.Arrivals.{Reads, revisions_of, refused}
 use Rattle.hg_bundle.specs.Brought.{revisions_with, AreOfFiles, AreAdditions, AreOfBundle, IsUnreadable, TellsUnreadable}
 use Rattle.hg_bundle.proofs.EntryLemmas.{within_limits}
 use Rattle.hg_bundle.proofs.Progress.{is_small}

@@ -3,7 +3,7 @@ use Rattle.std.specs.Prelude.{◌≡◌, ℕ, Bool, true, false, List, [], ◌�
 use Rattle.text_model.specs.Text.{Bytes}
 use Rattle.text_model.specs.Fault.{Refusal}
 use Rattle.hg_model.specs.Revision as model
-use Rattle.hg_model.specs.Revision.{Revision, known_after}
+use Rattle.hg_model.specs.Revision.{Revision, known_after, known_after_all}
 use Rattle.hg_model.specs.Reading as reading
 use Rattle.hg_model.specs.Reading.{bundle_reading}
 use Rattle.hg_bundle.specs.declared.arrival.RevKind.{RevKind}
@@ -40,11 +40,6 @@ count_of_kind kind arrivals = count_by (λ a. same_kind kind a.kind) arrivals
 
 abbrev pub revisions_of : List reading.Arrival → List Revision
 revisions_of arrivals = map (λ a. a.revision) arrivals
-
--- the known revisions after all these, one after the other
-abbrev pub known_after_all : List Revision → List Revision → List Revision
-known_after_all known [] = known
-known_after_all known (r ∷ rs) = known_after_all (known_after known r) rs
 
 -- the arrivals that are listed were added to the known revisions one after the other, and the store holds what is known then
 abbrev pub AreArrivals : List Revision → List Revision → List Arrival → Type 0

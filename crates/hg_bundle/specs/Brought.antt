@@ -4,12 +4,12 @@ use Rattle.std.specs.Prelude.{◌≡◌, ◌+◌, ◌≤◌, ℕ, not, List, [],
 use Rattle.text_model.specs.Text.{Bytes}
 use Rattle.text_model.specs.Path.{is_fit_path}
 use Rattle.hg_model.specs.Bundle.{BundleEntry, FileGroup, Bundle, IsBundle, IsWithinLimits}
-use Rattle.hg_model.specs.Revision.{Group, Changesets, Manifests, FilesAt, Revision, knows, known_after, addition_fault}
+use Rattle.hg_model.specs.Revision.{Group, Changesets, Manifests, FilesAt, Revision, knows, known_after, addition_fault, known_after_all}
 use Rattle.hg_model.specs.Reading.{AreTextsOf, revision_by, sum_limit, text_limit}
 use Rattle.hg_bundle.specs.declared.arrival.Arrival.{Arrival}
 use Rattle.hg_bundle.specs.declared.fault.BundleFault.{BundleFault}
 use Rattle.hg_bundle.specs.declared.fault.BundleFault.TheVariants.{Refused, Read, Memory}
-use Rattle.hg_bundle.specs.Arrivals.{kind_of, path_of, known_after_all}
+use Rattle.hg_bundle.specs.Arrivals.{kind_of, path_of}
 
 -- the revisions of a group's entries with these texts
 abbrev pub revisions_with : Group → List BundleEntry → List Bytes → List Revision

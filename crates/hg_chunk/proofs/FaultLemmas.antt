@@ -4,7 +4,7 @@ use Rattle.std.proofs.lemmas.Bool.Decides.{nat_tests}
 use Rattle.std.proofs.lemmas.List.{take_at}
 use Rattle.std.specs.Io.KnownBytes.{Consumes}
 use Rattle.text_model.specs.Fault.{Refusal, reach, input_limit}
-use Rattle.hg_model.proofs.TakenLemmas.{reaches}
+use Rattle.text_model.proofs.FaultLemmas.{reach-within}
 use Rattle.hg_model.specs.Chunk.{or_else, magic_fault, other_magic}
 
 -- what is said of the refusal by six bytes that came holds of all
@@ -14,7 +14,7 @@ unfolding magic_fault
 told_of_magic P None mid first size took holds = tt
 told_of_magic P (Some xs) None first size took holds = absurd took
 told_of_magic P (Some xs) (Some ys) first size took holds =
-    let enough : reach (length (first ++ ys)) 6 ≡ None = reaches (length (first ++ ys)) 6 (omega (arith, length-append first ys, size)) (omega arith) in
+    let enough : reach (length (first ++ ys)) 6 ≡ None = reach-within (length (first ++ ys)) 6 (omega (arith, length-append first ys, size)) (omega arith) in
     let same : other_magic first ≡ magic_fault (first ++ ys) =
     ap other_magic (sym (take_at first ys 6 size)) ∙ ap (λ (f : Option Refusal). or_else f (other_magic (take 6 (first ++ ys)))) (sym enough) in
     subst (λ (bytes : List ℕ). P (magic_fault bytes)) (sym took) (subst P same holds)

@@ -3,6 +3,7 @@ use Rattle.std.proofs.Common.{◌≡◌, ◌||◌, Bool, true, false, not, List,
 use Rattle.std.specs.Prelude.{if◌then◌else◌}
 use Rattle.std.specs.List.{list_any}
 use Rattle.std.proofs.lemmas.List.Folds.{list_any-append}
+use Rattle.std.proofs.Math.Bool.{or_comm}
 use Rattle.text_model.specs.Id.{Id}
 use Rattle.text_model.specs.Lists.{Each, only_new}
 use Rattle.text_model.proofs.Elements.{map_append}
@@ -30,12 +31,6 @@ any-turned : (m : Mark) (ms : List Mark) → list_any (λ x. same_mark x m) ms �
 any-turned m [] = refl
 any-turned m (x ∷ xs) = (λ i. same_mark-sym x m i || any-turned m xs i)
 
-or-turned : (a b : Bool) → (a || b) ≡ (b || a)
-or-turned true true = refl
-or-turned true false = refl
-or-turned false true = refl
-or-turned false false = refl
-
 grows : (b : Bool) (m : Mark) (l : List Mark) → l ++ added same_mark b m ≡ (if not b then l ++ m ∷ [] else l)
 grows true m l = append-nil l
 grows false m l = refl
@@ -49,7 +44,7 @@ new-all old before (m ∷ ms) =
     ∙ (λ i. record { all = old ++ append_assoc before (m ∷ []) ms i; brought = only_new same_mark old (append_assoc before (m ∷ []) ms i) })
   where
     any : (list_any (λ x. same_mark x m) before || list_any (same_mark m) old) ≡ list_any (same_mark m) (old ++ before)
-    any = or-turned (list_any (λ x. same_mark x m) before) (list_any (same_mark m) old) ∙ ap (λ (b : Bool). list_any (same_mark m) old || b) (any-turned m before) ∙ sym (list_any-append (same_mark m) old before)
+    any = or_comm (list_any (λ x. same_mark x m) before) (list_any (same_mark m) old) ∙ ap (λ (b : Bool). list_any (same_mark m) old || b) (any-turned m before) ∙ sym (list_any-append (same_mark m) old before)
 
     one : meet true (record { all = old ++ before; brought = only_new same_mark old before }) m ≡ record { all = old ++ (before ++ m ∷ []); brought = only_new same_mark old (before ++ m ∷ []) }
     one = (λ i. record {

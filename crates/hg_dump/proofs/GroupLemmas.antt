@@ -1,6 +1,7 @@
 -- The tests of groups and nodes.
 use Rattle.std.proofs.Common.{◌≡◌, ◌&&◌, Bool, true, false, true≢false, sym, ◌∙◌}
-use Rattle.hg_model.proofs.RevisionLemmas.{bytes_eq-sym, same_group-sym}
+use Rattle.text_model.proofs.TestLemmas.{bytes_eq-sym}
+use Rattle.hg_model.proofs.RevisionLemmas.{same_group-sym}
 use Rattle.hg_dump.specs.Marks.{Mark, same_mark}
 
 pub not_both : (b : Bool) → b ≡ true → b ≡ false → ⊥

@@ -6,10 +6,9 @@ use Rattle.text_model.specs.Lists.{Each}
 use Rattle.text_model.specs.Text.{Bytes}
 use Rattle.text_model.specs.Id.{Id, null, is_null, node_id}
 use Rattle.text_model.specs.Path.{is_fit_path}
-use Rattle.text_model.proofs.TestLemmas.{both}
+use Rattle.text_model.proofs.TestLemmas.{both, bytes_eq-self}
 use Rattle.text_model.proofs.Options.{none_some, some_is}
 use Rattle.text_model.proofs.Elements.{flat_map_append, map_append, take_push}
-use Rattle.hg_model.proofs.RevisionLemmas.{bytes_eq-self}
 use Rattle.hg_model.specs.Changeset.{Changeset, IsChangesetText}
 use Rattle.hg_model.specs.Manifest.{ManifestEntry, IsManifestText, manifest_text}
 use Rattle.hg_model.specs.Revision.{Group, Changesets, Manifests, FilesAt, Revision, revision_of}

@@ -6,14 +6,15 @@ use Rattle.std.specs.Bool.{OnTrue}
 use Rattle.std.proofs.lemmas.List.Folds.{list_any-append}
 use Rattle.std.proofs.lemmas.List.Elements.{filter-append}
 use Rattle.std.proofs.lemmas.Slice.Eq.{bytes_eq-Decides}
+use Rattle.std.proofs.lemmas.Bool.{or_left, or_right}
 use Rattle.text_model.specs.Id.{Id, null, has_id}
 use Rattle.text_model.specs.Lists.{Each}
-use Rattle.text_model.proofs.TestLemmas.{both}
+use Rattle.text_model.proofs.TestLemmas.{both, bytes_eq-self}
 use Rattle.hg_model.specs.Manifest.{ManifestEntry}
 use Rattle.text_model.specs.Text.{Bytes}
 use Rattle.text_model.proofs.Options.{or_false}
 use Rattle.text_model.proofs.Elements.{map_append}
-use Rattle.hg_model.proofs.RevisionLemmas.{bytes_eq-self, same_group-is, same_group-sym}
+use Rattle.hg_model.proofs.RevisionLemmas.{same_group-is, same_group-sym}
 use Rattle.hg_model.specs.Revision.{Group, Changesets, Manifests, FilesAt, same_group}
 use Rattle.hg_dump.specs.declared.references.Reference.{Reference}
 use Rattle.hg_dump.specs.declared.brought.Brought.{Brought}
@@ -191,18 +192,10 @@ pub all-meets : (is_new : Bool) (s : Met) (ms : List Mark) → (meets is_new s m
 all-meets is_new s [] = sym (append-nil s.all)
 all-meets is_new s (m ∷ ms) = all-meets is_new (meet is_new s m) ms ∙ append_assoc s.all (m ∷ []) ms
 
-or_more : (a b : Bool) → a ≡ true → (a || b) ≡ true
-or_more true b e = refl
-or_more false b e = absurd (true≢false (sym e))
-
-or_last : (a b : Bool) → b ≡ true → (a || b) ≡ true
-or_last true b e = refl
-or_last false b e = e
-
 pub lines-more : (is_new : Bool) (s : Met) (ms : List Mark) (es : List ManifestEntry) → Each (IsLineMet s) es → Each (IsLineMet (meets is_new s ms)) es
 lines-more is_new s ms [] h = tt
 lines-more is_new s ms (e ∷ es) h =
-    (ap (list_any (same_mark (file_mark null e))) (all-meets is_new s ms) ∙ list_any-append (same_mark (file_mark null e)) s.all ms ∙ or_more _ _ h.0, lines-more is_new s ms es h.1)
+    (ap (list_any (same_mark (file_mark null e))) (all-meets is_new s ms) ∙ list_any-append (same_mark (file_mark null e)) s.all ms ∙ or_left _ _ h.0, lines-more is_new s ms es h.1)
 
 -- the line was met where one with the same path and node was
 pub line-met : (s : Met) (entries : List ManifestEntry) (e : ManifestEntry) → HasLine entries e → Each (IsLineMet s) entries → IsLineMet s e
@@ -217,12 +210,12 @@ line-met s (o ∷ os) e h met = by (bytes_eq e.path o.path && bytes_eq e.node o.
 
 each-any-more : (m : Mark) (ms : List Mark) (es : List ManifestEntry) → Each (λ e. list_any (same_mark (file_mark null e)) ms ≡ true) es → Each (λ e. list_any (same_mark (file_mark null e)) (m ∷ ms) ≡ true) es
 each-any-more m ms [] h = tt
-each-any-more m ms (e ∷ es) h = (or_last (same_mark (file_mark null e) m) _ h.0, each-any-more m ms es h.1)
+each-any-more m ms (e ∷ es) h = (or_right (same_mark (file_mark null e) m) _ h.0, each-any-more m ms es h.1)
 
 own-lines : (link : Id) (es : List ManifestEntry) → Each (λ e. list_any (same_mark (file_mark null e)) (map (file_mark link) es) ≡ true) es
 own-lines link [] = tt
 own-lines link (e ∷ es) =
-    (or_more (same_mark (file_mark null e) (file_mark link e)) _ (rw (bytes_eq-self e.path, bytes_eq-self e.node) refl), each-any-more (file_mark link e) (map (file_mark link) es) es (own-lines link es))
+    (or_left (same_mark (file_mark null e) (file_mark link e)) _ (rw (bytes_eq-self e.path, bytes_eq-self e.node) refl), each-any-more (file_mark link e) (map (file_mark link) es) es (own-lines link es))
 
 -- the lines of a manifest were met behind its changeset
 pub view-lines : (is_new : Bool) (s : Met) (link manifest : Id) (es : List ManifestEntry) → Each (IsLineMet (meets is_new s (view_marks link manifest es))) es
@@ -236,7 +229,7 @@ view-lines is_new s link manifest es = by es (own-lines link es)
 
     by : (fs : List ManifestEntry) → Each (λ e. list_any (same_mark (file_mark null e)) (map (file_mark link) es) ≡ true) fs → Each (IsLineMet (meets is_new s (view_marks link manifest es))) fs
     by [] h = tt
-    by (f ∷ fs) h = (ap (list_any (same_mark (file_mark null f))) all ∙ list_any-append (same_mark (file_mark null f)) front (map (file_mark link) es) ∙ or_last _ _ h.0, by fs h.1)
+    by (f ∷ fs) h = (ap (list_any (same_mark (file_mark null f))) all ∙ list_any-append (same_mark (file_mark null f)) front (map (file_mark link) es) ∙ or_right _ _ h.0, by fs h.1)
 
 pub after-append : (before : List ManifestEntry) (is_new : Bool) (xs ys : List Mark) (a b c : Brought) → StepsAfter before is_new xs a b → StepsAfter before is_new ys b c → StepsAfter before is_new (xs ++ ys) a c
 after-append before is_new xs ys a b c f g s is met =

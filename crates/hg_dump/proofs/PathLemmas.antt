@@ -13,7 +13,7 @@ use Rattle.std.proofs.lemmas.Slice.Eq.{bytes_eq-Decides}
 use Rattle.text_model.specs.Lists.{Each, first_of_each, with_inserted, in_order}
 use Rattle.text_model.specs.Text.{Bytes, is_below}
 use Rattle.text_model.proofs.OrderLemmas.{is_below-one_way, is_below-irreflexive, is_below-same, is_below-chain}
-use Rattle.hg_model.proofs.RevisionLemmas.{bytes_eq-self, bytes_eq-sym, same_bool}
+use Rattle.text_model.proofs.TestLemmas.{same_bool, bytes_eq-self, bytes_eq-sym}
 use Rattle.hg_model.specs.Revision.{Group, Changesets, Manifests, FilesAt, Revision, same_group}
 use Rattle.hg_model.specs.Bundle.{FileGroup, file_group_text}
 use Rattle.view_model.specs.Dump.{of_group, path_of_group, paths_in, written_file}

@@ -3,19 +3,18 @@ use Rattle.std.proofs.Common.{◌≡◌, ◌⊎◌, ◌&&◌, ◌||◌, inl, inr
 use Rattle.std.specs.Prelude.{bytes_eq, is_some, if◌then◌else◌}
 use Rattle.std.specs.List.{flat_map, filter_map}
 use Rattle.std.proofs.lemmas.Slice.Eq.{bytes_eq-Decides}
+use Rattle.std.proofs.lemmas.Bool.{or_cases, or_left, or_right}
 use Rattle.text_model.specs.Lists.{Each, first_of_each}
 use Rattle.text_model.specs.Text.{Bytes, is_below}
 use Rattle.text_model.specs.Id.{Id, is_null}
 use Rattle.text_model.proofs.OrderLemmas.{is_below-one_way, is_below-same}
-use Rattle.text_model.proofs.TestLemmas.{both}
+use Rattle.text_model.proofs.TestLemmas.{both, bytes_eq-self}
 use Rattle.text_model.proofs.Options.{none_some, some_is}
-use Rattle.hg_model.proofs.RevisionLemmas.{bytes_eq-self}
 use Rattle.hg_model.proofs.ParentOrder.{file_order-turned, manifest_order-turned}
 use Rattle.hg_model.specs.Changeset.{IsChangesetText}
 use Rattle.hg_model.specs.Manifest.{IsManifestText}
 use Rattle.hg_model.specs.FileText.{IsFileText, manifest_order, file_order, names_copy}
-use Rattle.hg_model.specs.Revision.{Group, Changesets, Manifests, FilesAt, Revision, is_of, revision_of, knows, known_after, same_group, same_parents}
-use Rattle.hg_bundle.specs.Arrivals.{known_after_all}
+use Rattle.hg_model.specs.Revision.{Group, Changesets, Manifests, FilesAt, Revision, is_of, revision_of, knows, known_after, same_group, same_parents, known_after_all}
 use Rattle.hg_store.specs.Known.{AreAdded}
 use Rattle.view_model.specs.View.{Row, ManifestParents, NoManifest, Over, ChangesetView, changeset_node, entry_of_row, file_node}
 use Rattle.view_model.specs.Held.{IsFileHeld, IsManifestHeld, IsChangesetHeld, AreChangesetsHeld}
@@ -23,7 +22,7 @@ use Rattle.view_model.specs.Dump.{manifest_revision, file_revision, revisions_of
 use Rattle.hg_dump.proofs.HeldLemmas.{node-is}
 use Rattle.hg_dump.proofs.PathLemmas.{has, has-in_order, has-first}
 use Rattle.hg_dump_law.specs.Taken.{IsOneOf, in_bundle_order}
-use Rattle.hg_dump_law.proofs.Known.{IsKnown, HoldsIn, Holds, is_of-is, some_true, left_true, right_true, knows-cons, holds-left, holds-right, holds-each, each-known, holds-after_all, knows-after}
+use Rattle.hg_dump_law.proofs.Known.{IsKnown, HoldsIn, Holds, is_of-is, knows-cons, holds-left, holds-right, holds-each, each-known, holds-after_all, knows-after}
 use Rattle.hg_dump_law.proofs.Written.{IsSamePair, pair-is}
 
 -- ---- all that was written is known
@@ -35,28 +34,28 @@ all-after known (r ∷ rs) = holds-each (r ∷ rs) (known_after_all (known_after
 
 group-has : (group : Group) (rs : List Revision) → HoldsIn group rs (of_group group rs)
 group-has group [] node h = h
-group-has group (r ∷ rs) node h = by (same_group group r.group) refl (some_true (is_of group node r) (knows rs group node) (sym (knows-cons r rs group node) ∙ h)) (group-has group rs node)
+group-has group (r ∷ rs) node h = by (same_group group r.group) refl (or_cases (is_of group node r) (knows rs group node) (sym (knows-cons r rs group node) ∙ h)) (group-has group rs node)
   where
     by : (b : Bool) → same_group group r.group ≡ b → ((is_of group node r ≡ true) ⊎ (knows rs group node ≡ true)) → (knows rs group node ≡ true → IsKnown (of_group group rs) group node)
         → IsKnown (of_group group (r ∷ rs)) group node
-    by true e (inl a) later = rw e (knows-cons r (of_group group rs) group node ∙ left_true (is_of group node r) (knows (of_group group rs) group node) a)
-    by true e (inr b) later = rw e (knows-cons r (of_group group rs) group node ∙ right_true (is_of group node r) (knows (of_group group rs) group node) (later b))
+    by true e (inl a) later = rw e (knows-cons r (of_group group rs) group node ∙ or_left (is_of group node r) (knows (of_group group rs) group node) a)
+    by true e (inr b) later = rw e (knows-cons r (of_group group rs) group node ∙ or_right (is_of group node r) (knows (of_group group rs) group node) (later b))
     by false e (inl a) later = absurd (true≢false (sym (both (same_group group r.group) (bytes_eq node r.node) a).0 ∙ e))
     by false e (inr b) later = rw e (later b)
 
 -- the path of one that is written is among the paths
 path-among : (rs : List Revision) (p : Bytes) (node : Id) → IsKnown rs (FilesAt p) node → has (filter_map (λ r. path_of_group r.group) rs) p ≡ true
 path-among [] p node h = absurd (true≢false (sym h))
-path-among (r ∷ rs) p node h = by (some_true (is_of (FilesAt p) node r) (knows rs (FilesAt p) node) (sym (knows-cons r rs (FilesAt p) node) ∙ h)) (path-among rs p node)
+path-among (r ∷ rs) p node h = by (or_cases (is_of (FilesAt p) node r) (knows rs (FilesAt p) node) (sym (knows-cons r rs (FilesAt p) node) ∙ h)) (path-among rs p node)
   where
     later-path : (g : Group) → r.group ≡ g → has (filter_map (λ r. path_of_group r.group) rs) p ≡ true → has (filter_map (λ r. path_of_group r.group) (r ∷ rs)) p ≡ true
     later-path Changesets e rest = rw e rest
     later-path Manifests e rest = rw e rest
-    later-path (FilesAt q) e rest = rw e (right_true (bytes_eq p q) (has (filter_map (λ r. path_of_group r.group) rs) p) rest)
+    later-path (FilesAt q) e rest = rw e (or_right (bytes_eq p q) (has (filter_map (λ r. path_of_group r.group) rs) p) rest)
 
     by : ((is_of (FilesAt p) node r ≡ true) ⊎ (knows rs (FilesAt p) node ≡ true)) → (IsKnown rs (FilesAt p) node → has (filter_map (λ r. path_of_group r.group) rs) p ≡ true)
         → has (filter_map (λ r. path_of_group r.group) (r ∷ rs)) p ≡ true
-    by (inl a) later = let is = is_of-is (FilesAt p) node r a in rw (sym is.group_is) (left_true (bytes_eq p p) (has (filter_map (λ r. path_of_group r.group) rs) p) (bytes_eq-self p))
+    by (inl a) later = let is = is_of-is (FilesAt p) node r a in rw (sym is.group_is) (or_left (bytes_eq p p) (has (filter_map (λ r. path_of_group r.group) rs) p) (bytes_eq-self p))
     by (inr b) later = later-path r.group refl (later b)
 
 path-in : (rs : List Revision) (p : Bytes) (node : Id) → IsKnown rs (FilesAt p) node → has (paths_in rs) p ≡ true
@@ -67,7 +66,7 @@ path-in rs p node h =
 
 file-has : (rs : List Revision) (paths : List Bytes) (p : Bytes) (node : Id) → has paths p ≡ true → IsKnown rs (FilesAt p) node → IsKnown (flat_map (λ path. of_group (FilesAt path) rs) paths) (FilesAt p) node
 file-has rs [] p node at h = absurd (true≢false (sym at))
-file-has rs (q ∷ qs) p node at h = by (some_true (bytes_eq p q) (has qs p) at) (λ e. file-has rs qs p node e h)
+file-has rs (q ∷ qs) p node at h = by (or_cases (bytes_eq p q) (has qs p) at) (λ e. file-has rs qs p node e h)
   where
     by : ((bytes_eq p q ≡ true) ⊎ (has qs p ≡ true)) → (has qs p ≡ true → IsKnown (flat_map (λ path. of_group (FilesAt path) rs) qs) (FilesAt p) node)
         → IsKnown (of_group (FilesAt q) rs ++ flat_map (λ path. of_group (FilesAt path) rs) qs) (FilesAt p) node
@@ -84,12 +83,6 @@ order-holds rs (FilesAt p) node h =
     holds-right (of_group Changesets rs) _ (FilesAt p) node (holds-right (of_group Manifests rs) _ (FilesAt p) node (file-has rs (paths_in rs) p node (path-in rs p node h) h))
 
 -- ---- changesets of both
-
-or_turned : (a b : Bool) → (a || b) ≡ (b || a)
-or_turned true true = refl
-or_turned true false = refl
-or_turned false true = refl
-or_turned false false = refl
 
 -- the same pair in either order has one canonical order
 pair-order : (f : Id → Id → Id × Id) → ((p q : Id) → f p q ≡ f q p) → (a b c d : Id) → IsSamePair a b c d → f c d ≡ f a b

@@ -3,10 +3,9 @@ use Rattle.std.proofs.Common.{◌≡◌, ℕ, zero, suc, take, drop, append-nil,
 use Rattle.std.specs.Prelude.{bytes_eq, ⊤}
 use Rattle.text_model.specs.Lists.{Each, only_new}
 use Rattle.text_model.specs.Id.{Id, is_null}
-use Rattle.text_model.proofs.TestLemmas.{both}
-use Rattle.hg_model.proofs.RevisionLemmas.{bytes_eq-self, same_group-is}
-use Rattle.hg_model.specs.Revision.{Group, Changesets, Manifests, FilesAt, Revision, is_of, knows, known_after, is_known_parent, is_bad_link, same_group, same_revision}
-use Rattle.hg_bundle.specs.Arrivals.{known_after_all}
+use Rattle.text_model.proofs.TestLemmas.{both, bytes_eq-self}
+use Rattle.hg_model.proofs.RevisionLemmas.{same_group-is}
+use Rattle.hg_model.specs.Revision.{Group, Changesets, Manifests, FilesAt, Revision, is_of, knows, known_after, is_known_parent, is_bad_link, same_group, same_revision, known_after_all}
 use Rattle.view_model.specs.View.{ChangesetView, Row, ManifestParents, NoManifest, Over, changeset_node}
 use Rattle.view_model.specs.Dump.{manifest_revision, file_revision, revisions_of, revisions_in, of_group}
 use Rattle.hg_dump.proofs.OnceLemmas.{Each-append}

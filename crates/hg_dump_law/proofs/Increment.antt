@@ -2,8 +2,7 @@
 use Rattle.std.proofs.Common.{◌≡◌, ℕ, zero, suc, List, [], ◌∷◌, ◌++◌, take, drop, refl, ap, subst}
 use Rattle.text_model.specs.Lists.{Each}
 use Rattle.text_model.specs.Id.{Id}
-use Rattle.hg_model.specs.Revision.{Revision}
-use Rattle.hg_bundle.specs.Arrivals.{known_after_all}
+use Rattle.hg_model.specs.Revision.{Revision, known_after_all}
 use Rattle.view_model.specs.View.{ChangesetView}
 use Rattle.view_model.specs.Held.{AreChangesetsHeld}
 use Rattle.view_model.specs.Dump.{revisions_in, hg_increment}

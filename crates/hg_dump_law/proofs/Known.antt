@@ -3,12 +3,12 @@ use Rattle.std.proofs.Common.{◌≡◌, ◌&&◌, ◌||◌, ◌⊎◌, inl, inr
 use Rattle.std.specs.Prelude.{bytes_eq, filter}
 use Rattle.std.specs.List.{list_any}
 use Rattle.std.proofs.lemmas.Slice.Eq.{bytes_eq-Decides}
+use Rattle.std.proofs.lemmas.Bool.{or_cases, or_left, or_right}
 use Rattle.text_model.specs.Lists.{Each, first_of_each, only_new}
 use Rattle.text_model.specs.Id.{Id}
-use Rattle.text_model.proofs.TestLemmas.{both}
-use Rattle.hg_model.proofs.RevisionLemmas.{is_of-self, bytes_eq-self, bytes_eq-sym, same_group-is, same_group-self, same_group-sym}
-use Rattle.hg_model.specs.Revision.{Group, Revision, is_of, knows, known_after, same_group, same_revision}
-use Rattle.hg_bundle.specs.Arrivals.{known_after_all}
+use Rattle.text_model.proofs.TestLemmas.{both, bytes_eq-self, bytes_eq-sym}
+use Rattle.hg_model.proofs.RevisionLemmas.{is_of-self, same_group-is, same_group-self, same_group-sym}
+use Rattle.hg_model.specs.Revision.{Group, Revision, is_of, knows, known_after, same_group, same_revision, known_after_all}
 use Rattle.view_model.specs.Dump.{of_group}
 
 abbrev pub IsKnown : List Revision → Group → Id → Type 0
@@ -22,17 +22,6 @@ abbrev pub Holds : List Revision → List Revision → Type 0
 Holds small large = (group : Group) → HoldsIn group small large
 
 -- ---- tests
-
-pub some_true : (a b : Bool) → (a || b) ≡ true → (a ≡ true) ⊎ (b ≡ true)
-some_true true b h = inl refl
-some_true false b h = inr h
-
-pub left_true : (a b : Bool) → a ≡ true → (a || b) ≡ true
-left_true a b h = rw h refl
-
-pub right_true : (a b : Bool) → b ≡ true → (a || b) ≡ true
-right_true true b h = refl
-right_true false b h = h
 
 -- the group and the node of one that passes
 pub record Is (group : Group) (node : Id) (r : Revision) : Type 0 where
@@ -65,17 +54,17 @@ knows-append (x ∷ xs) ys group node =
     ∙ ap (λ (b : Bool). b || knows ys group node) (sym (knows-cons x xs group node))
 
 pub holds-left : (xs ys : List Revision) → Holds xs (xs ++ ys)
-holds-left xs ys group node h = knows-append xs ys group node ∙ left_true (knows xs group node) (knows ys group node) h
+holds-left xs ys group node h = knows-append xs ys group node ∙ or_left (knows xs group node) (knows ys group node) h
 
 pub holds-right : (xs ys : List Revision) → Holds ys (xs ++ ys)
-holds-right xs ys group node h = knows-append xs ys group node ∙ right_true (knows xs group node) (knows ys group node) h
+holds-right xs ys group node h = knows-append xs ys group node ∙ or_right (knows xs group node) (knows ys group node) h
 
 pub knows-last : (xs : List Revision) (r : Revision) → IsKnown (xs ++ r ∷ []) r.group r.node
-knows-last xs r = holds-right xs (r ∷ []) r.group r.node (knows-cons r [] r.group r.node ∙ left_true (is_of r.group r.node r) false (is_of-self r))
+knows-last xs r = holds-right xs (r ∷ []) r.group r.node (knows-cons r [] r.group r.node ∙ or_left (is_of r.group r.node r) false (is_of-self r))
 
 -- two lists whose revisions are known
 pub holds-both : (group : Group) (xs ys large : List Revision) → HoldsIn group xs large → HoldsIn group ys large → HoldsIn group (xs ++ ys) large
-holds-both group xs ys large h k node e = by (some_true (knows xs group node) (knows ys group node) (sym (knows-append xs ys group node) ∙ e))
+holds-both group xs ys large h k node e = by (or_cases (knows xs group node) (knows ys group node) (sym (knows-append xs ys group node) ∙ e))
   where
     by : ((knows xs group node ≡ true) ⊎ (knows ys group node ≡ true)) → IsKnown large group node
     by (inl a) = h node a
@@ -84,7 +73,7 @@ holds-both group xs ys large h k node e = by (some_true (knows xs group node) (k
 -- a list each of which is known
 pub holds-each : (xs large : List Revision) → Each (λ r. IsKnown large r.group r.node) xs → Holds xs large
 holds-each [] large h group node e = absurd (true≢false (sym e))
-holds-each (x ∷ xs) large h group node e = by (some_true (is_of group node x) (knows xs group node) (sym (knows-cons x xs group node) ∙ e)) (holds-each xs large h.1 group node)
+holds-each (x ∷ xs) large h group node e = by (or_cases (is_of group node x) (knows xs group node) (sym (knows-cons x xs group node) ∙ e)) (holds-each xs large h.1 group node)
   where
     by : ((is_of group node x ≡ true) ⊎ (knows xs group node ≡ true)) → (IsKnown xs group node → IsKnown large group node) → IsKnown large group node
     by (inl a) later = let is = is_of-is group node x a in subst (λ (n : Id). IsKnown large group n) (sym is.node_is) (subst (λ (g : Group). IsKnown large g x.node) (sym is.group_is) h.0)
@@ -113,7 +102,7 @@ holds-after_all known (r ∷ rs) group node h = holds-after_all (known_after kno
 -- those of a group are known after them
 pub knows-group : (group : Group) (known rs : List Revision) → HoldsIn group rs (known_after_all known (of_group group rs))
 knows-group group known [] node h = absurd (true≢false (sym h))
-knows-group group known (r ∷ rs) node h = by (same_group group r.group) refl (some_true (is_of group node r) (knows rs group node) (sym (knows-cons r rs group node) ∙ h)) (λ k. knows-group group k rs node)
+knows-group group known (r ∷ rs) node h = by (same_group group r.group) refl (or_cases (is_of group node r) (knows rs group node) (sym (knows-cons r rs group node) ∙ h)) (λ k. knows-group group k rs node)
   where
     by : (b : Bool) → same_group group r.group ≡ b → ((is_of group node r ≡ true) ⊎ (knows rs group node ≡ true)) → ((k : List Revision) → IsKnown rs group node → IsKnown (known_after_all k (of_group group rs)) group node)
         → IsKnown (known_after_all known (of_group group (r ∷ rs))) group node
@@ -184,7 +173,7 @@ new-first old x xs e =
 -- each is known where all are
 pub each-known : (ys large : List Revision) → Holds ys large → Each (λ r. IsKnown large r.group r.node) ys
 each-known [] large h = tt
-each-known (y ∷ ys) large h = (h y.group y.node (knows-cons y ys y.group y.node ∙ left_true (is_of y.group y.node y) (knows ys y.group y.node) (is_of-self y)), each-known ys large (λ g n k. h g n (knows-cons y ys g n ∙ right_true (is_of g n y) (knows ys g n) k)))
+each-known (y ∷ ys) large h = (h y.group y.node (knows-cons y ys y.group y.node ∙ or_left (is_of y.group y.node y) (knows ys y.group y.node) (is_of-self y)), each-known ys large (λ g n k. h g n (knows-cons y ys g n ∙ or_right (is_of g n y) (knows ys g n) k)))
 
 -- all are known, or new
 pub holds-new : (old xs : List Revision) → Holds xs (old ++ only_new same_revision old xs)

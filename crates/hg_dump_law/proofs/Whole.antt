@@ -4,20 +4,22 @@ use Rattle.std.specs.Prelude.{bytes_eq}
 use Rattle.std.specs.List.{flat_map, filter_map}
 use Rattle.std.proofs.lemmas.List.Sums.{sum_by-append}
 use Rattle.std.proofs.lemmas.Slice.Eq.{bytes_eq-Decides}
+use Rattle.std.proofs.lemmas.Bool.{or_cases, or_left, or_right}
 use Rattle.text_model.specs.Lists.{Each, first_of_each, in_order, only_new}
 use Rattle.text_model.specs.Text.{Bytes, is_below}
 use Rattle.text_model.specs.Id.{Id, IsId}
 use Rattle.text_model.specs.Path.{is_fit_path}
 use Rattle.text_model.specs.Fault.{input_limit}
 use Rattle.text_model.proofs.Elements.{flat_map_append}
-use Rattle.hg_model.proofs.RevisionLemmas.{bytes_eq-self, same_group-is}
+use Rattle.text_model.proofs.TestLemmas.{bytes_eq-self}
+use Rattle.hg_model.proofs.RevisionLemmas.{same_group-is}
 use Rattle.hg_model.specs.Changeset.{changeset_text}
 use Rattle.hg_model.specs.Chunk.{field_of, chunk_text, magic_text}
 use Rattle.hg_model.specs.Bundle.{BundleEntry, group_text, entry_payload, IsBundleEntry, IsSize, IsBundle, IsWithinLimits, AreShort, delta_limit, path_limit, bundle_text, bundle_framing}
-use Rattle.hg_model.specs.Revision.{Group, Changesets, Manifests, FilesAt, Revision, is_of, knows, is_bad_link, same_group, same_revision}
+use Rattle.hg_model.specs.Revision.{Group, Changesets, Manifests, FilesAt, Revision, is_of, knows, is_bad_link, same_group, same_revision, known_after_all}
 use Rattle.hg_model.specs.Reading.{text_limit, sum_limit}
 use Rattle.hg_model.proofs.ListingLemmas.{files_text, files_text-cons, bundle_text-parts}
-use Rattle.hg_bundle.specs.Arrivals.{arrival_of, known_after_all}
+use Rattle.hg_bundle.specs.Arrivals.{arrival_of}
 use Rattle.hg_bundle.specs.Brought.{AreListed, AreOfFiles, AreOfBundle}
 use Rattle.hg_bundle.proofs.Reading.{reading_is}
 use Rattle.hg_bundle.proofs.Taken.{all_taken}
@@ -30,7 +32,7 @@ use Rattle.hg_dump.proofs.OnceLemmas.{Each-filter, Each-new, Each-append}
 use Rattle.hg_dump.proofs.PathLemmas.{has, has-in_order, has-first}
 use Rattle.hg_dump_law.specs.Taken.{IsOneOf, KnowsOld, AreParentsEarlier, in_bundle_order, IsShortIncrement, Brings}
 use Rattle.hg_dump_law.proofs.After.{all-after, order-holds}
-use Rattle.hg_dump_law.proofs.Known.{IsKnown, each-known, HoldsIn, Holds, is_of-is, some_true, left_true, right_true, knows-cons, holds-both, holds-each, holds-after_all, knows-group, holds-new}
+use Rattle.hg_dump_law.proofs.Known.{IsKnown, each-known, HoldsIn, Holds, is_of-is, knows-cons, holds-both, holds-each, holds-after_all, knows-group, holds-new}
 use Rattle.hg_dump_law.proofs.Earlier.{HaveParents, all-earlier, HasLink, has-link, links, AreReady, ready-append, ready-front, ready-rest, ready-group}
 use Rattle.hg_dump_law.proofs.Written.{IsWritten, each-written, each-one-all, additions}
 use Rattle.hg_dump_law.proofs.Bundle.{IsSmall, group-is}
@@ -87,7 +89,7 @@ fit-among (r ∷ rs) p fit h = by r.group refl fit.0 (fit-among rs p fit.1)
     by : (g : Group) → r.group ≡ g → HasFitPath g → (has (filter_map (λ r. path_of_group r.group) rs) p ≡ true → is_fit_path p ≡ true) → is_fit_path p ≡ true
     by Changesets e f later = later (sym (rw e refl) ∙ h)
     by Manifests e f later = later (sym (rw e refl) ∙ h)
-    by (FilesAt q) e f later = at (some_true (bytes_eq p q) (has (filter_map (λ r. path_of_group r.group) rs) p) (sym (rw e refl) ∙ h))
+    by (FilesAt q) e f later = at (or_cases (bytes_eq p q) (has (filter_map (λ r. path_of_group r.group) rs) p) (sym (rw e refl) ∙ h))
       where
         at : ((bytes_eq p q ≡ true) ⊎ (has (filter_map (λ r. path_of_group r.group) rs) p ≡ true)) → is_fit_path p ≡ true
         at (inl a) = ap is_fit_path ((bytes_eq-Decides p q).0 a) ∙ f
@@ -95,7 +97,7 @@ fit-among (r ∷ rs) p fit h = by r.group refl fit.0 (fit-among rs p fit.1)
 
 each-has : (P : Bytes → Type 0) (ps : List Bytes) → ((p : Bytes) → has ps p ≡ true → P p) → Each P ps
 each-has P [] h = tt
-each-has P (p ∷ ps) h = (h p (left_true (bytes_eq p p) (has ps p) (bytes_eq-self p)), each-has P ps (λ q e. h q (right_true (bytes_eq q p) (has ps q) e)))
+each-has P (p ∷ ps) h = (h p (or_left (bytes_eq p p) (has ps p) (bytes_eq-self p)), each-has P ps (λ q e. h q (or_right (bytes_eq q p) (has ps q) e)))
 
 each-fit : (rs : List Revision) → Each (λ r. HasFitPath r.group) rs → Each (λ p. is_fit_path p ≡ true) (paths_in rs)
 unfolding paths_in
@@ -128,7 +130,7 @@ each-file P rs (p ∷ ps) h = Each-append P (of_group (FilesAt p) rs) (files_at 
 
 known-id : (known xs : List Revision) (group : Group) (node : Id) → Each (IsWritten known) xs → knows xs group node ≡ true → IsId node
 known-id known [] group node are h = absurd (true≢false (sym h))
-known-id known (x ∷ xs) group node are h = by (some_true (is_of group node x) (knows xs group node) (sym (knows-cons x xs group node) ∙ h)) (known-id known xs group node are.1)
+known-id known (x ∷ xs) group node are h = by (or_cases (is_of group node x) (knows xs group node) (sym (knows-cons x xs group node) ∙ h)) (known-id known xs group node are.1)
   where
     by : ((is_of group node x ≡ true) ⊎ (knows xs group node ≡ true)) → (knows xs group node ≡ true → IsId node) → IsId node
     by (inl a) later = subst IsId (sym (is_of-is group node x a).node_is) (are.0).ids.0

@@ -9,14 +9,12 @@ use Rattle.text_model.specs.Text.{Bytes}
 use Rattle.text_model.specs.Id.{Id, IsId, is_null, node_id}
 use Rattle.text_model.specs.Fault as fault
 use Rattle.text_model.proofs.OrderLemmas.{node_id-either_order}
-use Rattle.text_model.proofs.TestLemmas.{both}
+use Rattle.text_model.proofs.TestLemmas.{both, bytes_eq-self}
 use Rattle.text_model.proofs.Options.{some_is}
-use Rattle.hg_model.proofs.RevisionLemmas.{bytes_eq-self}
 use Rattle.hg_model.proofs.ParentOrder.{file_order-either, manifest_order-either}
 use Rattle.hg_model.specs.FileText.{file_order}
-use Rattle.hg_model.specs.Revision.{Group, Changesets, Manifests, FilesAt, Revision, revision_of, knows, known_after, same_revision, same_parents, is_otherwise, has_bad_order, order_fault, shape_fault, first_name, ancestry_fault, text_fault, addition_fault}
+use Rattle.hg_model.specs.Revision.{Group, Changesets, Manifests, FilesAt, Revision, revision_of, knows, known_after, same_revision, same_parents, is_otherwise, has_bad_order, order_fault, shape_fault, first_name, ancestry_fault, text_fault, addition_fault, known_after_all}
 use Rattle.hg_model.specs.Reading.{sum_limit, text_limit}
-use Rattle.hg_bundle.specs.Arrivals.{known_after_all}
 use Rattle.hg_bundle.specs.Brought.{AreAdditions}
 use Rattle.hg_store.specs.Known.{AreAdded, HasFitPath}
 use Rattle.hg_store.proofs.Found.{found, good_order, node_is, not_null, shape_is}

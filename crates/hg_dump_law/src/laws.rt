@@ -1,7 +1,6 @@
 ghost use Rattle.std.specs.Prelude.{ℕ, List, take, drop};
 ghost use Rattle.text_model.specs.Id.{Id};
-ghost use Rattle.hg_model.specs.Revision.{Revision};
-ghost use Rattle.hg_bundle.specs.Arrivals.{known_after_all};
+ghost use Rattle.hg_model.specs.Revision.{Revision, known_after_all};
 ghost use Rattle.view_model.specs.View.{ChangesetView};
 ghost use Rattle.view_model.specs.Held.{AreChangesetsHeld};
 ghost use Rattle.view_model.specs.Dump.{hg_increment};

@@ -1,19 +1,18 @@
 -- A line of a manifest reads as its entry, and what reads as an entry is its line.
-use Rattle.std.proofs.Common.{◌≡◌, ◌+◌, ◌==◌, ◌||◌, ℕ, suc, Bool, true, false, not, [], ◌∷◌, ◌++◌, length, take, drop, Option, Some, None, refl, sym, ap, subst, ◌∙◌, append_assoc, arith, codes, bytes_eq, option_map, option_and_then, take-append-drop}
+use Rattle.std.proofs.Common.{◌≡◌, ◌+◌, ◌==◌, ◌||◌, suc, Bool, true, false, not, [], ◌∷◌, ◌++◌, length, take, drop, Option, Some, None, refl, sym, ap, subst, ◌∙◌, append_assoc, arith, codes, bytes_eq, option_map, option_and_then, take-append-drop}
 use Rattle.std.specs.Prelude.{if◌then◌else◌}
-use Rattle.std.specs.List.{position_or_len, before_first, after_first}
-use Rattle.std.proofs.lemmas.Bool.{and_parts, eq-eqb}
+use Rattle.std.specs.List.{before_first, after_first}
+use Rattle.std.proofs.lemmas.Bool.{and_parts}
 use Rattle.std.proofs.lemmas.List.{take_at, drop_at}
 use Rattle.std.proofs.lemmas.Slice.Eq.{bytes_eq-Decides}
 use Rattle.text_model.specs.Text.{Bytes, has_byte, whole_lines}
 use Rattle.text_model.specs.Id.{Id, IsId, hex, id_of_hex}
 use Rattle.text_model.specs.Path.{is_fit_path}
 use Rattle.text_model.specs.Cuts.{Lacks, cut_of}
-use Rattle.text_model.proofs.CutLemmas.{cut_of-takes, cut_of-none, cut_of-at}
+use Rattle.text_model.proofs.CutLemmas.{cut_of-takes, cut_of-none, cut_of-at, place_is}
 use Rattle.text_model.proofs.HexLemmas.{id_of_hex-hex, id_of_hex-takes, hex-lacks, length-hex}
 use Rattle.text_model.proofs.LackLemmas.{Lacks-by_test, has_byte-lacks, Lacks-append}
 use Rattle.text_model.proofs.LineLemmas.{whole_lines-line}
-use Rattle.text_model.proofs.TestLemmas.{differs}
 use Rattle.text_model.proofs.Options.{none_some, not_true, some_is}
 use Rattle.hg_model.specs.Manifest.{Flag, Regular, Executable, Symlink, ManifestEntry, flag_text, entry_text, flag_of, entry_of_line, path_of_line}
 
@@ -35,15 +34,11 @@ is_fit_path-plain path e =
 
 -- ---- the NUL of a line
 
-first_place : (b : ℕ) (front rest : Bytes) → Lacks b front → position_or_len (λ x. x == b) (front ++ b ∷ rest) ≡ length front
-first_place b [] rest lacks = rw (eq-eqb b b refl) refl
-first_place b (x ∷ xs) rest lacks = rw (differs x b lacks.0) (omega (arith, first_place b xs rest lacks.1))
-
 before_first-at : (front tail : Bytes) → Lacks 0 front → before_first (λ b. b == 0) (front ++ 0 ∷ tail) ≡ front
-before_first-at front tail lacks = rw (first_place 0 front tail lacks) (take_at front (0 ∷ tail) (length front) refl)
+before_first-at front tail lacks = rw (place_is 0 front tail lacks) (take_at front (0 ∷ tail) (length front) refl)
 
 after_first-at : (front tail : Bytes) → Lacks 0 front → after_first (λ b. b == 0) (front ++ 0 ∷ tail) ≡ tail
-after_first-at front tail lacks = rw (first_place 0 front tail lacks) (dropped front)
+after_first-at front tail lacks = rw (place_is 0 front tail lacks) (dropped front)
   where
     dropped : (xs : Bytes) → drop (length xs + 1) (xs ++ 0 ∷ tail) ≡ tail
     dropped [] = refl

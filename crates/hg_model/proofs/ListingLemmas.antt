@@ -5,12 +5,13 @@ use Rattle.std.proofs.lemmas.Bool.Decides.{nat_tests}
 use Rattle.text_model.specs.Lists.{Each}
 use Rattle.text_model.specs.Text.{Bytes}
 use Rattle.text_model.specs.Fault.{input_limit}
+use Rattle.text_model.proofs.FaultLemmas.{reach-within}
 use Rattle.hg_model.specs.Chunk.{field_of, chunk_text, magic_text, chunk_fault, magic_fault}
 use Rattle.hg_model.specs.Bundle.{BundleEntry, FileGroup, Bundle, entry_payload, group_text, file_group_text, bundle_text, IsBundleEntry, IsSize, IsBundle, AreShort, delta_limit, path_limit, IsWithinLimits, Place, InGroup, AtPath, Framing, framed_end, put_item, framing_from, framing_fault, bundle_framing, listing_fault, length_limit, place_after, place_after_empty, is_path, entry_of, entry_line, group_lines, bundle_lines, listed_line, listing, is_short_at}
 use Rattle.hg_model.specs.Revision.{Group, Changesets, Manifests, FilesAt}
 use Rattle.hg_model.proofs.ChunkLemmas.{length-chunk}
 use Rattle.hg_model.proofs.FramingLemmas.{framing_at, framing_empty, framing_item, framing_behind_magic}
-use Rattle.hg_model.proofs.TakenLemmas.{reaches, chunk_none}
+use Rattle.hg_model.proofs.TakenLemmas.{chunk_none}
 use Rattle.hg_model.proofs.BundleEntryLemmas.{length-payload, entry_of-payload}
 
 -- ---- a chunk
@@ -182,7 +183,7 @@ files_lead (suc fuel) first at (f ∷ fs) are short enough within =
 
 magic_none : (rest : Bytes) → magic_fault (magic_text ++ rest) ≡ None
 unfolding magic_fault
-magic_none rest = rw (reaches (length (magic_text ++ rest)) 6 (omega arith) (omega arith)) refl
+magic_none rest = rw (reach-within (length (magic_text ++ rest)) 6 (omega arith) (omega arith)) refl
 
 pub bundle_text-parts : (b : Bundle) → bundle_text b ≡ magic_text ++ (group_text b.changesets ++ (group_text b.manifests ++ files_text b.files))
 unfolding bundle_text

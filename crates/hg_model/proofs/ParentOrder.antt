@@ -1,7 +1,8 @@
 -- Two parents in canonical order: they are the same two, in one order.
-use Rattle.std.proofs.Common.{◌≡◌, ◌&&◌, ◌||◌, Bool, true, false, refl, ◌∙◌, sym, subst, Option}
+use Rattle.std.proofs.Common.{◌≡◌, ◌&&◌, Bool, true, false, refl, ◌∙◌, sym, subst, Option}
 use Rattle.std.specs.Prelude.{if◌then◌else◌}
 use Rattle.std.proofs.lemmas.Slice.Eq.{bytes_eq-Decides}
+use Rattle.std.proofs.Math.Bool.{or_comm}
 use Rattle.text_model.specs.Text.{Bytes, is_below}
 use Rattle.text_model.specs.Id.{Id, IsId, null, is_null, node_id}
 use Rattle.text_model.proofs.OrderLemmas.{is_below-one_way, is_below-same, node_id-either_order}
@@ -84,13 +85,7 @@ manifest_order-turned p q = by (is_null p) refl (is_null q) refl (is_below q p) 
     by false x false y false ez true ew = rw (x, y, ez, ew) refl
     by false x false y false ez false ew = let same : p ≡ q = is_below-same p q ew ez in (λ i. manifest_order (same i) (sym same i))
 
-or_turned : (a b : Bool) → (a || b) ≡ (b || a)
-or_turned true true = refl
-or_turned true false = refl
-or_turned false true = refl
-or_turned false false = refl
-
 pub file_order-turned : (meta : Option Bytes) (p q : Id) → file_order meta p q ≡ file_order meta q p
 file_order-turned meta p q =
     let m = manifest_order-turned p q in
-    (λ i. if names_copy meta && or_turned (is_null p) (is_null q) i then ((m i).1, (m i).0) else m i)
+    (λ i. if names_copy meta && or_comm (is_null p) (is_null q) i then ((m i).1, (m i).0) else m i)

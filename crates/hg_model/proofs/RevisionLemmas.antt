@@ -1,10 +1,9 @@
 -- What the tests of groups, nodes and faults say.
-use Rattle.std.proofs.Common.{◌≡◌, Bool, true, false, true≢false, [], ◌∷◌, Option, Some, None, refl, sym, ap, ◌∙◌}
-use Rattle.std.specs.Prelude.{bytes_eq}
+use Rattle.std.proofs.Common.{◌≡◌, Bool, true, false, true≢false, [], ◌∷◌, List, ◌++◌, Option, Some, None, refl, sym, ap, ◌∙◌}
 use Rattle.std.proofs.lemmas.Slice.Eq.{bytes_eq-Decides}
-use Rattle.text_model.specs.Text.{Bytes}
 use Rattle.text_model.specs.Fault.{FaultName}
-use Rattle.hg_model.specs.Revision.{Group, Changesets, Manifests, FilesAt, Revision, same_group, is_of, first_name, named_if}
+use Rattle.text_model.proofs.TestLemmas.{same_bool, bytes_eq-self}
+use Rattle.hg_model.specs.Revision.{Group, Changesets, Manifests, FilesAt, Revision, same_group, is_of, first_name, named_if, known_after, known_after_all}
 
 -- ---- the first of some faults
 
@@ -28,19 +27,6 @@ named_if-None true n h = absurd cc
 named_if-None false n h = refl
 
 -- ---- groups and nodes
-
-pub same_bool : (a b : Bool) → (a ≡ true → b ≡ true) → (b ≡ true → a ≡ true) → a ≡ b
-same_bool true b f g = sym (f refl)
-same_bool false true f g = g refl
-same_bool false false f g = refl
-
-pub bytes_eq-self : (x : Bytes) → bytes_eq x x ≡ true
-bytes_eq-self x = (bytes_eq-Decides x x).1 refl
-
-pub bytes_eq-sym : (x y : Bytes) → bytes_eq x y ≡ bytes_eq y x
-bytes_eq-sym x y = same_bool (bytes_eq x y) (bytes_eq y x)
-    (λ h. (bytes_eq-Decides y x).1 (sym ((bytes_eq-Decides x y).0 h)))
-    (λ h. (bytes_eq-Decides x y).1 (sym ((bytes_eq-Decides y x).0 h)))
 
 -- the test of groups decides
 pub same_group-is : (a b : Group) → same_group a b ≡ true → a ≡ b
@@ -66,3 +52,9 @@ same_group-sym g h = same_bool (same_group g h) (same_group h g)
 
 pub is_of-self : (r : Revision) → is_of r.group r.node r ≡ true
 is_of-self r = rw (same_group-self r.group, bytes_eq-self r.node) refl
+
+-- ---- what is known after a list
+
+pub known_after_all-append : (known xs ys : List Revision) → known_after_all known (xs ++ ys) ≡ known_after_all (known_after_all known xs) ys
+known_after_all-append known [] ys = refl
+known_after_all-append known (x ∷ xs) ys = known_after_all-append (known_after known x) xs ys

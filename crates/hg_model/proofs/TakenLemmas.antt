@@ -8,14 +8,12 @@ use Rattle.byteorder.specs.Numbers.{big_from-take}
 use Rattle.text_model.specs.Text.{Bytes, IsBytes}
 use Rattle.text_model.specs.Fault.{Refusal, reach, input_limit}
 use Rattle.text_model.proofs.ByteLemmas.{IsBytes-take, IsBytes-at}
+use Rattle.text_model.proofs.FaultLemmas.{within-reach}
 use Rattle.hg_model.specs.Chunk.{field_of, field_fault, need_of, chunk_text, chunk_fault, first_payload, or_else}
 use Rattle.hg_model.proofs.ChunkLemmas.{length-chunk, field_of-length, chunk_of_field}
 use Rattle.hg_model.proofs.FramingLemmas.{number_first}
 
 -- ---- the bytes of a chunk that is taken
-
-pub reaches : (total end : ℕ) → end ≤ total → end ≤ input_limit → reach total end ≡ None
-reaches total end all within = grind (arith, nat_tests)
 
 -- a chunk within the limits, of its field and of the input
 pub chunk_none : (most at : ℕ) (payload rest : Bytes) → field_of payload ≤ most → most < 2 ^ 31 → at + length (chunk_text payload ++ rest) ≤ input_limit
@@ -31,9 +29,6 @@ chunk_none most at (byte ∷ bytes) rest fits small within =
     rw (number_first (byte ∷ bytes) rest (omega arith)) (grind (arith, nat_tests, size, chunk))
 
 -- ---- the chunk of bytes that are taken
-
-reach_none : (total end : ℕ) → reach total end ≡ None → (end ≤ total) × (end ≤ input_limit)
-reach_none total end fits = (grind (arith, nat_tests), grind (arith, nat_tests))
 
 pub or_else_none : (first later : Option Refusal) → or_else first later ≡ None → (first ≡ None) × (later ≡ None)
 or_else_none None later e = (refl, e)
@@ -73,14 +68,14 @@ begins_by : (most at n : ℕ) (bytes : Bytes) → IsBytes bytes → n ≡ big_nu
 begins_by most at zero bytes are e enough reached fits = record {
   text = begins_text 0 [] (drop 4 bytes) bytes are enough e refl refl;
   field = omega arith;
-  within = (reach_none _ _ reached).1;
+  within = (within-reach _ _ reached).1;
 }
 begins_by most at (suc m) bytes are e enough reached fits =
     let n : ℕ = suc m in
     let payload : Bytes = take (n - 4) (drop 4 bytes) in
     let field = field_none most at n (omega arith) fits in
     let need = needs n field.0 field.1 in
-    let whole = reach_none (at + length bytes) (at + need_of n) reached in
+    let whole = within-reach (at + length bytes) (at + need_of n) reached in
     let size : length payload ≡ n - 4 = length-take-le (n - 4) (drop 4 bytes) (omega (arith, length-drop 4 bytes, need, whole.0)) in
     let number : n ≡ field_of payload = sym (field_of-length payload (omega (arith, size, field.0)) ∙ omega (arith, size, field.0)) in
     let total : length payload + 4 ≡ 4 + (n - 4) = omega (arith, size) in

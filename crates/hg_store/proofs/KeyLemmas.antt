@@ -5,7 +5,7 @@ use Rattle.std.specs.List.{prefix_len, position_or_len}
 use Rattle.std.specs.Map.{lookup}
 use Rattle.std.specs.Option.{option_copied}
 use Rattle.std.specs.Global.{Vec}
-use Rattle.std.proofs.lemmas.Bool.{cases_lt, ltb-false}
+use Rattle.std.proofs.lemmas.Bool.{cases_lt, ltb-false, false_from_ne_true}
 use Rattle.std.proofs.lemmas.Bool.Decides.{eqb_tells}
 use Rattle.std.proofs.lemmas.Option.{slice_get-get_or}
 use Rattle.std.proofs.lemmas.List.{length-map}
@@ -38,16 +38,12 @@ position-items test keys =
     let l = length-map keys (λ k. k.items) in
     (λ i. cond (ltb (p i) (sym l i)) (Some (p i)) None)
 
-false_from : (b : Bool) → (b ≡ true → ⊥) → b ≡ false
-false_from true h = absurd (h refl)
-false_from false h = refl
-
 -- two paths are the same exactly where their numbers are
 its_own : (paths : List Bytes) → AllPairs (λ x y. x ≢ y) paths → (i j : ℕ) → i < length paths → j < length paths → bytes_eq (get_or paths i []) (get_or paths j []) ≡ eqb i j
 its_own paths apart i j within within' =
     elim (eqb_tells i j) [
       | inl e ↦ (bytes_eq-Decides (get_or paths i []) (get_or paths j [])).1 (ap (λ (k : ℕ). get_or paths k []) e.1) ∙ sym e.0
-      | inr e ↦ false_from (bytes_eq (get_or paths i []) (get_or paths j [])) (λ same. clash e.1 ((bytes_eq-Decides (get_or paths i []) (get_or paths j [])).0 same)) ∙ sym e.0
+      | inr e ↦ false_from_ne_true (bytes_eq (get_or paths i []) (get_or paths j [])) (λ same. clash e.1 ((bytes_eq-Decides (get_or paths i []) (get_or paths j [])).0 same)) ∙ sym e.0
     ]
   where
     clash : i ≢ j → get_or paths i [] ≡ get_or paths j [] → ⊥

@@ -1,13 +1,22 @@
 -- Manifests in views.
 use Rattle.std.proofs.Common.{◌≡◌, ◌<◌, ℕ, Bool, true, false, ltb, List, [], ◌∷◌, length, get_or, Some, None, refl, sym, ap, subst, ◌∙◌, ◌+◌, arith, inl, inr}
-use Rattle.std.specs.Prelude.{position, slice_get}
+use Rattle.std.specs.Prelude.{position, slice_get, option_map}
 use Rattle.std.proofs.lemmas.List.Sums.{position_or_len_is}
 use Rattle.std.proofs.lemmas.Bool.{cases_lt}
 use Rattle.std.proofs.lemmas.Option.{get_or_from_slice_get}
 use Rattle.text_model.specs.Id.{Id, is_null}
-use Rattle.hg_model.specs.Revision.{Revision}
+use Rattle.hg_model.specs.Revision.{Revision, Manifests, revision_of}
 use Rattle.hg_model.specs.Manifest.{ManifestEntry, manifest_text}
+use Rattle.hg_store.specs.Known.{AreAdded, manifest_text_of}
 use Rattle.hg_store.specs.Views.{IsManifestOf}
+use Rattle.hg_store.proofs.Found.{found, not_null}
+
+-- a manifest that is known has its text: no revision has the null id
+pub text-there : (known : List Revision) (node : Id) (r : Revision) → AreAdded known → revision_of known Manifests node ≡ Some r → manifest_text_of known node ≡ Some r.text
+text-there known node r added at =
+    let f = found known Manifests node r added at in
+    let some : is_null node ≡ false = ap is_null (sym f.node_is) ∙ not_null f.before r f.added in
+    rw some (ap (option_map (λ (x : Revision). x.text)) at)
 
 -- the null id has the empty manifest
 pub null-has_none : (known : List Revision) (node : Id) (entries : List ManifestEntry) → is_null node ≡ true → entries ≡ [] → IsManifestOf known node entries

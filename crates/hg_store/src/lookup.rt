@@ -30,12 +30,13 @@ impl HgStore {
 
     /// The text of a manifest: no bytes for the null id, and `None` where another node is unknown.
     pub fn manifest_text(&self, node: &Id) -> Option<&[u8]>
-        ensures { option_map (λ text. text.now) result ≡ manifest_text_of self.now node.now }
+        ensures value { option_map (λ text. text.now) result ≡ manifest_text_of self.now node.now }
+        ensures known { AreAdded self.now }
     {
-        if node.is_null() {
-            Some(b"")
-        } else {
-            text_in(self.get(Group::Manifests, node))
+        match self.get(Group::Manifests, node) {
+            Some(held) => Some(held.text.as_slice()),
+            None if node.is_null() => Some(b""),
+            None => None,
         }
     }
 

@@ -3,7 +3,7 @@ use Rattle.std.specs.Prelude.{◌≡◌, ℕ, Bool, true, false, if◌then◌els
 use Rattle.text_model.specs.Text.{Bytes, line, spaced}
 use Rattle.text_model.specs.Id.{blob, tree, commit, tag}
 use Rattle.text_model.specs.Fault.{Refusal}
-use Rattle.hg_model.specs.Revision.{Group, Changesets, Manifests, FilesAt}
+use Rattle.hg_model.specs.Revision.{Group, Manifests, FilesAt}
 use Rattle.hg_model.specs.Bundle.{bundle_framing, listing, listing_fault}
 use Rattle.hg_model.specs.Reading.{Arrival, bundle_reading}
 use Rattle.git_model.specs.Stream.{Placed, stream_framing, stream_listing, stream_reading, count_of_kind}

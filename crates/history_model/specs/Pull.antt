@@ -1,25 +1,25 @@
 -- One pull of a plain history over a state: what it writes, or the first fault for which it is refused. The names, their order and
 -- what is written are this project's own rule.
-use Rattle.std.specs.Prelude.{◌≡◌, ◌≢◌, ◌⊎◌, ℕ, ◌<◌, Bool, true, false, not, ◌&&◌, ◌||◌, if◌then◌else◌, List, [], ◌∷◌, ◌++◌, length, map, filter, Option, Some, None, is_some, Ok, Err, IsTrue, IsSomeAnd, bytes_eq}
-use Rattle.std.specs.List.{list_any, find}
+use Rattle.std.specs.Prelude.{◌≡◌, ◌≢◌, ◌⊎◌, ℕ, ◌<◌, Bool, true, false, not, ◌&&◌, if◌then◌else◌, List, [], ◌∷◌, ◌++◌, length, map, filter, Option, Some, None, is_some, Ok, Err, IsTrue, IsSomeAnd, bytes_eq}
+use Rattle.std.specs.List.{find}
 use Rattle.text_model.specs.Lists.{Each, SomeOf}
 use Rattle.text_model.specs.Text.{Bytes}
-use Rattle.text_model.specs.Id.{Id, null, is_null, commit, same_kind}
+use Rattle.text_model.specs.Id.{Id, null, commit, same_kind}
 use Rattle.text_model.specs.Fault.{FaultName, Refusal, refusal}
 use Rattle.text_model.specs.Fault as fault
 use Rattle.hg_model.specs.Changeset.{Changeset, IsChangesetText}
 use Rattle.hg_model.specs.Manifest.{ManifestEntry, IsManifestText}
-use Rattle.hg_model.specs.Revision.{Group, Changesets, Manifests, FilesAt, Revision, revision_of, knows, known_after, is_otherwise}
+use Rattle.hg_model.specs.Revision.{Group, Changesets, Manifests, FilesAt, Revision, revision_of, knows, known_after_all}
 use Rattle.hg_model.specs.Reading.{Arrival, bundle_reading}
 use Rattle.git_model.specs.Commit.{Commit, IsCommitText, parent_ids}
-use Rattle.git_model.specs.Object.{Object, object_at, objects_after, is_other_content}
+use Rattle.git_model.specs.Object.{Object, object_at, objects_after_all}
 use Rattle.git_model.specs.Order.{Ancestry, IsOrder, IsStuckAt}
 use Rattle.git_model.specs.Stream.{Placed, stream_reading}
 use Rattle.git_model.specs.Unfold.{walk_fault}
-use Rattle.view_model.specs.View.{ChangesetView, CommitView, changeset_node, commit_id, commit_objects, paths_of, has_clash, ChangesetFits, CommitFits}
+use Rattle.view_model.specs.View.{ChangesetView, CommitView, commit_objects, paths_of, has_clash, ChangesetFits, CommitFits}
 use Rattle.view_model.specs.Held.{IsChangesetHeld, IsCommitHeld}
 use Rattle.view_model.specs.Dump.{revisions_of, revisions_in, objects_in, hg_increment, git_increment}
-use Rattle.pair_model.specs.Block.{Block, id_of, block_of_node, block_of_id, view_at, changesets_in, commits_in, not_null}
+use Rattle.pair_model.specs.Block.{Block, id_of, block_of_node, changesets_in, commits_in, not_null}
 use Rattle.pair_model.specs.Rule.{rule_commit}
 use Rattle.pair_model.specs.Octopus.{is_link_view}
 use Rattle.pair_model.specs.Collision.{commit_collides, changeset_collides}
@@ -33,16 +33,6 @@ pub record State : Type 0 where
 
 abbrev pub empty_state : State
 empty_state = record { revisions = []; objects = []; blocks = [] }
-
--- the known revisions after all these, one after the other
-abbrev pub all_known : List Revision → List Revision → List Revision
-all_known known [] = known
-all_known known (r ∷ rs) = all_known (known_after known r) rs
-
--- the known objects after all these, one after the other
-abbrev pub all_objects : List Object → List Object → List Object
-all_objects known [] = known
-all_objects known (o ∷ os) = all_objects (objects_after known o) os
 
 -- The name is given where the first statement holds; where it doesn't, the later ones are asked.
 abbrev pub Unless : Type 0 → FaultName → (FaultName → Type 0) → FaultName → Type 0
@@ -153,7 +143,7 @@ is_orphan blocks a =
 
 -- the revisions that are known when a bundle is read
 abbrev pub known_with : State → List Arrival → List Revision
-known_with s arrivals = all_known s.revisions (revisions_among arrivals)
+known_with s arrivals = known_after_all s.revisions (revisions_among arrivals)
 
 -- each changeset of the bundle has its block, and each other entry belongs to one
 pub record BundleBrings (s : State) (arrivals : List Arrival) (new : List Block) : Type 0 where
@@ -224,7 +214,7 @@ unfoldable pub CommitsBring : List Revision → List Object → List Block → L
 CommitsBring known objects blocks [] new = new ≡ []
 CommitsBring known objects blocks (id ∷ ids) new =
     (b : Block) × (rest : List Block) × (new ≡ b ∷ rest) × CommitGives known objects blocks id b
-    × CommitsBring (all_known known (revisions_of b.changeset)) objects (blocks ++ b ∷ []) ids rest
+    × CommitsBring (known_after_all known (revisions_of b.changeset)) objects (blocks ++ b ∷ []) ids rest
 
 -- ---- a stream over a state
 
@@ -233,7 +223,7 @@ objects_among came = map (λ o. o.object) came
 
 -- the objects that are known when a stream is read
 abbrev pub objects_with : State → List Placed → List Object
-objects_with s came = all_objects s.objects (objects_among came)
+objects_with s came = objects_after_all s.objects (objects_among came)
 
 abbrev pub is_commit : Placed → Bool
 is_commit o = same_kind (o.object).kind commit
@@ -262,7 +252,7 @@ pub record IsCommitRefusal (s : State) (came : List Placed) (ordered : List Id) 
   pub new : List Block
   pub brings : CommitsBring s.revisions (objects_with s came) s.blocks before new
   pub name : FaultName
-  pub fault : CommitRefused (all_known s.revisions (revisions_in (changesets_in new))) (objects_with s came) (s.blocks ++ new) refused name
+  pub fault : CommitRefused (known_after_all s.revisions (revisions_in (changesets_in new))) (objects_with s came) (s.blocks ++ new) refused name
   pub at : ℕ
   pub place : place_of came refused ≡ Some at
   pub is : why ≡ refusal name refused at
@@ -285,7 +275,7 @@ pub record PullGitMakes (s : State) (stream output : Bytes) : Type 0 where
   pub reads : stream_reading s.objects stream ≡ Ok came
   pub new : List Block
   pub brings : StreamBrings s came new
-  pub is : output ≡ hg_increment (all_known s.revisions (revisions_in (changesets_in new))) (changesets_in s.blocks) (changesets_in new)
+  pub is : output ≡ hg_increment (known_after_all s.revisions (revisions_in (changesets_in new))) (changesets_in s.blocks) (changesets_in new)
 
 -- the fault for which a pull of a stream is refused
 abbrev pub PullGitRefuses : State → Bytes → Refusal → Type 0

@@ -6,6 +6,8 @@ use Rattle.std.proofs.lemmas.Slice.Eq.{bytes_eq-Decides}
 use Rattle.std.proofs.lemmas.List.{length-append}
 use Rattle.text_model.specs.Text.{Bytes}
 use Rattle.text_model.specs.Id.{Id, node_id}
+use Rattle.text_model.proofs.Elements.{map_take_push}
+use Rattle.text_model.proofs.TestLemmas.{bytes_eq-is}
 use Rattle.hg_model.specs.Manifest.{ManifestEntry, entry_text, manifest_text, IsManifest}
 use Rattle.hg_model.specs.FileText.{manifest_order}
 use Rattle.hg_model.specs.Revision.{Revision, Manifests}
@@ -20,7 +22,6 @@ use Rattle.pair_known.specs.Rows.{RowValue, row_value}
 use Rattle.manifest_rule.specs.Listed.{entry_of_value}
 use Rattle.manifest_rule.proofs.FilesLemmas.{values-are}
 use Rattle.pair_known.proofs.HeldViews.{manifest_of-held, held-as}
-use Rattle.file_rule.proofs.RowsLoop.{take-map}
 use Rattle.file_rule.specs.Parents.{IsParent}
 use Rattle.file_rule.specs.declared.parents.Parent.{Parent}
 
@@ -63,9 +64,6 @@ node-new p q hs = refl
 pub lines-are : (rows : List RowValue) (hs : List Row) → rows ≡ map row_value hs → manifest_text (map entry_of_value rows) ≡ rows_text hs
 lines-are rows hs is = ap (λ (l : List RowValue). manifest_text (map entry_of_value l)) is ∙ ap manifest_text (values-are hs)
 
-pub eq_true : (x y : Bytes) → bytes_eq x y ≡ true → x ≡ y
-eq_true x y h = (bytes_eq-Decides x y).0 h
-
 -- ---- how long lines are
 
 abbrev pub lines : List RowValue → Bytes
@@ -74,7 +72,7 @@ lines rows = manifest_text (map entry_of_value rows)
 -- the lines of one row more
 pub lines-more : (rows : List RowValue) (i : ℕ) (row : RowValue) → slice_get rows i ≡ Some row → length (lines (take (i + 1) rows)) ≡ length (lines (take i rows)) + length (entry_text (entry_of_value row))
 lines-more rows i row at =
-    ap (λ (es : List ManifestEntry). length (manifest_text es)) (take-map entry_of_value rows i row at)
+    ap (λ (es : List ManifestEntry). length (manifest_text es)) (map_take_push entry_of_value rows i row at)
     ∙ ap length (manifest_text-push (map entry_of_value (take i rows)) (entry_of_value row))
     ∙ length-append (lines (take i rows)) (entry_text (entry_of_value row))
 
@@ -134,6 +132,6 @@ other-lines rows hs gs es is entries first second t back isnt = by (bytes_eq (ro
     by : (b : Bool) → bytes_eq (rows_text hs) (rows_text gs) ≡ b → bytes_eq (rows_text hs) (rows_text gs) ≡ false
     by false e = e
     by true e =
-        let text : rows_text hs ≡ manifest_text es = eq_true (rows_text hs) (rows_text gs) e ∙ ap manifest_text entries in
+        let text : rows_text hs ≡ manifest_text es = bytes_eq-is (rows_text hs) (rows_text gs) e ∙ ap manifest_text entries in
         let one : map entry_of_row hs ≡ es = one_manifest (manifest_text es) (map entry_of_row hs) es (first, sym text) (second, refl) in
         absurd (true≢false (sym (back (entries-are rows hs is ∙ one)) ∙ isnt))

@@ -7,7 +7,8 @@ use Rattle.std.proofs.lemmas.Slice.Eq.{bytes_eq-Decides}
 use Rattle.text_model.specs.Lists.{Each, first_of_each, in_order}
 use Rattle.text_model.specs.Text.{Bytes, is_below}
 use Rattle.text_model.proofs.EachLemmas.{Each-weaker}
-use Rattle.text_model.proofs.OrderLemmas.{is_below-irreflexive, is_below-same, is_below-chain}
+use Rattle.text_model.proofs.OrderLemmas.{is_below-irreflexive, is_below-same, is_below-chain, below-other as other, above-other}
+use Rattle.text_model.proofs.TestLemmas.{bytes_eq-is, bytes_eq-self as same}
 use Rattle.hg_model.specs.Manifest.{ManifestEntry}
 use Rattle.hg_dump.proofs.PathLemmas.{has, IsUp, same-rising, up-in_order, has-in_order, apart-first, has-first}
 use Rattle.manifest_rule.specs.Merged.{is_listed, with_path, IsAtFront}
@@ -29,26 +30,6 @@ abbrev pub pop : Bytes → List ManifestEntry → List ManifestEntry
 pop p [] = []
 pop p (e ∷ es) = if bytes_eq e.path p then es else e ∷ es
 
-path_is : (x y : Bytes) → bytes_eq x y ≡ true → x ≡ y
-path_is x y h = (bytes_eq-Decides x y).0 h
-
-same : (x : Bytes) → bytes_eq x x ≡ true
-same x = (bytes_eq-Decides x x).1 refl
-
-other : (x y : Bytes) → is_below x y ≡ true → bytes_eq x y ≡ false
-other x y h = by (bytes_eq x y) refl
-  where
-    by : (t : Bool) → bytes_eq x y ≡ t → bytes_eq x y ≡ false
-    by true t = absurd (true≢false (sym h ∙ ap (λ (z : Bytes). is_below z y) (path_is x y t) ∙ is_below-irreflexive y))
-    by false t = t
-
-other-back : (x y : Bytes) → is_below x y ≡ true → bytes_eq y x ≡ false
-other-back x y h = by (bytes_eq y x) refl
-  where
-    by : (t : Bool) → bytes_eq y x ≡ t → bytes_eq y x ≡ false
-    by true t = absurd (true≢false (sym h ∙ ap (is_below x) (path_is y x t) ∙ is_below-irreflexive x))
-    by false t = t
-
 -- a head that hasn't the path stands above it
 head-above : (e : ManifestEntry) (p : Bytes) → is_below e.path p ≡ false → bytes_eq e.path p ≡ false → is_below p e.path ≡ true
 head-above e p h apart = by (is_below p e.path) refl
@@ -66,7 +47,7 @@ module _ (p : Bytes) where
   above (e ∷ es) up front = by (bytes_eq e.path p) refl
     where
       by : (t : Bool) → bytes_eq e.path p ≡ t → Each (λ y. is_below p y ≡ true) (entry_paths (pop p (e ∷ es)))
-      by true t = rw t (subst (λ (x : Bytes). Each (λ y. is_below x y ≡ true) (entry_paths es)) (path_is e.path p t) up.0)
+      by true t = rw t (subst (λ (x : Bytes). Each (λ y. is_below x y ≡ true) (entry_paths es)) (bytes_eq-is e.path p t) up.0)
       by false t = let less = head-above e p front t in rw t (less, above-chain p e.path (entry_paths es) less up.0)
 
   pub up-pop : (es : List ManifestEntry) → IsUp (entry_paths es) → IsUp (entry_paths (pop p es))
@@ -82,7 +63,7 @@ module _ (p : Bytes) where
   has-pop (e ∷ es) q apart = by (bytes_eq e.path p) refl
     where
       by : (t : Bool) → bytes_eq e.path p ≡ t → has (entry_paths (e ∷ es)) q ≡ has (entry_paths (pop p (e ∷ es))) q
-      by true t = rw t (ap (λ (b : Bool). b || has (entry_paths es) q) (ap (bytes_eq q) (path_is e.path p t) ∙ apart))
+      by true t = rw t (ap (λ (b : Bool). b || has (entry_paths es) q) (ap (bytes_eq q) (bytes_eq-is e.path p t) ∙ apart))
       by false t = rw t refl
 
   has_head : (es : List ManifestEntry) → is_some (with_path p (head es)) ≡ true → has (entry_paths es) p ≡ true
@@ -90,12 +71,12 @@ module _ (p : Bytes) where
   has_head (e ∷ es) h = by (bytes_eq e.path p) refl
     where
       by : (t : Bool) → bytes_eq e.path p ≡ t → has (entry_paths (e ∷ es)) p ≡ true
-      by true t = ap (λ (b : Bool). b || has (entry_paths es) p) (ap (bytes_eq p) (path_is e.path p t) ∙ same p)
+      by true t = ap (λ (b : Bool). b || has (entry_paths es) p) (ap (bytes_eq p) (bytes_eq-is e.path p t) ∙ same p)
       by false t = absurd (true≢false (sym h ∙ rw t refl))
 
   none_at : (es : List ManifestEntry) → Each (λ y. is_below p y ≡ true) (entry_paths es) → at_path es p ≡ None
   none_at [] h = refl
-  none_at (e ∷ es) h = rw (other-back p e.path h.0) (none_at es h.1)
+  none_at (e ∷ es) h = rw (above-other p e.path h.0) (none_at es h.1)
 
   -- the entry of the path is the head, or none
   pub at-head : (es : List ManifestEntry) → IsUp (entry_paths es) → IsAtFront p (head es) → at_path es p ≡ with_path p (head es)
@@ -112,7 +93,7 @@ module _ (p : Bytes) where
   at-later (e ∷ es) q less = by (bytes_eq e.path p) refl
     where
       by : (t : Bool) → bytes_eq e.path p ≡ t → at_path (e ∷ es) q ≡ at_path (pop p (e ∷ es)) q
-      by true t = rw t (rw (ap (λ (x : Bytes). bytes_eq x q) (path_is e.path p t) ∙ other p q less) refl)
+      by true t = rw t (rw (ap (λ (x : Bytes). bytes_eq x q) (bytes_eq-is e.path p t) ∙ other p q less) refl)
       by false t = rw t refl
 
 -- ---- three lists
@@ -144,7 +125,7 @@ has-above p q [] h e = absurd (true≢false (sym e))
 has-above p q (y ∷ ys) h e = by (bytes_eq q y) refl (has-above p q ys h.1)
   where
     by : (b : Bool) → bytes_eq q y ≡ b → (has ys q ≡ true → is_below p q ≡ true) → is_below p q ≡ true
-    by true t rest = ap (is_below p) (path_is q y t) ∙ h.0
+    by true t rest = ap (is_below p) (bytes_eq-is q y t) ∙ h.0
     by false t rest = rest (sym (rw t refl) ∙ e)
 
 each-of_has : (P : Bytes → Type 0) (ys : List Bytes) → ((q : Bytes) → has ys q ≡ true → P q) → Each P ys
@@ -201,7 +182,7 @@ module _ (es fs gs : List ManifestEntry) (up_es : IsUp (entry_paths es)) (up_fs 
   same-members q = by (bytes_eq q p) refl
     where
       by : (b : Bool) → bytes_eq q p ≡ b → has (all_paths es fs gs) q ≡ has (p ∷ all_paths (pop p es) (pop p fs) (pop p gs)) q
-      by true e = rw e (ap (has (all_paths es fs gs)) (path_is q p e) ∙ has-all es fs gs p ∙ has-p)
+      by true e = rw e (ap (has (all_paths es fs gs)) (bytes_eq-is q p e) ∙ has-all es fs gs p ∙ has-p)
       by false e =
           rw e (has-all es fs gs q
           ∙ (λ i. has-pop p es q e i || has-pop p fs q e i || has-pop p gs q e i)

@@ -1,6 +1,4 @@
-ghost use Rattle.std.specs.Prelude.{◌≡◌, ℕ, ◌+◌, ◌++◌, ◌<◌, List, [], ◌∷◌, length, true, if◌then◌else◌, option_map, map, IfOk, OnOk, IsTrue};
-ghost use Rattle.text_model.specs.Lists.{rises};
-ghost use Rattle.text_model.specs.Text.{is_below};
+ghost use Rattle.std.specs.Prelude.{◌≡◌, ℕ, ◌+◌, ◌++◌, ◌<◌, List, [], ◌∷◌, length, true, if◌then◌else◌, option_map, map, IfOk, OnOk};
 ghost use Rattle.view_model.specs.View.{Row};
 ghost use Rattle.pair_model.specs.Block.{Parents};
 ghost use Rattle.pair_model.specs.Rule as rule;
@@ -23,8 +21,6 @@ pub fn ruled_files(
     ensures { IfOk result (λ paths. (ps : Parents) (hs : List Row) → AreListed rows.now (option_map (λ m. m.now) first.entry) (option_map (λ m. m.now) second.entry) ps hs
         → paths ≡ rule.ruled_files ps hs) }
 {
-    rises(first);
-    rises(second);
     let mut paths = Paths::new(alloc);
     let mut place = 0;
     let mut in_first = 0;
@@ -41,16 +37,6 @@ pub fn ruled_files(
         in_second = after(in_second, found.second.is_some(), len_of(second));
     }
     Ok(paths)
-}
-
-// A law: the paths of a manifest rise.
-fn rises(manifest: Option<&Manifest>)
-    ensures { IsTrue (rises is_below (map (λ e. e.path) (entries_or_none (option_map (λ m. m.now) manifest.entry)))) }
-{
-    match manifest {
-        Some(manifest) => manifest.is_manifest(),
-        None => (),
-    }
 }
 
 // How many entries there are.

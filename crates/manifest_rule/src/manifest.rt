@@ -1,7 +1,7 @@
 ghost use Rattle.std.specs.Prelude.{◌≡◌, ◌≤◌, ◌<◌, ◌+◌, ◌++◌, ◌↔◌, List, ℕ, [], length, map, Some, IfOk, IfSome, IfNone, OnOk, IsTrue, bytes_eq};
 ghost use Rattle.hg_model.specs.Manifest.{entry_text, manifest_text, IsManifest};
 ghost use Rattle.hg_manifest.specs.Values.{manifest_entry};
-ghost use Rattle.hg_store.specs.Known.{manifest_text_of};
+ghost use Rattle.hg_store.specs.Known.{AreAdded, manifest_text_of};
 ghost use Rattle.view_model.specs.View.{Row, text_limit, entry_of_row};
 ghost use Rattle.pair_model.specs.Block.{Parents};
 ghost use Rattle.pair_model.specs.Rule.{ruled_manifest};
@@ -39,7 +39,6 @@ pub fn make_manifest(
 ) -> Result<RuledManifest, NoMemory>
     ensures { IfOk result (λ made. (ps : Parents) (hs : List Row) → AreRowsOver store.now rows.now first.now second.now ps hs → IsMadeManifest made ps hs) }
 {
-    store.check();
     let text = lines_of(alloc, rows)?;
     if has_text(store, &first.manifest_node, text.as_slice()) {
         return Ok(RuledManifest {
@@ -112,7 +111,8 @@ fn is_line(row: &HgRow, entry: &Entry) -> bool
 
 // Whether a manifest has this text.
 fn has_text(store: &HgStore, node: &Id, text: &[u8]) -> bool
-    ensures { (other : List ℕ) → manifest_text_of store.now node.now ≡ Some other → result ≡ bytes_eq text.now other }
+    ensures same { (other : List ℕ) → manifest_text_of store.now node.now ≡ Some other → result ≡ bytes_eq text.now other }
+    ensures known { AreAdded store.now }
 {
     match store.manifest_text(node) {
         Some(found) => text == found,

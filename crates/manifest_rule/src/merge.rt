@@ -1,4 +1,6 @@
-ghost use Rattle.std.specs.Prelude.{◌≡◌, map, slice_get, option_map, MatchOption};
+ghost use Rattle.std.specs.Prelude.{◌≡◌, map, slice_get, option_map, MatchOption, IsTrue};
+ghost use Rattle.text_model.specs.Lists.{rises};
+ghost use Rattle.text_model.specs.Text.{is_below};
 ghost use Rattle.manifest_rule.specs.Listed.{entry_of_value, entries_or_none};
 ghost use Rattle.manifest_rule.specs.Merged.{lent_row, lent_entry, said, differs, is_listed, with_path, least_of, IsNext, NoneLeft};
 
@@ -27,9 +29,10 @@ pub fn row_at(rows: &HgRows, place: usize) -> Option<&HgRow>
     }
 }
 
-/// The entry at a place of a manifest, if there is one with so many.
+/// The entry at a place of a manifest, whose paths rise, if there is one with so many.
 pub fn entry_at<'a>(manifest: Option<&'a Manifest>, place: usize) -> Option<&'a Entry>
-    ensures { lent_entry result ≡ slice_get (entries_or_none (option_map (λ m. m.now) manifest.entry)) place }
+    ensures entry { lent_entry result ≡ slice_get (entries_or_none (option_map (λ m. m.now) manifest.entry)) place }
+    ensures rises { IsTrue (rises is_below (map (λ e. e.path) (entries_or_none (option_map (λ m. m.now) manifest.entry)))) }
 {
     let manifest = manifest?;
     if place < manifest.len() {

@@ -9,7 +9,8 @@ use Rattle.text_model.specs.Text.{Bytes}
 use Rattle.text_model.specs.Id.{Id, null, is_null, node_id, blob_id}
 use Rattle.text_model.specs.Fault.{FaultName}
 use Rattle.text_model.proofs.TestLemmas.{both}
-use Rattle.hg_model.proofs.RevisionLemmas.{same_group-is}
+use Rattle.text_model.proofs.Options.{none_some, some_is, not_false}
+use Rattle.hg_model.proofs.RevisionLemmas.{same_group-is, named_if-None}
 use Rattle.hg_model.specs.Changeset.{Changeset, IsChangesetText}
 use Rattle.hg_model.specs.Manifest.{ManifestEntry, IsManifestText, manifest_text}
 use Rattle.hg_model.specs.FileText.{file_text, file_order, manifest_order}
@@ -24,12 +25,6 @@ use Rattle.hg_store.specs.declared.view.View.{View}
 use Rattle.view_model.specs.View.{Row, file_node, entry_of_row, ManifestParents, NoManifest, Over, ChangesetView}
 use Rattle.view_model.specs.Held.{IsFileHeld, IsManifestHeld, IsChangesetHeld}
 use Rattle.pair_known.specs.Rows.{RowValue, row_value}
-
-pub some_is : {X : Type 0} {x y : X} → Some x ≡ Some y → x ≡ y
-some_is e = cc
-
-pub none_some : {X : Type 0} {x : X} → None ≡ Some x → ⊥
-none_some e = cc
 
 -- ---- what a held revision shows
 
@@ -52,14 +47,6 @@ three None None None (Some n) h = absurd cc
 three None None (Some n) d h = absurd cc
 three None (Some n) c d h = absurd cc
 three (Some n) b c d h = absurd cc
-
-named_if-None : (b : Bool) (n : FaultName) → named_if b n ≡ None → b ≡ false
-named_if-None true n h = absurd cc
-named_if-None false n h = refl
-
-not_false : (b : Bool) → not b ≡ false → b ≡ true
-not_false true h = refl
-not_false false h = absurd (true≢false h)
 
 sound-one : (known : List Revision) (r : Revision) → IsAddedTo known r → IsSound r
 unfolding text_fault
@@ -251,11 +238,6 @@ rows-more known made (x ∷ rows) zero e at h is = ap (λ (r : RowValue). r ∷ 
 rows-more known made (x ∷ rows) (suc i) e at h is =
     let plus : suc i + 1 ≡ suc (i + 1) = omega arith in
     ap (λ (n : ℕ). map row_value (take n (x ∷ rows))) plus ∙ ap (λ (l : List RowValue). row_value x ∷ l) (rows-more known made rows i e at h.1 is)
-
-pub each_get : {X : Type 0} (P : X → Type 0) (xs : List X) (i : ℕ) (x : X) → slice_get xs i ≡ Some x → Each P xs → P x
-each_get P [] i x at h = absurd (none_some at)
-each_get P (y ∷ xs) zero x at h = subst P (some_is at) h.0
-each_get P (y ∷ xs) (suc i) x at h = each_get P xs i x at h.1
 
 -- a revision that has a blob is known
 pub blob-known : (known : List Revision) (path : Bytes) (e : ManifestEntry) (blob : Id) → path ≡ e.path → IsFileBlob known path e.node blob → is_unknown known e ≡ false

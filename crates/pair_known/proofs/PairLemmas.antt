@@ -4,6 +4,7 @@ use Rattle.std.specs.Prelude.{bytes_eq, option_map, IsTrue}
 use Rattle.std.specs.List.{find, list_any}
 use Rattle.std.specs.Map.{lookup}
 use Rattle.text_model.specs.Id.{Id}
+use Rattle.text_model.proofs.Options.{some_none}
 use Rattle.git_model.specs.Tree.{has_distinct}
 use Rattle.git_store.proofs.DistinctLemmas.{bytes_eq-comm, has_distinct-push}
 use Rattle.pair_known.specs.Partners.{git_at, hg_at, ArePartners, IsTable}
@@ -25,16 +26,13 @@ hg-lookup (e ∷ es) id = by (bytes_eq e.1 id) refl (hg-lookup es id)
     by true t later = rw (bytes_eq-comm id e.1, t) refl
     by false t later = rw (bytes_eq-comm id e.1, t) later
 
-some_none : {X : Type 0} (x : X) → Some x ≡ None → ⊥
-some_none x e = cc
-
 -- an id that finds nothing is none of those
 none_any : (f g : Id × Id → Id) (es : List (Id × Id)) (x : Id) → option_map g (find (λ e. bytes_eq (f e) x) es) ≡ None → list_any (bytes_eq x) (map f es) ≡ false
 none_any f g [] x h = refl
 none_any f g (e ∷ es) x h = by (bytes_eq (f e) x) refl (none_any f g es x)
   where
     by : (t : Bool) → bytes_eq (f e) x ≡ t → (option_map g (find (λ e. bytes_eq (f e) x) es) ≡ None → list_any (bytes_eq x) (map f es) ≡ false) → list_any (bytes_eq x) (map f (e ∷ es)) ≡ false
-    by true t later = absurd (some_none (g e) (sym (rw t refl) ∙ h))
+    by true t later = absurd (some_none {x = g e} (sym (rw t refl) ∙ h))
     by false t later = rw (bytes_eq-comm x (f e), t) (later (sym (rw t refl) ∙ h))
 
 map-push : (f : Id × Id → Id) (es : List (Id × Id)) (e : Id × Id) → map f (es ++ e ∷ []) ≡ map f es ++ f e ∷ []

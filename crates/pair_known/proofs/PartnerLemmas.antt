@@ -9,13 +9,14 @@ use Rattle.text_model.proofs.HexLemmas.{IsId-null}
 use Rattle.text_model.proofs.TestLemmas.{both}
 use Rattle.git_model.specs.Tree.{has_distinct}
 use Rattle.git_model.specs.Commit.{commit_text}
-use Rattle.tree_shape.proofs.Elements.{in-filter, each-in}
-use Rattle.tree_shape.proofs.IdLemmas.{IsId-object_id}
+use Rattle.tree_shape.proofs.Elements.{in-filter}
 use Rattle.view_model.specs.View.{CommitView, commit_id}
 use Rattle.pair_model.specs.Block.{Block, node_of, id_of, block_of_node, block_of_id, git_partner, hg_partner, not_null}
 use Rattle.pair_known.specs.Partners.{git_at, hg_at, ArePartners}
-use Rattle.pair_known.proofs.HeldViews.{some_is, none_some}
 use Rattle.text_model.proofs.Search.{find-map}
+use Rattle.text_model.proofs.Elements.{each_in}
+use Rattle.text_model.proofs.Digests.{IsId-object_id}
+use Rattle.text_model.proofs.Options.{none_some, some_is, some_mapped}
 
 abbrev pub pairs_of : List Block → List (Id × Id)
 pairs_of blocks = map (λ b. (node_of b, id_of b)) blocks
@@ -44,16 +45,12 @@ pub partners-of-pairs : (pairs : List (Id × Id)) (blocks : List Block) (nodes :
     → map (λ node. unwrap_or (git_at pairs node) null) (not_null nodes) ≡ map (git_partner blocks) (not_null nodes)
 partners-of-pairs pairs blocks nodes e = ap (λ (ps : List (Id × Id)). map (λ node. unwrap_or (git_at ps node) null) (not_null nodes)) e ∙ same-partners blocks (not_null nodes)
 
-some-mapped : {X Y : Type 0} (f : X → Y) (o : Option X) → is_some (option_map f o) ≡ is_some o
-some-mapped f None = refl
-some-mapped f (Some x) = refl
-
 -- a node that isn't null has a partner, where all such have blocks
 pub has-partner : (pairs : List (Id × Id)) (blocks : List Block) (nodes : List Id) (node : Id) → pairs ≡ pairs_of blocks → Each (λ p. IsTrue (is_some (block_of_node blocks p))) (not_null nodes)
     → In node nodes → is_null node ≡ false → IsTrue (is_some (git_at pairs node))
 has-partner pairs blocks nodes node e all i some =
-    (λ k. is_some (git_at (e k) node)) ∙ ap is_some (git-pairs blocks node) ∙ some-mapped id_of (block_of_node blocks node)
-    ∙ each-in (λ p. IsTrue (is_some (block_of_node blocks p))) (not_null nodes) node all (in-filter (λ id. not (is_null id)) node nodes i (ap not some))
+    (λ k. is_some (git_at (e k) node)) ∙ ap is_some (git-pairs blocks node) ∙ some_mapped id_of (block_of_node blocks node)
+    ∙ each_in (λ p. IsTrue (is_some (block_of_node blocks p))) (not_null nodes) node all (in-filter (λ id. not (is_null id)) node nodes i (ap not some))
 
 pub IsId-commit_id : (c : CommitView) → IsId (commit_id c)
 unfolding commit_id

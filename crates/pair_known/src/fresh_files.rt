@@ -59,15 +59,9 @@ impl FreshFiles {
         requires { AreFreshFiles (self.old ++ fresh_revision item ∷ []) }
         ensures ok { OnOk result (self.new ≡ self.old ++ fresh_revision item ∷ []) }
         ensures err { OnErr result (self.new ≡ self.old) }
+        ensures rises { AreFreshFiles self.new }
     {
         Ok(self.items.push(item)?)
-    }
-
-    /// A law, which does nothing when it runs: the paths rise.
-    pub fn check(&self)
-        ensures { AreFreshFiles self.now }
-    {
-        let _items = &self.items;
     }
 
     /// How many revisions there are.

@@ -81,7 +81,6 @@ fn read_commit(alloc: Global, store: &GitStore, id: &Id) -> Result<Commit, NoMem
     ensures at { IfOk result (IsCommitAt store.now id.now) }
     ensures one { IfOk result (λ x. (v : model.Commit) → IsCommitAt store.now id.now v → v ≡ x) }
 {
-    store.check();
     let (_, content) = store.content(id).unwrap();
     match Commit::read(alloc, content) {
         Ok(commit) => Ok(commit),

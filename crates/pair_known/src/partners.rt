@@ -46,14 +46,16 @@ impl Partners {
 
     /// The id of the commit whose partner is the changeset with this node; `None` exactly where it has none.
     pub fn git_of(&self, node: &Id) -> Option<Id>
-        ensures { result ≡ git_at self.now node.now }
+        ensures partner { result ≡ git_at self.now node.now }
+        ensures partners { ArePartners self.now }
     {
         self.git.get(node).copied()
     }
 
     /// The node of the changeset whose partner is the commit with this id; `None` exactly where it has none.
     pub fn hg_of(&self, id: &Id) -> Option<Id>
-        ensures { result ≡ hg_at self.now id.now }
+        ensures partner { result ≡ hg_at self.now id.now }
+        ensures partners { ArePartners self.now }
     {
         self.hg.get(id).copied()
     }
@@ -78,6 +80,7 @@ impl Partners {
         requires id_is_free { hg_at self.old id ≡ None }
         ensures ok { OnOk result (self.new ≡ self.old ++ (node, id) ∷ []) }
         ensures err { OnErr result (self.new ≡ self.old) }
+        ensures partners { ArePartners self.new }
     {
         self.hg.reserve(1)?;
         self.git.insert(node, id)?;

@@ -9,19 +9,12 @@ use Rattle.text_model.specs.Cuts.{Lacks, cut_of}
 use Rattle.text_model.proofs.CutLemmas.{cut_of-at, cut_of-takes}
 use Rattle.text_model.proofs.LackLemmas.{Lacks-by_test, has_byte-lacks, Lacks-append, Lacks-front, Lacks-rest}
 use Rattle.git_model.specs.Commit.{has_angle}
-use Rattle.text_model.proofs.Options.{none_some, some_is}
+use Rattle.text_model.proofs.Options.{none_some, some_is, or_parts, or_neither}
 use Rattle.git_model.proofs.OptionLemmas.{and_then-some, if-some}
 use Rattle.pair_model.specs.User.{Address, name_in, email_in, split_user, no_email, or_unknown, unknown_user, plain_address, without_angles, other_address, address_of}
 use Rattle.pair_model.proofs.EndLemmas.{without_last-push, ends_with-push}
 
 -- ---- a user `N <E>`
-
-or_false : (a b : Bool) → (a || b) ≡ false → (a ≡ false) × (b ≡ false)
-or_false true b h = absurd (true≢false h)
-or_false false b h = (refl, h)
-
-neither : (a b : Bool) → a ≡ false → b ≡ false → (a || b) ≡ false
-neither a b x y = rw (x, y) refl
 
 -- a byte behind a text that lacks it is not in it, where it is another
 Lacks-push : (b c : ℕ) (text : Bytes) → c ≢ b → Lacks b text → Lacks b (text ++ c ∷ [])
@@ -36,8 +29,8 @@ long (b ∷ bytes) some = lt-ltb 1 (length ((b ∷ bytes) ++ 32 ∷ [])) (omega 
 
 clean-push : (name : Bytes) → has_angle name ≡ false → has_angle (name ++ 32 ∷ []) ≡ false
 clean-push name h =
-    let parts = or_false (has_byte 60 name) (has_byte 62 name) h in
-    neither (has_byte 60 (name ++ 32 ∷ [])) (has_byte 62 (name ++ 32 ∷ []))
+    let parts = or_parts (has_byte 60 name) (has_byte 62 name) h in
+    or_neither (has_byte 60 (name ++ 32 ∷ [])) (has_byte 62 (name ++ 32 ∷ []))
     (has_byte-lacks 60 (name ++ 32 ∷ []) (Lacks-push 60 32 name (other_byte 60 32 refl) (Lacks-by_test 60 name parts.0)))
     (has_byte-lacks 62 (name ++ 32 ∷ []) (Lacks-push 62 32 name (other_byte 62 32 refl) (Lacks-by_test 62 name parts.1)))
 
@@ -57,7 +50,7 @@ pub address_of-named : (name email : Bytes) → name ≢ [] → has_angle name �
     → address_of (name ++ codes " <" ++ email ++ codes ">") ≡ record { name = name; email = email }
 unfolding split_user
 address_of-named name email some n e =
-    let parts = or_false (has_byte 60 name) (has_byte 62 name) n in
+    let parts = or_parts (has_byte 60 name) (has_byte 62 name) n in
     let front : Lacks 60 (name ++ 32 ∷ []) = Lacks-push 60 32 name (other_byte 60 32 refl) (Lacks-by_test 60 name parts.0) in
     rw (regroup name email, cut_of-at 60 (name ++ 32 ∷ []) (email ++ 62 ∷ []) front, name_in-push name some n, email_in-push email e) refl
 

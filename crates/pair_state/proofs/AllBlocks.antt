@@ -6,13 +6,13 @@ use Rattle.text_model.specs.Id.{Id, has_id}
 use Rattle.text_model.proofs.EachLemmas.{Each-append, Each-weaker}
 use Rattle.text_model.proofs.Elements.{in_left, in_right}
 use Rattle.text_model.proofs.OrderLemmas.{has_id-In, In-has_id}
-use Rattle.hg_model.specs.Revision.{Changesets, Revision, knows, known_after}
+use Rattle.hg_model.specs.Revision.{Changesets, Revision, knows, known_after, known_after_all}
 use Rattle.view_model.specs.View.{ChangesetView, ManifestParents, NoManifest, Over, Row, changeset_node}
 use Rattle.view_model.specs.Dump.{own_revision, manifest_revision, file_revision, revisions_of, revisions_in}
 use Rattle.pair_model.specs.Block.{Block, changesets_in}
 use Rattle.pair_state.specs.AllBlocks.{HasAllBlocks, stands_in}
 use Rattle.pair_state.specs.Blocks.{IsStateOf}
-use Rattle.history_model.specs.Pull.{all_known, is_saved}
+use Rattle.history_model.specs.Pull.{is_saved}
 use Rattle.pair_state.specs.declared.state_parts.StateParts.{StateParts}
 use Rattle.pair_state.proofs.BlockLemmas.{has-view, parts_of, nodes-more, nodes-append}
 use Rattle.pair_state.proofs.PushChangeset.{block-saved}
@@ -57,7 +57,7 @@ module _ (nodes : List Id) where
       by true = old
       by false = Each-append (IsAmong nodes) known (r ∷ []) old (one, tt)
 
-  pub all-among : (known rs : List Revision) → Each (IsAmong nodes) known → Each (IsAmong nodes) rs → Each (IsAmong nodes) (all_known known rs)
+  pub all-among : (known rs : List Revision) → Each (IsAmong nodes) known → Each (IsAmong nodes) rs → Each (IsAmong nodes) (known_after_all known rs)
   all-among known [] old more = old
   all-among known (r ∷ rs) old more = all-among (known_after known r) rs (after-among known r old more.0) more.1
 
@@ -78,7 +78,7 @@ none-known s state none = record { state = state; saved = subst (Each (λ r. r.g
 
 -- the state of these blocks knows what another knew that has all its blocks, and the revisions of more changesets, which stand behind the others
 pub all-after : (s next : StateParts) (others blocks : List Block) (hs : List ChangesetView) → HasAllBlocks s others → IsStateOf next blocks
-    → next.changesets ≡ s.changesets ++ map changeset_node hs → next.known.hg ≡ all_known s.known.hg (revisions_in hs) → HasAllBlocks next blocks
+    → next.changesets ≡ s.changesets ++ map changeset_node hs → next.known.hg ≡ known_after_all s.known.hg (revisions_in hs) → HasAllBlocks next blocks
 all-after s next others blocks hs all state nodes_are revisions_are =
     in-blocks next blocks state
     (subst (λ (ns : List Id). Each (IsAmong ns) next.known.hg) (sym nodes_are)
@@ -89,7 +89,7 @@ all-after s next others blocks hs all state nodes_are revisions_are =
 
 -- a block came to a state that has all its blocks
 pub all-pushed : (s next : StateParts) (others blocks : List Block) (b : Block) → HasAllBlocks s others → IsStateOf s blocks → IsStateOf next (blocks ++ b ∷ [])
-    → next.known.hg ≡ all_known s.known.hg (revisions_in (parts_of b)) → HasAllBlocks next (blocks ++ b ∷ [])
+    → next.known.hg ≡ known_after_all s.known.hg (revisions_in (parts_of b)) → HasAllBlocks next (blocks ++ b ∷ [])
 all-pushed s next others blocks b all of state revisions_are = all-after s next others (blocks ++ b ∷ []) (parts_of b) all state (nodes-more s next blocks b of state) revisions_are
 
 -- ---- one block, and some behind others

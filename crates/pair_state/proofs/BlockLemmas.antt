@@ -7,6 +7,8 @@ use Rattle.std.proofs.lemmas.List.Concat.{flat_map-append}
 use Rattle.text_model.specs.Lists.{Each}
 use Rattle.text_model.specs.Id.{Id, has_id}
 use Rattle.text_model.proofs.EachLemmas.{Each-push}
+use Rattle.text_model.proofs.Options.{some_mapped}
+use Rattle.text_model.proofs.Elements.{map_append}
 use Rattle.hg_model.specs.Revision.{Revision}
 use Rattle.git_model.specs.Object.{Object}
 use Rattle.git_model.specs.Unfold.{walk_fault}
@@ -48,20 +50,12 @@ hg-blocks (b ∷ blocks) id = by (bytes_eq (id_of b) id) (hg-blocks blocks id)
     by true rest = refl
     by false rest = rest
 
-some-map : {X Y : Type 0} (f : X → Y) (o : Option X) → is_some (option_map f o) ≡ is_some o
-some-map f None = refl
-some-map f (Some x) = refl
-
-pub none-is : {X : Type 0} (o : Option X) → is_some o ≡ false → o ≡ None
-none-is None h = refl
-none-is (Some x) h = absurd (true≢false h)
-
 module _ (k : Known) (blocks : List Block) (held : IsHistoryHeld k blocks) where
   pub git-some : (node : Id) → is_some (git_at k.partners node) ≡ is_some (block_of_node blocks node)
-  git-some node = ap (λ (ps : List (Id × Id)). is_some (git_at ps node)) held.held.partners ∙ ap is_some (git-blocks blocks node) ∙ some-map id_of (block_of_node blocks node)
+  git-some node = ap (λ (ps : List (Id × Id)). is_some (git_at ps node)) held.held.partners ∙ ap is_some (git-blocks blocks node) ∙ some_mapped id_of (block_of_node blocks node)
 
   pub hg-some : (id : Id) → is_some (hg_at k.partners id) ≡ is_some (block_of_id blocks id)
-  hg-some id = ap (λ (ps : List (Id × Id)). is_some (hg_at ps id)) held.held.partners ∙ ap is_some (hg-blocks blocks id) ∙ some-map node_of (block_of_id blocks id)
+  hg-some id = ap (λ (ps : List (Id × Id)). is_some (hg_at ps id)) held.held.partners ∙ ap is_some (hg-blocks blocks id) ∙ some_mapped node_of (block_of_id blocks id)
 
 -- ---- nodes
 
@@ -83,10 +77,6 @@ any-saved nodes blocks are (l ∷ ls) =
 map-push : {X Y : Type 0} (f : X → Y) (xs : List X) (x : X) → map f (xs ++ x ∷ []) ≡ map f xs ++ f x ∷ []
 map-push f [] x = refl
 map-push f (y ∷ xs) x = ap (λ l. f y ∷ l) (map-push f xs x)
-
-map-append : {X Y : Type 0} (f : X → Y) (xs ys : List X) → map f (xs ++ ys) ≡ map f xs ++ map f ys
-map-append f [] ys = refl
-map-append f (x ∷ xs) ys = ap (λ l. f x ∷ l) (map-append f xs ys)
 
 -- the changesets of a block
 abbrev pub parts_of : Block → List ChangesetView
@@ -135,7 +125,7 @@ pub has-more : (old next : StateParts) (b : Block) (links : List Id) (node id : 
 has-more old next b links node id by links_are node_is id_is agreed = record {
   partners = by.partners ∙ (λ i. old.known.partners ++ (node_is i, id_is i) ∷ []);
   blocks = by.blocks ∙ (λ i. map value_of old.blocks ++ record { node = node_is i; commit = id_is i; links = (ap (λ (l : List Id). length l) links_are ∙ length-map b.links changeset_node) i } ∷ []);
-  changesets = by.changesets ∙ ap (λ (l : List Id). old.changesets ++ l) ((λ i. links_are i ++ node_is i ∷ []) ∙ sym (map-append changeset_node b.links (b.changeset ∷ [])));
+  changesets = by.changesets ∙ ap (λ (l : List Id). old.changesets ++ l) ((λ i. links_are i ++ node_is i ∷ []) ∙ sym (map_append changeset_node b.links (b.changeset ∷ [])));
   commits = by.commits ∙ (λ i. old.commits ++ id_is i ∷ []);
   added = by.added;
   one = by.one;
@@ -160,7 +150,7 @@ module _ (old next : StateParts) (blocks : List Block) (b : Block) (of : IsState
     sound = more.sound;
     blocks_are = has.blocks ∙ ap (λ (l : List BlockValue). l ++ block_value b ∷ []) of.blocks_are ∙ sym (map-push block_value blocks b);
     changesets = has.changesets ∙ ap (λ (l : List Id). l ++ map changeset_node (parts_of b)) of.changesets
-        ∙ sym (map-append changeset_node (changesets_in blocks) (parts_of b)) ∙ ap (map changeset_node) (sym (changesets-push blocks b));
+        ∙ sym (map_append changeset_node (changesets_in blocks) (parts_of b)) ∙ ap (map changeset_node) (sym (changesets-push blocks b));
     commits = has.commits ∙ ap (λ (l : List Id). l ++ id_of b ∷ []) of.commits ∙ sym (map-push id_of blocks b);
     agreed = has.agreed;
   }
@@ -168,9 +158,9 @@ module _ (old next : StateParts) (blocks : List Block) (b : Block) (of : IsState
 -- the nodes of the state's changesets, with those of one more block
 pub nodes-more : (s next : StateParts) (blocks : List Block) (b : Block) → IsStateOf s blocks → IsStateOf next (blocks ++ b ∷ []) → next.changesets ≡ s.changesets ++ map changeset_node (parts_of b)
 nodes-more s next blocks b of state =
-    state.changesets ∙ ap (map changeset_node) (changesets-push blocks b) ∙ map-append changeset_node (changesets_in blocks) (parts_of b)
+    state.changesets ∙ ap (map changeset_node) (changesets-push blocks b) ∙ map_append changeset_node (changesets_in blocks) (parts_of b)
     ∙ ap (λ (l : List Id). l ++ map changeset_node (parts_of b)) (sym of.changesets)
 
 -- the nodes of the changesets of blocks and of others behind them
 pub nodes-append : (blocks new : List Block) → map changeset_node (changesets_in (blocks ++ new)) ≡ map changeset_node (changesets_in blocks) ++ map changeset_node (changesets_in new)
-nodes-append blocks new = ap (map changeset_node) (flat_map-append parts_of blocks new) ∙ map-append changeset_node (changesets_in blocks) (changesets_in new)
+nodes-append blocks new = ap (map changeset_node) (flat_map-append parts_of blocks new) ∙ map_append changeset_node (changesets_in blocks) (changesets_in new)

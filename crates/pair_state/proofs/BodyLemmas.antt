@@ -12,6 +12,7 @@ use Rattle.hg_model.specs.Revision.{Revision, FilesAt}
 use Rattle.git_model.specs.Object.{Object, object_at, knows_object}
 use Rattle.text_model.proofs.Options.{none_some, some_is}
 use Rattle.git_store.proofs.KnownLemmas.{same_kind-is}
+use Rattle.git_store.proofs.Growth.{found-in}
 use Rattle.git_view.proofs.Found.{found-id}
 use Rattle.hg_store.specs.Known.{text_of}
 use Rattle.tree_shape.specs.Laws.{IsKnown}
@@ -20,7 +21,6 @@ use Rattle.view_model.specs.Held.{IsFileHeld}
 use Rattle.pair_known.specs.Rows.{RowValue, row_value}
 use Rattle.pair_state.specs.Blocks.{body_blob}
 use Rattle.pair_state.specs.Step.{AreAsked, IsElse}
-use Rattle.pair_state.proofs.GrowthLemmas.{found-in}
 
 abbrev kind_and_content : Object → ObjectKind × Bytes
 kind_and_content o = (o.kind, o.content)
@@ -42,12 +42,12 @@ found-object git id kind content h = by (object_at git id) refl h
         record { object = o; at = e; kind_is = sym (ap (λ (p : ObjectKind × Bytes). p.0) same); content_is = sym (ap (λ (p : ObjectKind × Bytes). p.1) same) }
 
 -- the text of a revision has the row's body
-pub body-is : (hg : List Revision) (x : Row) (text : Bytes) (meta : Option Bytes) (body : Bytes)
-    → ((text : Bytes) (meta other : Option Bytes) (body rest : Bytes) → IsFileText text meta body → IsFileText text other rest → (meta ≡ other) × (body ≡ rest))
-    → IsFileHeld hg x → Some text ≡ text_of hg (FilesAt x.path) (file_node x.revision) → IsFileText text meta body → body ≡ (x.revision).body
-body-is hg x text meta body one held at spells =
+pub body-is : (hg : List Revision) (x : Row) (text : Bytes) (found : Option Bytes) (body : Bytes)
+    → ((meta : Option Bytes) (rest : Bytes) → IsFileText text meta rest → (found ≡ meta) × (body ≡ rest))
+    → IsFileHeld hg x → Some text ≡ text_of hg (FilesAt x.path) (file_node x.revision) → body ≡ (x.revision).body
+body-is hg x text found body only held at =
     let same : text ≡ held.revision.text = some_is {x = text} {y = held.revision.text} (at ∙ ap (option_map (λ (r : Revision). r.text)) held.is_held) in
-    (one text meta (x.revision).meta body (x.revision).body spells (subst (λ (t : Bytes). IsFileText t (x.revision).meta (x.revision).body) (sym same) held.text)).1
+    (only (x.revision).meta (x.revision).body (subst (λ (t : Bytes). IsFileText t (x.revision).meta (x.revision).body) (sym same) held.text)).1
 
 module _ (git : List Object) (x : Row) (kind : ObjectKind) (content body : Bytes) (is : body ≡ (x.revision).body) (at : Some (kind, content) ≡ option_map {U = ObjectKind × Bytes} kind_and_content (object_at git (body_blob x).id)) where
   of : FoundObject git (body_blob x).id kind content

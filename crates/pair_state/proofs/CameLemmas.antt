@@ -6,16 +6,17 @@ use Rattle.std.proofs.lemmas.Slice.Eq.{bytes_eq-Decides}
 use Rattle.text_model.specs.Lists.{In}
 use Rattle.text_model.specs.Id.{Id, is_null, node_id}
 use Rattle.text_model.specs.Fault.{FaultName, Collision}
+use Rattle.text_model.proofs.Elements.{in_left, in_right, in_any}
 use Rattle.hg_model.specs.Manifest.{manifest_text}
-use Rattle.hg_model.specs.Revision.{Revision, Group, is_of, revision_of, knows, known_after, is_otherwise, first_name, named_if, addition_fault, text_fault}
+use Rattle.hg_model.specs.Revision.{Revision, Group, is_of, revision_of, knows, known_after, is_otherwise, first_name, named_if, addition_fault, text_fault, known_after_all}
+use Rattle.hg_model.proofs.RevisionLemmas.{known_after_all-append}
 use Rattle.hg_store.proofs.KnownLemmas.{addition-text}
 use Rattle.view_model.specs.View.{Row, rows_text}
 use Rattle.pair_known.specs.Rows.{row_value}
 use Rattle.pair_state.specs.Came.{is_bad, IsReady, AreClean, HaveCome, HasBad, IsWithinHg}
-use Rattle.history_model.specs.Pull.{all_known}
 use Rattle.pair_state.specs.Step.{line_of}
-use Rattle.pair_state.proofs.GrowthLemmas.{in-any, any-in}
-use Rattle.tree_shape.proofs.Elements.{in-left, in-right, in-append}
+use Rattle.tree_shape.proofs.Elements.{in-append}
+use Rattle.git_store.proofs.Growth.{any-in}
 
 -- ---- faults
 
@@ -72,7 +73,7 @@ within-after known r group node x e = by (knows known r.group r.node)
     by true = e
     by false = find-front known (r ∷ []) group node x e
 
-pub within-all : (known rs : List Revision) → IsWithinHg known (all_known known rs)
+pub within-all : (known rs : List Revision) → IsWithinHg known (known_after_all known rs)
 within-all known [] group node x e = e
 within-all known (r ∷ rs) group node x e = within-all (known_after known r) rs group node x (within-after known r group node x e)
 
@@ -91,17 +92,13 @@ come-none known = record { are = refl; clean = tt }
 pub come-one : (old new : List Revision) (r : Revision) → new ≡ known_after old r → is_bad old r ≡ false → HaveCome old new (r ∷ [])
 come-one old new r are clean = record { are = are; clean = (clean, tt) }
 
-all-append : (known rs more : List Revision) → all_known known (rs ++ more) ≡ all_known (all_known known rs) more
-all-append known [] more = refl
-all-append known (r ∷ rs) more = all-append (known_after known r) rs more
-
-clean-append : (known rs more : List Revision) → AreClean known rs → AreClean (all_known known rs) more → AreClean known (rs ++ more)
+clean-append : (known rs more : List Revision) → AreClean known rs → AreClean (known_after_all known rs) more → AreClean known (rs ++ more)
 clean-append known [] more c d = d
 clean-append known (r ∷ rs) more c d = (c.0, clean-append (known_after known r) rs more c.1 d)
 
 pub come-more : (a b c rs more : List Revision) → HaveCome a b rs → HaveCome b c more → HaveCome a c (rs ++ more)
 come-more a b c rs more h k = record {
-  are = k.are ∙ ap (λ (l : List Revision). all_known l more) h.are ∙ sym (all-append a rs more);
+  are = k.are ∙ ap (λ (l : List Revision). known_after_all l more) h.are ∙ sym (known_after_all-append a rs more);
   clean = clean-append a rs more h.clean (subst (λ (l : List Revision). AreClean l more) h.are k.clean);
 }
 
@@ -109,16 +106,16 @@ after-in : (known : List Revision) (r x : Revision) → In x (known_after known 
 after-in known r x = by (knows known r.group r.node)
   where
     by : (t : Bool) → In x (if t then known else known ++ r ∷ []) → In x (known ++ r ∷ [])
-    by true i = in-left x known (r ∷ []) i
+    by true i = in_left x known (r ∷ []) i
     by false i = i
 
-pub all-in : (known rs : List Revision) (x : Revision) → In x (all_known known rs) → In x (known ++ rs)
-all-in known [] x i = in-left x known [] i
+pub all-in : (known rs : List Revision) (x : Revision) → In x (known_after_all known rs) → In x (known ++ rs)
+all-in known [] x i = in_left x known [] i
 all-in known (r ∷ rs) x i = subst (λ (l : List Revision). In x l) (append_assoc known (r ∷ []) rs) (by (in-append x (known_after known r) rs (all-in (known_after known r) rs x i)))
   where
     by : In x (known_after known r) ⊎ In x rs → In x ((known ++ r ∷ []) ++ rs)
-    by (inl j) = in-left x (known ++ r ∷ []) rs (after-in known r x j)
-    by (inr j) = in-right x (known ++ r ∷ []) rs j
+    by (inl j) = in_left x (known ++ r ∷ []) rs (after-in known r x j)
+    by (inr j) = in_right x (known ++ r ∷ []) rs j
 
 -- what is bad over a part is bad over the whole
 pub bad-more : (small large : List Revision) (r : Revision) → ((x : Revision) → In x small → In x large) → is_bad small r ≡ true → is_bad large r ≡ true
@@ -126,25 +123,25 @@ bad-more small large r f h = by (is_null r.node) h
   where
     by : (t : Bool) → (t || list_any (is_otherwise r) small) ≡ true → (t || list_any (is_otherwise r) large) ≡ true
     by true i = refl
-    by false i = let a = any-in (is_otherwise r) small i in in-any (is_otherwise r) large a.0 (f a.0 a.1) a.2
+    by false i = let a = any-in (is_otherwise r) small i in in_any (is_otherwise r) large a.0 (f a.0 a.1) a.2
 
 pub bad-one : (old : List Revision) (r : Revision) → is_bad old r ≡ true → HasBad old (r ∷ [])
-bad-one old r h = record { revision = r; is_new = inl refl; bad = bad-more old (old ++ r ∷ []) r (λ x i. in-left x old (r ∷ []) i) h }
+bad-one old r h = record { revision = r; is_new = inl refl; bad = bad-more old (old ++ r ∷ []) r (λ x i. in_left x old (r ∷ []) i) h }
 
 pub bad-front : (old rs more : List Revision) → HasBad old rs → HasBad old (rs ++ more)
 bad-front old rs more b = record {
   revision = b.revision;
-  is_new = in-left b.revision rs more b.is_new;
-  bad = bad-more (old ++ rs) (old ++ (rs ++ more)) b.revision (λ x i. subst (λ (l : List Revision). In x l) (append_assoc old rs more) (in-left x (old ++ rs) more i)) b.bad;
+  is_new = in_left b.revision rs more b.is_new;
+  bad = bad-more (old ++ rs) (old ++ (rs ++ more)) b.revision (λ x i. subst (λ (l : List Revision). In x l) (append_assoc old rs more) (in_left x (old ++ rs) more i)) b.bad;
 }
 
 pub bad-rest : (old new rs more : List Revision) → HaveCome old new rs → HasBad new more → HasBad old (rs ++ more)
 bad-rest old new rs more h b = record {
   revision = b.revision;
-  is_new = in-right b.revision rs more b.is_new;
+  is_new = in_right b.revision rs more b.is_new;
   bad = bad-more (new ++ more) (old ++ (rs ++ more)) b.revision (λ x i. subst (λ (l : List Revision). In x l) (append_assoc old rs more) (from x (in-append x new more i))) b.bad;
 }
   where
     from : (x : Revision) → In x new ⊎ In x more → In x ((old ++ rs) ++ more)
-    from x (inl i) = in-left x (old ++ rs) more (all-in old rs x (subst (λ (l : List Revision). In x l) h.are i))
-    from x (inr i) = in-right x (old ++ rs) more i
+    from x (inl i) = in_left x (old ++ rs) more (all-in old rs x (subst (λ (l : List Revision). In x l) h.are i))
+    from x (inr i) = in_right x (old ++ rs) more i

@@ -9,18 +9,20 @@ use Rattle.text_model.specs.Path.{is_fit_path}
 use Rattle.text_model.specs.Id.{Id, null, is_null}
 use Rattle.text_model.proofs.EachLemmas.{Each-front, Each-rest, Each-weaker}
 use Rattle.text_model.proofs.OrderLemmas.{is_below-one_way, is_below-same}
-use Rattle.text_model.proofs.TestLemmas.{both}
+use Rattle.text_model.proofs.TestLemmas.{both, bytes_eq-self as self}
+use Rattle.text_model.proofs.Elements.{none_in}
+use Rattle.text_model.proofs.Options.{not_false, or_parts}
 use Rattle.hg_model.specs.Changeset.{changeset_text}
 use Rattle.hg_model.specs.FileText.{file_text, names_copy, file_order, manifest_order}
-use Rattle.hg_model.specs.Revision.{Revision, Group, Changesets, Manifests, FilesAt, same_group, is_of, revision_of, known_after, is_otherwise, same_parents}
+use Rattle.hg_model.specs.Revision.{Revision, Group, Changesets, Manifests, FilesAt, same_group, is_of, revision_of, known_after, is_otherwise, same_parents, known_after_all}
+use Rattle.hg_model.proofs.RevisionLemmas.{same_group-self, is_of-self}
+use Rattle.hg_model.proofs.ParentOrder.{manifest_order-turned, file_order-turned}
 use Rattle.pair_known.specs.Ruled.{IsLooseView}
 use Rattle.view_model.specs.View.{Row, ChangesetView, IsRevision, AreManifestParents, ManifestParents, NoManifest, Over, changeset_node, manifest_node, file_node, rows_text}
 use Rattle.view_model.specs.Held.{IsFileHeld, IsManifestHeld, IsChangesetHeld, AreChangesetsHeld}
 use Rattle.view_model.specs.Dump.{own_revision, manifest_revision, file_revision, revisions_of}
 use Rattle.pair_state.specs.Came.{is_bad, AreClean, IsWithinHg}
-use Rattle.history_model.specs.Pull.{all_known}
 use Rattle.pair_state.proofs.CameLemmas.{within-all}
-use Rattle.pair_state.proofs.GrowthLemmas.{none-any}
 use Rattle.pair_state.proofs.ManifestLemmas.{rows-manifest}
 
 -- ---- what is held stays held
@@ -59,21 +61,10 @@ pub record CameAs (known : List Revision) (r : Revision) : Type 0 where
   pub at : revision_of known r.group r.node ≡ Some found
   pub like : alike r found ≡ true
 
-self : (b : Bytes) → bytes_eq b b ≡ true
-self b = (bytes_eq-Decides b b).1 refl
-
 pub same-parents : (g : Group) (p q : Id) → same_parents g p q p q ≡ true
 same-parents Changesets p q = rw (self p, self q) refl
 same-parents Manifests p q = rw (self p, self q) refl
 same-parents (FilesAt path) p q = rw (self p, self q) refl
-
-same-group : (g : Group) → same_group g g ≡ true
-same-group Changesets = refl
-same-group Manifests = refl
-same-group (FilesAt path) = self path
-
-is-of : (r : Revision) → is_of r.group r.node r ≡ true
-is-of r = rw (same-group r.group, self r.node) refl
 
 found-of : (test : Revision → Bool) (xs : List Revision) (x : Revision) → find test xs ≡ Some x → In x xs × (test x ≡ true)
 found-of test [] x e = cc
@@ -84,20 +75,12 @@ found-of test (y ∷ xs) x e = by (test y) refl e (found-of test xs x)
     by false t is later = let l = later is in (inr l.0, l.1)
 
 find-last : (known : List Revision) (r : Revision) → revision_of known r.group r.node ≡ None → revision_of (known ++ r ∷ []) r.group r.node ≡ Some r
-find-last [] r h = ap (λ (t : Bool). if t then Some r else None) (is-of r)
+find-last [] r h = ap (λ (t : Bool). if t then Some r else None) (is_of-self r)
 find-last (x ∷ known) r h = by (is_of r.group r.node x) h (find-last known r)
   where
     by : (t : Bool) → (if t then Some x else revision_of known r.group r.node) ≡ None → (revision_of known r.group r.node ≡ None → revision_of (known ++ r ∷ []) r.group r.node ≡ Some r) → (if t then Some x else revision_of (known ++ r ∷ []) r.group r.node) ≡ Some r
     by true is later = cc
     by false is later = later is
-
-pub or-parts : (a b : Bool) → (a || b) ≡ false → (a ≡ false) × (b ≡ false)
-or-parts true b h = absurd (true≢false h)
-or-parts false b h = (refl, h)
-
-not-false : (t : Bool) → not t ≡ false → t ≡ true
-not-false true h = refl
-not-false false h = absurd (true≢false h)
 
 came-as : (known : List Revision) (r : Revision) → is_bad known r ≡ false → CameAs (known_after known r) r
 came-as known r clean = by (revision_of known r.group r.node) refl
@@ -107,11 +90,11 @@ came-as known r clean = by (revision_of known r.group r.node) refl
         (record { found = r; at = find-last known r e; like = rw (self r.text, same-parents r.group r.p r.q) refl })
     by (Some x) e =
         let of = found-of (is_of r.group r.node) known x e in
-        let none = none-any (is_otherwise r) known x (or-parts (is_null r.node) (list_any (is_otherwise r) known) clean).1 of.0 in
+        let none = none_in (is_otherwise r) known x (or_parts (is_null r.node) (list_any (is_otherwise r) known) clean).1 of.0 in
         subst (λ (l : List Revision). CameAs l r) (sym (ap (λ (o : Option Revision). if is_some o then known else known ++ r ∷ []) e))
-        (record { found = x; at = e; like = not-false (alike r x) (sym (ap (λ (t : Bool). t && not (alike r x)) of.1) ∙ none) })
+        (record { found = x; at = e; like = not_false (alike r x) (sym (ap (λ (t : Bool). t && not (alike r x)) of.1) ∙ none) })
 
-pub all-as : (known rs : List Revision) → AreClean known rs → Each (CameAs (all_known known rs)) rs
+pub all-as : (known rs : List Revision) → AreClean known rs → Each (CameAs (known_after_all known rs)) rs
 all-as known [] clean = tt
 all-as known (r ∷ rs) clean =
     let c = came-as known r clean.0 in
@@ -121,29 +104,6 @@ all-as known (r ∷ rs) clean =
 
 null-is : (p : Id) → is_null p ≡ true → p ≡ null
 null-is p h = (bytes_eq-Decides p null).0 h
-
-manifest_order-either : (p q : Id) → manifest_order p q ≡ manifest_order q p
-manifest_order-either p q = by (is_null p) (is_null q) (is_below q p) (is_below p q) refl refl refl refl
-  where
-    by : (s t u v : Bool) → is_null p ≡ s → is_null q ≡ t → is_below q p ≡ u → is_below p q ≡ v → manifest_order p q ≡ manifest_order q p
-    by true true u v e f g h = rw (e, f) (let same : p ≡ q = null-is p e ∙ sym (null-is q f) in λ i. (sym same i, same i))
-    by true false u v e f g h = rw (e, f) refl
-    by false true u v e f g h = rw (e, f) refl
-    by false false true true e f g h = absurd (true≢false (sym h ∙ is_below-one_way q p g))
-    by false false true false e f g h = rw (e, f, g, h) refl
-    by false false false true e f g h = rw (e, f, g, h) refl
-    by false false false false e f g h = rw (e, f, g, h) (let same : p ≡ q = is_below-same p q h g in λ i. (same i, sym same i))
-
-file_order-either : (meta : Option Bytes) (p q : Id) → file_order meta p q ≡ file_order meta q p
-file_order-either meta p q =
-    let m = manifest_order-either p q in
-    (λ i. if names_copy meta && (or (is_null p) (is_null q) i) then ((m i).1, (m i).0) else m i)
-  where
-    or : (s t : Bool) → (s || t) ≡ (t || s)
-    or true true = refl
-    or true false = refl
-    or false true = refl
-    or false false = refl
 
 -- ---- a changeset whose revisions came is held
 
@@ -171,7 +131,7 @@ module _ (known : List Revision) (k : ChangesetView) (view : IsLooseView k) (all
         record {
           revision = a.0.found;
           is_held = a.0.at;
-          parents = ordered (file_order (row.revision).meta) (file_order-either (row.revision).meta) (row.revision).p (row.revision).q a.0.found.p a.0.found.q h.0.2.3 (either-way (row.revision).p (row.revision).q a.0.found.p a.0.found.q r.1);
+          parents = ordered (file_order (row.revision).meta) (file_order-turned (row.revision).meta) (row.revision).p (row.revision).q a.0.found.p a.0.found.q h.0.2.3 (either-way (row.revision).p (row.revision).q a.0.found.p a.0.found.q r.1);
           text = (h.0.2.2, sym text);
         },
         files-held rows a.1 h.1,
@@ -186,7 +146,7 @@ module _ (known : List Revision) (k : ChangesetView) (view : IsLooseView k) (all
       record {
         revision = a.0.found;
         is_held = a.0.at;
-        parents = ordered manifest_order manifest_order-either p q a.0.found.p a.0.found.q order.2 (either-way p q a.0.found.p a.0.found.q r.1);
+        parents = ordered manifest_order manifest_order-turned p q a.0.found.p a.0.found.q order.2 (either-way p q a.0.found.p a.0.found.q r.1);
         text = (rows-manifest k view, sym ((bytes_eq-Decides (rows_text k.rows) a.0.found.text).0 r.0));
       }
 

@@ -10,22 +10,23 @@ use Rattle.text_model.specs.Text.{Bytes, is_below}
 use Rattle.text_model.specs.Id.{Id, IsId, blob, tree, commit, object_id, kind_word, blob_id}
 use Rattle.text_model.specs.Path.{components, lies_below}
 use Rattle.text_model.proofs.OrderLemmas.{is_below-irreflexive}
+use Rattle.text_model.proofs.Elements.{in_left, in_right, each_in, in_any, none_in, each_from, none_all, in_map}
+use Rattle.text_model.proofs.Digests.{IsId-object_id}
 use Rattle.git_model.specs.Tree.{Mode, File, Exec, Link, Directory, is_directory, is_blob_mode, tree_text, GroupFile, Gitlink}
 use Rattle.git_model.specs.Commit.{commit_text}
 use Rattle.git_model.specs.Object.{Object, object_of, object_at, is_other_content}
 use Rattle.git_model.specs.Unfold.{FileRow, IsUnfolding, is_kind_there, row_size, rows_limit, walk_fault, is_object_there, tree_rows}
 use Rattle.git_model.specs.Shape.{Leaf, leaf_of, shape_objects, root_of, trees_of, clash_from, first_clash}
 use Rattle.git_store.specs.Known.{AreKnown, is_same_as, knows_same}
-use Rattle.git_store.proofs.KnownLemmas.{same-has_no_fault}
+use Rattle.git_store.proofs.KnownLemmas.{same-has_no_fault, fault_by}
 use Rattle.git_view.proofs.Found.{found}
 use Rattle.git_view.proofs.Shapes.{filled, same-entries}
 use Rattle.git_view.proofs.Walks.{none-refused}
 use Rattle.tree_shape.specs.Laws.{IsKnown, AreWalkable}
 use Rattle.tree_shape.specs.Sets.{IsFileRow, IsFiles}
 use Rattle.tree_shape.specs.Shapes.{is_tree}
-use Rattle.tree_shape.proofs.Elements.{in-left, in-right, in-append, in-filter, of-filter, each-in}
+use Rattle.tree_shape.proofs.Elements.{in-append, in-filter, of-filter}
 use Rattle.tree_shape.proofs.FileSets.{later, rises-rest}
-use Rattle.tree_shape.proofs.IdLemmas.{IsId-object_id}
 use Rattle.tree_shape.proofs.Names.{components-some, same-components}
 use Rattle.tree_shape.proofs.Rows.{in-lies}
 use Rattle.tree_shape.proofs.Unfolding.{unfolds, fit-short}
@@ -35,9 +36,9 @@ use Rattle.view_model.specs.Held.{file_row_of, IsCommitHeld, IsRowHeld}
 use Rattle.pair_model.specs.Block.{Block, block_of_id}
 use Rattle.pair_model.specs.Collision.{commit_collides}
 use Rattle.pair_known.specs.Ruled.{blob_of_row}
-use Rattle.pair_state.specs.Growth.{Clash}
-use Rattle.pair_state.proofs.GrowthLemmas.{in-any, none-any, found-in, fault-by, none-other}
-use Rattle.pair_state.proofs.ShapeLemmas.{Apart, Part, part-of, tree-in, blob-in, empty_tree, empty-in, in-map}
+use Rattle.git_store.specs.Growth.{Clash}
+use Rattle.git_store.proofs.Growth.{found-in, none-other}
+use Rattle.pair_state.proofs.ShapeLemmas.{Apart, Part, part-of, tree-in, blob-in, empty_tree, empty-in}
 
 -- ---- paths
 
@@ -97,10 +98,6 @@ row-content Link id content h f = absurd (true≢false f)
 row-content Directory id content h f = h.1
 row-content Gitlink id content h f = h.1
 
-pub all-of : {X : Type 0} (P : X → Type 0) (xs : List X) → ((x : X) → In x xs → P x) → Each P xs
-all-of P [] h = tt
-all-of P (x ∷ xs) h = (h x (inl refl), all-of P xs (λ y i. h y (inr i)))
-
 each-map : {X Y : Type 0} (P : Y → Type 0) (f : X → Y) (xs : List X) → ((x : X) → In x xs → P (f x)) → Each P (map f xs)
 each-map P f [] h = tt
 each-map P f (x ∷ xs) h = (h x (inl refl), each-map P f xs (λ y i. h y (inr i)))
@@ -118,8 +115,8 @@ paths-of_files (row ∷ rows) = ap (λ (ps : List Bytes). row.path ∷ ps) (path
 one-row : (rows : List TreeRow) → rises is_below (map (λ (r : FileRow). r.path) (map file_row_of rows)) ≡ true → (a b : TreeRow) → In a rows → In b rows → a.path ≡ b.path → a ≡ b
 one-row [] up a b i j e = absurd i
 one-row (x ∷ rows) up a b (inl p) (inl q) e = p ∙ sym q
-one-row (x ∷ rows) up a b (inl p) (inr j) e = absurd (true≢false (sym (later (file_row_of x) (map file_row_of rows) (file_row_of b) up (in-map file_row_of b rows j)) ∙ ap (λ (t : Bytes). is_below t b.path) (sym (ap (λ (r : TreeRow). r.path) p) ∙ e) ∙ is_below-irreflexive b.path))
-one-row (x ∷ rows) up a b (inr i) (inl q) e = absurd (true≢false (sym (later (file_row_of x) (map file_row_of rows) (file_row_of a) up (in-map file_row_of a rows i)) ∙ ap (λ (t : Bytes). is_below t a.path) (sym (ap (λ (r : TreeRow). r.path) q) ∙ sym e) ∙ is_below-irreflexive a.path))
+one-row (x ∷ rows) up a b (inl p) (inr j) e = absurd (true≢false (sym (later (file_row_of x) (map file_row_of rows) (file_row_of b) up (in_map file_row_of b rows j)) ∙ ap (λ (t : Bytes). is_below t b.path) (sym (ap (λ (r : TreeRow). r.path) p) ∙ e) ∙ is_below-irreflexive b.path))
+one-row (x ∷ rows) up a b (inr i) (inl q) e = absurd (true≢false (sym (later (file_row_of x) (map file_row_of rows) (file_row_of a) up (in_map file_row_of a rows i)) ∙ ap (λ (t : Bytes). is_below t a.path) (sym (ap (λ (r : TreeRow). r.path) q) ∙ sym e) ∙ is_below-irreflexive a.path))
 one-row (x ∷ rows) up a b (inr i) (inr j) e = one-row rows (rises-rest (file_row_of x) (map file_row_of rows) up) a b i j e
 
 pub of-map : {X Y : Type 0} (f : X → Y) (y : Y) (xs : List X) → In y (map f xs) → (x : X) × In x xs × (y ≡ f x)
@@ -135,7 +132,7 @@ clash-none : (at : ℕ) (before rows : List FileRow) → ((a b : FileRow) → In
 unfolding clash_from
 clash-none at before [] h = refl
 clash-none at before (row ∷ rows) h =
-    ap (λ (t : Bool). if t then Some at else clash_from (at + 1) (before ++ row ∷ []) rows) (no-any-below row before (λ b i. h row b (inl refl) (in-left b before (row ∷ rows) i)))
+    ap (λ (t : Bool). if t then Some at else clash_from (at + 1) (before ++ row ∷ []) rows) (no-any-below row before (λ b i. h row b (inl refl) (in_left b before (row ∷ rows) i)))
     ∙ clash-none (at + 1) (before ++ row ∷ []) rows (λ a b i j. h a b (inr i) (subst (λ (l : List FileRow). In b l) (append_assoc before (row ∷ []) rows) j))
 
 size-same : (rows : List TreeRow) → sum_by row_size (map file_row_of rows) ≡ sum_by (λ (row : TreeRow). length row.path + 42) rows
@@ -151,10 +148,6 @@ same-leaves (row ∷ rows) = ap (λ l. leaf_of (file_row_of row) ∷ l) (same-le
 alike : (o : Object) → is_same_as o (Some o) ≡ true
 alike o = rw ((bytes_eq-Decides (kind_word o.kind) (kind_word o.kind)).1 refl, (bytes_eq-Decides o.content o.content).1 refl) refl
 
-pub none-all : {X : Type 0} (test : X → Bool) (xs : List X) → ((x : X) → In x xs → test x ≡ false) → list_any test xs ≡ false
-none-all test [] h = refl
-none-all test (x ∷ xs) h = rw (h x (inl refl), none-all test xs (λ y i. h y (inr i))) refl
-
 abbrev pub own : CommitView → Object
 own c = object_of commit (commit_text c.value)
 
@@ -169,7 +162,7 @@ module _ (c : CommitView) (view : IsCommitView c) where
 
   row-file : (row : TreeRow) → In row c.rows → IsFileRow (file_row_of row)
   row-file row i =
-      let r = each-in _ c.rows row view.rows i in
+      let r = each_in _ c.rows row view.rows i in
       record { fit = r.0; bytes = r.1; empty = row-empty row.mode row.id row.content r.3; id = row-id row.mode row.id row.content r.3 }
 
   pub are-files : IsFiles files
@@ -181,9 +174,9 @@ module _ (c : CommitView) (view : IsCommitView c) where
 
   no-lies : (a b : TreeRow) → In a c.rows → In b c.rows → lies_below a.path b.path ≡ false
   no-lies a b i j =
-      none-any (lies_below a.path) (tree_paths c.rows) b.path
-      (none-any (λ path. list_any (lies_below path) (tree_paths c.rows)) (tree_paths c.rows) a.path view.no_clash (in-map (λ (r : TreeRow). r.path) a c.rows i))
-      (in-map (λ (r : TreeRow). r.path) b c.rows j)
+      none_in (lies_below a.path) (tree_paths c.rows) b.path
+      (none_in (λ path. list_any (lies_below path) (tree_paths c.rows)) (tree_paths c.rows) a.path view.no_clash (in_map (λ (r : TreeRow). r.path) a c.rows i))
+      (in_map (λ (r : TreeRow). r.path) b c.rows j)
 
   pub no-clash : first_clash files ≡ None
   no-clash = clash-none 0 [] files (λ a b i j.
@@ -209,19 +202,19 @@ module _ (c : CommitView) (view : IsCommitView c) where
 
   in-shape : (o : Object) → In o (shape_objects 257 (map leaf_of_row c.rows)) → In o (commit_objects c)
   unfolding commit_objects
-  in-shape o i = in-left o (shape_objects 257 (map leaf_of_row c.rows)) (own c ∷ []) i
+  in-shape o i = in_left o (shape_objects 257 (map leaf_of_row c.rows)) (own c ∷ []) i
 
   pub own-in : In (own c) (commit_objects c)
   unfolding commit_objects
-  own-in = in-right (own c) (shape_objects 257 (map leaf_of_row c.rows)) (own c ∷ []) (inl refl)
+  own-in = in_right (own c) (shape_objects 257 (map leaf_of_row c.rows)) (own c ∷ []) (inl refl)
 
   pub blob-of : (row : TreeRow) → In row (files_among c.rows) → In (blob_of_row row) (commit_objects c)
   blob-of row j =
       let i = among row j in
-      let r = each-in _ c.rows row view.rows i.0 in
+      let r = each_in _ c.rows row view.rows i.0 in
       let short : length (components row.path) ≤ 256 = fit-short row.path r.0 in
       in-shape (blob_of_row row)
-      (blob-in 257 (map leaf_of_row c.rows) (leaf_of_row row) leaves-apart (in-map leaf_of_row row c.rows i.0) (components-some row.path) (omega (arith, short)) i.1)
+      (blob-in 257 (map leaf_of_row c.rows) (leaf_of_row row) leaves-apart (in_map leaf_of_row row c.rows i.0) (components-some row.path) (omega (arith, short)) i.1)
 
   pub tree-of : (o : Object) → In o (trees_of files) → In o (commit_objects c)
   unfolding trees_of
@@ -253,9 +246,9 @@ module _ (c : CommitView) (view : IsCommitView c) where
   -- the tree of a row that is an empty directory
   empty-of : (row : TreeRow) → In row c.rows → is_directory row.mode ≡ true → In empty_tree (trees_of files)
   empty-of row i dir =
-      let short : length (components row.path) ≤ 256 = fit-short row.path (each-in _ c.rows row view.rows i).0 in
+      let short : length (components row.path) ≤ 256 = fit-short row.path (each_in _ c.rows row view.rows i).0 in
       by (part empty_tree (in-shape empty_tree
-      (empty-in 257 (map leaf_of_row c.rows) (leaf_of_row row) leaves-apart (in-map leaf_of_row row c.rows i) (components-some row.path) (omega (arith, short)) dir)))
+      (empty-in 257 (map leaf_of_row c.rows) (leaf_of_row row) leaves-apart (in_map leaf_of_row row c.rows i) (components-some row.path) (omega (arith, short)) dir)))
     where
       kind : (o : Object) → empty_tree ≡ o → is_tree o ≡ true
       kind o e = ap is_tree (sym e)
@@ -281,20 +274,20 @@ module _ (c : CommitView) (view : IsCommitView c) where
     known-part o i = by (part o i)
       where
         by : IsPart o → IsKnown new o
-        by (a_tree j) = each-in (IsKnown new) (trees_of files) o all.trees j
-        by (a_blob row j e) = subst (IsKnown new) (sym e) (each-in (λ row. IsKnown new (blob_of_row row)) (files_among c.rows) row all.blobs j)
+        by (a_tree j) = each_in (IsKnown new) (trees_of files) o all.trees j
+        by (a_blob row j e) = subst (IsKnown new) (sym e) (each_in (λ row. IsKnown new (blob_of_row row)) (files_among c.rows) row all.blobs j)
         by (itself e) = subst (IsKnown new) (sym e) all.itself
 
     known-file : (row : TreeRow) → In row c.rows → is_blob_mode row.mode ≡ true → IsKnown new (blob_of_row row)
-    known-file row i file = each-in (λ row. IsKnown new (blob_of_row row)) (files_among c.rows) row all.blobs (in-filter (λ (t : TreeRow). is_blob_mode t.mode) row c.rows i file)
+    known-file row i file = each_in (λ row. IsKnown new (blob_of_row row)) (files_among c.rows) row all.blobs (in-filter (λ (t : TreeRow). is_blob_mode t.mode) row c.rows i file)
 
     object-there : (row : TreeRow) → In row c.rows → is_object_there new (file_row_of row) ≡ true
     object-there row i = by (is_directory row.mode) refl (is_blob_mode row.mode) refl
       where
         by : (d : Bool) → is_directory row.mode ≡ d → (b : Bool) → is_blob_mode row.mode ≡ b → is_object_there new (file_row_of row) ≡ true
         by true d b e =
-            let id = row-empty row.mode row.id row.content (each-in _ c.rows row view.rows i).3 d in
-            let there = each-in (IsKnown new) (trees_of files) empty_tree all.trees (empty-of row i d) in
+            let id = row-empty row.mode row.id row.content (each_in _ c.rows row view.rows i).3 d in
+            let there = each_in (IsKnown new) (trees_of files) empty_tree all.trees (empty-of row i d) in
             ap (λ (t : Bool). if t then is_kind_there tree (object_at new row.id) else not (is_blob_mode row.mode) || is_kind_there blob (object_at new row.id)) d
             ∙ ap (λ (n : Id). is_kind_there tree (object_at new n)) id ∙ ap (is_kind_there tree) there
         by false d true b = blob-there new (file_row_of row) b (ap (is_kind_there blob) (known-file row i b))
@@ -323,9 +316,9 @@ module _ (c : CommitView) (view : IsCommitView c) where
       kind = refl;
       text = (view.value, refl);
       rows = subst (IsUnfolding new (c.value).tree_id) (ap (λ (id : Id). tree_rows new id) root-is ∙ rows-again new files (walkable fits)) (unfolds new (c.value).tree_id are.are (none-refused new are.are (c.value).tree_id (new-walk fits)));
-      blobs = all-of (IsRowHeld new) c.rows (λ row i. record {
+      blobs = each_from (IsRowHeld new) c.rows (λ row i. record {
         blob = λ b. (blob_of_row row, known-file row i b, refl);
-        none = row-content row.mode row.id row.content (each-in _ c.rows row view.rows i).3;
+        none = row-content row.mode row.id row.content (each_in _ c.rows row view.rows i).3;
       });
     }
 
@@ -334,13 +327,13 @@ module _ (c : CommitView) (view : IsCommitView c) where
     none-else o x h i =
         let of = found new o.id o are h in
         let like : knows_same new o ≡ true = ap (is_same_as o) h ∙ alike o in
-        none-any (is_other_content o) new x (none-other (list_any (is_other_content o) new) (sym (fault-by new o of.sound.fits) ∙ same-has_no_fault new are o like)) i
+        none_in (is_other_content o) new x (none-other (list_any (is_other_content o) new) (sym (fault_by new o of.sound.fits) ∙ same-has_no_fault new are o like)) i
 
     pub new-apart : (old : List Object) (blocks : List Block) → ((o : Object) → In o old → In o new) → block_of_id blocks (commit_id c) ≡ None → commit_collides old blocks c ≡ false
     new-apart old blocks older free =
         let none : list_any (λ o. list_any (is_other_content o) (old ++ commit_objects c)) (commit_objects c) ≡ false =
-        none-all (λ o. list_any (is_other_content o) (old ++ commit_objects c)) (commit_objects c)
-        (λ o i. none-all (is_other_content o) (old ++ commit_objects c) (λ x j. none-else o x (known-part o i) (among x (in-append x old (commit_objects c) j)))) in
+        none_all (λ o. list_any (is_other_content o) (old ++ commit_objects c)) (commit_objects c)
+        (λ o i. none_all (is_other_content o) (old ++ commit_objects c) (λ x j. none-else o x (known-part o i) (among x (in-append x old (commit_objects c) j)))) in
         (λ i. none i || is_some (free i))
       where
         among : (x : Object) → In x old ⊎ In x (commit_objects c) → In x new
@@ -351,10 +344,10 @@ module _ (c : CommitView) (view : IsCommitView c) where
 pub clash-collides : (c : CommitView) (old objects : List Object) (blocks : List Block) → ((o : Object) → In o objects → In o (commit_objects c)) → Clash old objects → IsTrue (commit_collides old blocks c)
 clash-collides c old objects blocks inside k =
     let other : In k.other (old ++ commit_objects c) = by (in-append k.other old objects k.is_there) in
-    let here = in-any (is_other_content k.object) (old ++ commit_objects c) k.other other k.differs in
+    let here = in_any (is_other_content k.object) (old ++ commit_objects c) k.other other k.differs in
     ap (λ (t : Bool). t || is_some (block_of_id blocks (commit_id c)))
-    (in-any (λ o. list_any (is_other_content o) (old ++ commit_objects c)) (commit_objects c) k.object (inside k.object k.is_new) here)
+    (in_any (λ o. list_any (is_other_content o) (old ++ commit_objects c)) (commit_objects c) k.object (inside k.object k.is_new) here)
   where
     by : In k.other old ⊎ In k.other objects → In k.other (old ++ commit_objects c)
-    by (inl i) = in-left k.other old (commit_objects c) i
-    by (inr i) = in-right k.other old (commit_objects c) (inside k.other i)
+    by (inl i) = in_left k.other old (commit_objects c) i
+    by (inr i) = in_right k.other old (commit_objects c) (inside k.other i)

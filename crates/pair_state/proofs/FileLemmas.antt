@@ -8,6 +8,7 @@ use Rattle.text_model.specs.Id.{Id, is_null}
 use Rattle.text_model.specs.Fault.{FaultName}
 use Rattle.text_model.specs.Fault as fault
 use Rattle.text_model.proofs.TestLemmas.{or_true}
+use Rattle.text_model.proofs.Elements.{each_at}
 use Rattle.hg_model.proofs.ParentOrder.{file_order-either}
 use Rattle.hg_filelog.proofs.MarkLemmas.{lacks-never}
 use Rattle.hg_model.specs.FileText.{IsFileText, file_text, file_order}
@@ -114,11 +115,6 @@ map-at f [] i x e = cc
 map-at f (y ∷ xs) zero x e = let some : y ≡ x = cc in ap (λ z. f z ∷ map f xs) some
 map-at f (y ∷ xs) (suc i) x e = let n : suc i + 1 ≡ suc (i + 1) = omega arith in rw n (ap (λ l. f y ∷ l) (map-at f xs i x e))
 
-pub take-at : {X Y : Type 0} (f : X → Y) (xs : List X) (i : ℕ) (x : X) → slice_get xs i ≡ Some x → map f (take (i + 1) xs) ≡ map f (take i xs) ++ f x ∷ []
-take-at f [] i x e = cc
-take-at f (y ∷ xs) zero x e = let some : y ≡ x = cc in ap (λ z. f z ∷ []) some
-take-at f (y ∷ xs) (suc i) x e = let n : suc i + 1 ≡ suc (i + 1) = omega arith in rw n (ap (λ l. f y ∷ l) (take-at f xs i x e))
-
 pub record RowAt (rows : List Row) (i : ℕ) (v : RowValue) : Type 0 where
   pub row : Row
   pub at : slice_get rows i ≡ Some row
@@ -128,11 +124,6 @@ pub row-at : (rows : List Row) (i : ℕ) (v : RowValue) → slice_get (map row_v
 row-at [] i v e = cc
 row-at (x ∷ rows) zero v e = let some : row_value x ≡ v = cc in record { row = x; at = refl; value = sym some }
 row-at (x ∷ rows) (suc i) v e = let r = row-at rows i v e in record { row = r.row; at = r.at; value = r.value }
-
-each-at : {X : Type 0} (P : X → Type 0) (xs : List X) (i : ℕ) (x : X) → slice_get xs i ≡ Some x → Each P xs → P x
-each-at P [] i x e h = cc
-each-at P (y ∷ xs) zero x e h = let some : y ≡ x = cc in subst P some h.0
-each-at P (y ∷ xs) (suc i) x e h = each-at P xs i x e h.1
 
 -- a look-up behind what the draft brings
 within-behind : (fresh old new : List Revision) → IsWithinHg old new → IsWithinHg (fresh ++ old) (fresh ++ new)
@@ -157,9 +148,9 @@ module _ (base now : List Revision) (d : HgDraft) (link : Id) (k : ChangesetView
 
   pub asked-file : (i : ℕ) (v : RowValue) (x : RowAt k.rows i v) → IsFileAsked now d.fresh v link x.row
   asked-file i v x =
-      let held = each-at (IsFileHeld (d.fresh ++ base)) k.rows i x.row x.at a.part.made.draft.files in
-      let parents = each-at (HasFileParents base) k.rows i x.row x.at a.part.file_parents in
-      let view = each-at _ k.rows i x.row x.at a.part.made.view.rows in
+      let held = each_at (IsFileHeld (d.fresh ++ base)) k.rows i x.row x.at a.part.made.draft.files in
+      let parents = each_at (HasFileParents base) k.rows i x.row x.at a.part.file_parents in
+      let view = each_at _ k.rows i x.row x.at a.part.made.view.rows in
       record {
         value = x.value;
         held = record {
@@ -170,7 +161,7 @@ module _ (base now : List Revision) (d : HgDraft) (link : Id) (k : ChangesetView
         };
         parents = (parent-within base now a.within (FilesAt (x.row).path) ((x.row).revision).p parents.0, parent-within base now a.within (FilesAt (x.row).path) ((x.row).revision).q parents.1);
         link_known = a.link;
-        short = each-at (λ (row : Row). length (file_text (row.revision).meta (row.revision).body) ≤ text_limit) k.rows i x.row x.at a.part.fits.files;
+        short = each_at (λ (row : Row). length (file_text (row.revision).meta (row.revision).body) ≤ text_limit) k.rows i x.row x.at a.part.fits.files;
         fit = view.0;
         spells = view.2.2;
       }

@@ -16,10 +16,11 @@ use Rattle.git_model.specs.Object.{Object, object_at, knows_object, content_faul
 use Rattle.git_model.specs.Shape.{trees_of}
 use Rattle.git_model.specs.Unfold.{FileRow, walk_fault}
 use Rattle.text_model.proofs.Options.{some_is}
+use Rattle.text_model.proofs.Elements.{in_left, in_right, each_in, none_in, each_from, in_map}
 use Rattle.git_model.proofs.CommitLemmas.{commit_fault-text, parent_ids-text}
 use Rattle.git_store.specs.Known.{AreKnown}
 use Rattle.tree_shape.specs.Laws.{IsKnown}
-use Rattle.tree_shape.proofs.Elements.{in-left, in-right, in-append, each-in}
+use Rattle.tree_shape.proofs.Elements.{in-append}
 use Rattle.view_model.specs.View.{Row, TreeRow, CommitView, IsCommitView, HaveSameBodies, commit_id, commit_objects, files_among}
 use Rattle.view_model.specs.Held.{file_row_of}
 use Rattle.pair_model.specs.Block.{Block, commits_in}
@@ -27,11 +28,10 @@ use Rattle.pair_model.specs.Collision.{commit_collides}
 use Rattle.pair_known.specs.Ruled.{IsMadeCommit, blob_of_row}
 use Rattle.pair_known.specs.declared.git_draft.GitDraft.{GitDraft}
 use Rattle.pair_state.specs.Blocks.{body_blob}
-use Rattle.pair_state.specs.Growth.{IsRight, HasGrown, Clash}
+use Rattle.git_store.specs.Growth.{IsRight, HasGrown, Clash}
+use Rattle.git_store.proofs.Growth.{found-in}
 use Rattle.pair_state.specs.declared.state_parts.StateParts.{StateParts}
-use Rattle.pair_state.proofs.CommitParts.{own, are-files, no-clash, own-in, among, blob-of, tree-of, HoldsAll, known-part, clash-collides, blob-id, all-of}
-use Rattle.pair_state.proofs.GrowthLemmas.{found-in, none-any}
-use Rattle.pair_state.proofs.ShapeLemmas.{in-map}
+use Rattle.pair_state.proofs.CommitParts.{own, are-files, no-clash, own-in, among, blob-of, tree-of, HoldsAll, known-part, clash-collides, blob-id}
 use Rattle.pair_state.proofs.TreeTexts.{trees-right}
 use Rattle.git_view.proofs.WalkGrowth.{walk-on}
 
@@ -59,7 +59,7 @@ found-at [] o distinct i = absurd i
 found-at (x ∷ known) o distinct (inl q) = ap (λ (t : Bool). if t then Some x else object_at known o.id) ((bytes_eq-Decides o.id x.id).1 (ap (λ (y : Object). y.id) q)) ∙ ap (λ (y : Object). Some y) (sym q)
 found-at (x ∷ known) o distinct (inr j) =
     let parts = and_parts (not (list_any (bytes_eq x.id) (map (λ (x : Object). x.id) known))) (has_distinct (map (λ (x : Object). x.id) known)) distinct in
-    let apart : bytes_eq x.id o.id ≡ false = none-any (bytes_eq x.id) (map (λ (x : Object). x.id) known) o.id (not-false (list_any (bytes_eq x.id) (map (λ (x : Object). x.id) known)) parts.0) (in-map (λ (x : Object). x.id) o known j) in
+    let apart : bytes_eq x.id o.id ≡ false = none_in (bytes_eq x.id) (map (λ (x : Object). x.id) known) o.id (not-false (list_any (bytes_eq x.id) (map (λ (x : Object). x.id) known)) parts.0) (in_map (λ (x : Object). x.id) o known j) in
     by (bytes_eq o.id x.id) refl apart (found-at known o parts.1 j)
   where
     not-false : (t : Bool) → not t ≡ true → t ≡ false
@@ -140,23 +140,23 @@ module _ (git : List Object) (d : GitDraft) (c : CommitView) (made : IsMadeCommi
   view = made.view
 
   pub file-id : (row : TreeRow) → In row (files_among c.rows) → row.id ≡ blob_id row.content
-  file-id row i = let a = among c view row i in blob-id row.mode row.id row.content (each-in _ c.rows row view.rows a.0).3 a.1
+  file-id row i = let a = among c view row i in blob-id row.mode row.id row.content (each_in _ c.rows row view.rows a.0).3 a.1
 
   -- ---- what is added
 
   fresh-of : (o : Object) → In o d.fresh → (row : TreeRow) × In row (files_among c.rows) × (o ≡ blob_of_row row)
-  fresh-of o i = some-row (files_among c.rows) (λ row. o ≡ blob_of_row row) (each-in (λ o. SomeOf (files_among c.rows) (λ row. o ≡ blob_of_row row)) d.fresh o made.blobs i)
+  fresh-of o i = some-row (files_among c.rows) (λ row. o ≡ blob_of_row row) (each_in (λ o. SomeOf (files_among c.rows) (λ row. o ≡ blob_of_row row)) d.fresh o made.blobs i)
 
   pub right-blobs : Each IsRight d.fresh
-  right-blobs = all-of IsRight d.fresh (λ o i.
+  right-blobs = each_from IsRight d.fresh (λ o i.
       let r = fresh-of o i in
       subst IsRight (sym r.2) (sym (file-id r.0 r.1), refl))
 
   tree-among : (o : Object) → In o d.trees → In o (trees_of (map file_row_of c.rows))
-  tree-among o i = subst (λ (fs : List FileRow). In o (trees_of fs)) made.files (each-in (λ o. In o (trees_of d.files)) d.trees o made.trees_are i)
+  tree-among o i = subst (λ (fs : List FileRow). In o (trees_of fs)) made.files (each_in (λ o. In o (trees_of d.files)) d.trees o made.trees_are i)
 
   pub right-trees : Each IsRight d.trees
-  right-trees = all-of IsRight d.trees (λ o i. each-in IsRight (trees_of (map file_row_of c.rows)) o (trees-right (map file_row_of c.rows) (are-files c view) (no-clash c view)) (tree-among o i))
+  right-trees = each_from IsRight d.trees (λ o i. each_in IsRight (trees_of (map file_row_of c.rows)) o (trees-right (map file_row_of c.rows) (are-files c view) (no-clash c view)) (tree-among o i))
 
   module _ (text : Bytes) (is : text ≡ commit_text d.commit) where
     text-is : text ≡ commit_text c.value
@@ -208,20 +208,20 @@ module _ (git : List Object) (d : GitDraft) (c : CommitView) (made : IsMadeCommi
     among-all o i = by (in-append o git parts (grown.only o i))
       where
         by : In o git ⊎ In o parts → In o (git ++ commit_objects c)
-        by (inl j) = in-left o git (commit_objects c) j
-        by (inr j) = in-right o git (commit_objects c) (inside o j)
+        by (inl j) = in_left o git (commit_objects c) j
+        by (inr j) = in_right o git (commit_objects c) (inside o j)
 
     module _ (before : AreKnown git) (are : AreKnown new) (blobs : Each (λ row. IsKnown new (blob_of_row row)) (files_among c.rows)) where
       pub all : HoldsAll c view new
       all = record {
-        trees = all-of (IsKnown new) (trees_of (map file_row_of c.rows)) (λ o i. tree o (in-append o d.trees git
-            (each-in (λ o. In o (d.trees ++ git)) (trees_of d.files) o made.trees_held (subst (λ (fs : List FileRow). In o (trees_of fs)) (sym made.files) i))));
+        trees = each_from (IsKnown new) (trees_of (map file_row_of c.rows)) (λ o i. tree o (in-append o d.trees git
+            (each_in (λ o. In o (d.trees ++ git)) (trees_of d.files) o made.trees_held (subst (λ (fs : List FileRow). In o (trees_of fs)) (sym made.files) i))));
         blobs = blobs;
         itself = (Each-rest (IsKnown new) (d.fresh ++ d.trees) (own c ∷ []) grown.added).0;
       }
         where
           tree : (o : Object) → In o d.trees ⊎ In o git → IsKnown new o
-          tree o (inl j) = each-in (IsKnown new) d.trees o (Each-rest (IsKnown new) d.fresh d.trees added) j
+          tree o (inl j) = each_in (IsKnown new) d.trees o (Each-rest (IsKnown new) d.fresh d.trees added) j
           tree o (inr j) = grown.kept o.id o (found-at git o before.are.distinct j)
 
       pub all-among : (o : Object) → In o (git ++ commit_objects c) → In o new

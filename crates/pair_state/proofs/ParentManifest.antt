@@ -3,6 +3,7 @@ use Rattle.std.proofs.Common.{◌≡◌, List, map, Option, Some, None, sym, ap,
 use Rattle.std.specs.Prelude.{IfSome, MatchOption}
 use Rattle.text_model.specs.Text.{Bytes}
 use Rattle.text_model.specs.Id.{Id}
+use Rattle.text_model.proofs.Options.{some_is}
 use Rattle.hg_model.specs.Changeset.{Changeset, IsChangesetText}
 use Rattle.hg_model.specs.Manifest.{ManifestEntry, IsManifestText}
 use Rattle.hg_model.specs.Revision.{Revision}
@@ -12,7 +13,7 @@ use Rattle.hg_store.specs.Known.{AreAdded, manifest_text_of}
 use Rattle.hg_store.specs.Views.{IsChangesetOf, IsManifestOf}
 use Rattle.view_model.specs.View.{ChangesetView, entry_of_row}
 use Rattle.view_model.specs.Held.{IsChangesetHeld}
-use Rattle.pair_known.proofs.HeldViews.{some_is, manifest_of-held}
+use Rattle.pair_known.proofs.HeldViews.{manifest_of-held}
 
 pub where-found : {X : Type 0} {P Q : X → Type 0} (N : Type 0) (o : Option X) → ((x : X) → P x → Q x) → MatchOption o N P → IfSome o Q
 where-found N None f h = tt

@@ -8,9 +8,10 @@ use Rattle.std.proofs.lemmas.Slice.Eq.{bytes_eq-Decides}
 use Rattle.text_model.specs.Text.{Bytes}
 use Rattle.text_model.specs.Id.{Id, null, is_null, has_id, node_id}
 use Rattle.text_model.proofs.TestLemmas.{or_true}
+use Rattle.text_model.proofs.Options.{or_parts}
 use Rattle.hg_changeset.specs.Values.{changeset_value}
 use Rattle.hg_model.specs.Changeset.{changeset_text}
-use Rattle.hg_model.specs.Revision.{Revision, Changesets, knows, is_known_parent, known_after}
+use Rattle.hg_model.specs.Revision.{Revision, Changesets, knows, is_known_parent, known_after, known_after_all}
 use Rattle.view_model.specs.View.{ChangesetView, changeset_node}
 use Rattle.view_model.specs.Dump.{own_revision, manifest_revision, file_revision, revisions_of, revisions_in}
 use Rattle.pair_model.specs.Block.{Block, block_of_node}
@@ -18,11 +19,9 @@ use Rattle.pair_known.specs.declared.draft_texts.DraftTexts.{DraftTexts}
 use Rattle.pair_known.specs.declared.hg_draft.HgDraft.{HgDraft}
 use Rattle.pair_state.specs.Step.{AreItsTexts}
 use Rattle.pair_known.specs.declared.hg_block.HgBlock.{HgBlock}
-use Rattle.history_model.specs.Pull.{all_known}
 use Rattle.pair_state.specs.Push.{IsPart, AreLinkParts, AreLinked}
 use Rattle.pair_state.specs.Came.{HaveCome, HasBad, IsWithinHg, IsAsked, IsPartOver, ArePartsOf, PartsCame, PartsCollide, is_any_among}
 use Rattle.pair_state.proofs.CameLemmas.{come-none, come-more, bad-front, bad-rest, within-all, within-knows}
-use Rattle.pair_state.proofs.ChangesetHeld.{or-parts}
 use Rattle.pair_state.proofs.OwnLemmas.{knows-after}
 
 -- ---- one changeset
@@ -95,14 +94,14 @@ module _ (now new : List Revision) (saved : List Id) (h : ChangesetView) (p : Pa
   own-known =
       let rest : List Revision = manifest_revision h h.manifest ++ map (file_revision (changeset_node h)) h.rows in
       ap (λ (l : List Revision). knows l Changesets (changeset_node h)) come.are
-      ∙ within-knows (known_after now (own_revision h)) (all_known (known_after now (own_revision h)) rest) (within-all (known_after now (own_revision h)) rest) Changesets (changeset_node h)
+      ∙ within-knows (known_after now (own_revision h)) (known_after_all (known_after now (own_revision h)) rest) (within-all (known_after now (own_revision h)) rest) Changesets (changeset_node h)
       (knows-after now (own_revision h) ((bytes_eq-Decides (changeset_node h) (changeset_node h)).1 refl))
 
   not-null : changeset_node h ≡ null → ⊥
-  not-null e = true≢false (sym ((bytes_eq-Decides (changeset_node h) null).1 e) ∙ (or-parts (is_null (changeset_node h)) _ come.clean.0).0)
+  not-null e = true≢false (sym ((bytes_eq-Decides (changeset_node h) null).1 e) ∙ (or_parts (is_null (changeset_node h)) _ come.clean.0).0)
 
   not-saved : has_id saved (changeset_node h) ≡ true → ⊥
-  not-saved e = true≢false (sym e ∙ (or-parts (has_id saved (changeset_node h)) false p.apart).0)
+  not-saved e = true≢false (sym e ∙ (or_parts (has_id saved (changeset_node h)) false p.apart).0)
 
   pub linked-on : (base : List Revision) (blocks : List Block) (hs : List ChangesetView) → IsWithinHg base new
       → ((q : Id) → IsTrue (is_some (block_of_node blocks q)) → (has_id saved q ≡ true) × (knows base Changesets q ≡ true))

@@ -5,11 +5,11 @@ use Rattle.std.specs.List.{list_any}
 use Rattle.text_model.specs.Lists.{In, Each, SomeOf}
 use Rattle.text_model.specs.Id.{Id, has_id}
 use Rattle.text_model.proofs.TestLemmas.{or_true}
+use Rattle.text_model.proofs.Elements.{each_in, in_any, each_from, none_all}
 use Rattle.hg_model.specs.Revision.{Revision}
 use Rattle.git_model.specs.Object.{Object, knows_object, is_other_content}
 use Rattle.git_store.specs.Known.{AreKnown}
 use Rattle.tree_shape.specs.Laws.{IsKnown}
-use Rattle.tree_shape.proofs.Elements.{each-in}
 use Rattle.view_model.specs.View.{Row, TreeRow, CommitView, changeset_node, commit_id, commit_objects, files_among}
 use Rattle.pair_model.specs.Block.{Block, id_of, block_of_id, commits_in}
 use Rattle.pair_model.specs.Collision.{commit_collides}
@@ -19,13 +19,12 @@ use Rattle.pair_known.specs.declared.hg_block.HgBlock.{HgBlock}
 use Rattle.pair_known.specs.declared.git_draft.GitDraft.{GitDraft}
 use Rattle.pair_state.specs.Blocks.{body_blob, IsAgreed}
 use Rattle.pair_state.specs.Came.{PartsCame, PartsCollide}
-use Rattle.pair_state.specs.Growth.{HasGrown, Clash}
+use Rattle.git_store.specs.Growth.{HasGrown, Clash}
 use Rattle.pair_state.specs.Push.{HaveSame, PushesBlock, BlockPushed, block_collides, bodies_collide}
 use Rattle.pair_state.specs.Step.{AreAsked, IsElse, HaveBlobs, IsPushed}
 use Rattle.pair_state.specs.declared.state_parts.StateParts.{StateParts}
 use Rattle.pair_state.proofs.BlockLemmas.{HoldMore, HasMore, has-more, parts_of, state-more}
-use Rattle.pair_state.proofs.CommitParts.{none-all, none-else, all-of, new-held, new-walk, new-apart, HoldsAll}
-use Rattle.pair_state.proofs.GrowthLemmas.{in-any}
+use Rattle.pair_state.proofs.CommitParts.{none-else, new-held, new-walk, new-apart, HoldsAll}
 use Rattle.pair_state.proofs.KeptLemmas.{blobs-on, agreed-blobs}
 use Rattle.pair_state.proofs.MadeCommit.{view, parts, parts-clash, knows-new, known-new, among-all, all, all-among, old-walks, new-walks, each-to_map}
 use Rattle.pair_state.proofs.PushChangeset.{collides, none-collides, agreed-on, held-parts, held-last, held-old}
@@ -87,8 +86,8 @@ module _ (s : StateParts) (h : HgBlock) (d : GitDraft) (blocks : List Block) (b 
     asked = record {
       are = p.brings.last.made.draft.rows;
       held = (held-last s h blocks b p.brings hg came).files;
-      blobs = all-of (λ (row : Row). knows_object new (body_blob row).id ≡ true) rows (λ row i.
-          knows-new s.known.git d c p.made new grown (body_blob row).id (each-in (λ (row : Row). knows_object (d.fresh ++ s.known.git) (body_blob row).id ≡ true) rows row p.blobs i));
+      blobs = each_from (λ (row : Row). knows_object new (body_blob row).id ≡ true) rows (λ row i.
+          knows-new s.known.git d c p.made new grown (body_blob row).id (each_in (λ (row : Row). knows_object (d.fresh ++ s.known.git) (body_blob row).id ≡ true) rows row p.blobs i));
     }
 
     agreed-here : (x : Id) → IsTrue (has_id s.agreed x) → IsAgreed hg new x
@@ -100,8 +99,8 @@ module _ (s : StateParts) (h : HgBlock) (d : GitDraft) (blocks : List Block) (b 
     pub body-collides : knows_object s.known.git (id_of b) ≡ false → SomeOf rows (λ x. IsElse new (body_blob x)) → IsTrue (block_collides s.known.hg s.known.git blocks b)
     body-collides free some =
         let r = some-row rows (λ x. IsElse new (body_blob x)) some in
-        let any : bodies_collide s.known.git b ≡ true = in-any (λ row. list_any (is_other_content (body_blob row)) (s.known.git ++ commit_objects c)) rows r.0 r.1
-        (in-any (is_other_content (body_blob r.0)) (s.known.git ++ commit_objects c) r.2.0 (among-all s.known.git d c p.made new grown r.2.0 r.2.1) r.2.2) in
+        let any : bodies_collide s.known.git b ≡ true = in_any (λ row. list_any (is_other_content (body_blob row)) (s.known.git ++ commit_objects c)) rows r.0 r.1
+        (in_any (is_other_content (body_blob r.0)) (s.known.git ++ commit_objects c) r.2.0 (among-all s.known.git d c p.made new grown r.2.0 r.2.1) r.2.2) in
         (λ i. changeset_side_collides s.known.hg blocks b || (commit_collides s.known.git blocks c || (not (free i) && any i)))
         ∙ ap (λ (t : Bool). changeset_side_collides s.known.hg blocks b || t) (or_true (commit_collides s.known.git blocks c)) ∙ or_true (changeset_side_collides s.known.hg blocks b)
 
@@ -112,13 +111,13 @@ module _ (s : StateParts) (h : HgBlock) (d : GitDraft) (blocks : List Block) (b 
         where
           content : agreed ≡ true → (t : TreeRow) → IsKnown (d.fresh ++ s.known.git) (blob_of_row t) ⊎ In (blob_of_row t) (map body_blob rows) → IsKnown new (blob_of_row t)
           content e t (inl k) = known-new s.known.git d c p.made new grown (blob_of_row t) k
-          content e t (inr i) = each-in (IsKnown new) (map body_blob rows) (blob_of_row t) (each-to_map (IsKnown new) body_blob rows (yes e)) i
+          content e t (inr i) = each_in (IsKnown new) (map body_blob rows) (blob_of_row t) (each-to_map (IsKnown new) body_blob rows (yes e)) i
 
           by : (agreed ≡ true) ⊎ (knows_object s.known.git (id_of b) ≡ true) → Each (λ row. IsKnown new (blob_of_row row)) (files_among c.rows)
-          by (inl e) = all-of (λ row. IsKnown new (blob_of_row row)) (files_among c.rows) (λ t i.
-              content e t (each-in (λ t. IsKnown (d.fresh ++ s.known.git) (blob_of_row t) ⊎ In (blob_of_row t) (map body_blob rows)) (files_among c.rows) t p.contents i))
-          by (inr k) = all-of (λ row. IsKnown new (blob_of_row row)) (files_among c.rows) (λ t i.
-              known-new s.known.git d c p.made new grown (blob_of_row t) (each-in (λ t. IsKnown (d.fresh ++ s.known.git) (blob_of_row t)) (files_among c.rows) t (p.stored k) i))
+          by (inl e) = each_from (λ row. IsKnown new (blob_of_row row)) (files_among c.rows) (λ t i.
+              content e t (each_in (λ t. IsKnown (d.fresh ++ s.known.git) (blob_of_row t) ⊎ In (blob_of_row t) (map body_blob rows)) (files_among c.rows) t p.contents i))
+          by (inr k) = each_from (λ row. IsKnown new (blob_of_row row)) (files_among c.rows) (λ t i.
+              known-new s.known.git d c p.made new grown (blob_of_row t) (each_in (λ t. IsKnown (d.fresh ++ s.known.git) (blob_of_row t)) (files_among c.rows) t (p.stored k) i))
 
       holds : HoldsAll c (view s.known.git d c p.made) new
       holds = all s.known.git d c p.made new grown before are blobs
@@ -133,9 +132,9 @@ module _ (s : StateParts) (h : HgBlock) (d : GitDraft) (blocks : List Block) (b 
           by : (agreed ≡ true) ⊎ (knows_object s.known.git (id_of b) ≡ true) → (not (knows_object s.known.git (id_of b)) && bodies_collide s.known.git b) ≡ false
           by (inr k) = ap (λ (t : Bool). not t && bodies_collide s.known.git b) k
           by (inl e) = ap (λ (t : Bool). not (knows_object s.known.git (id_of b)) && t)
-              (none-all (λ row. list_any (is_other_content (body_blob row)) (s.known.git ++ commit_objects c)) rows (λ row i.
-              none-all (is_other_content (body_blob row)) (s.known.git ++ commit_objects c) (λ x j.
-              none-else c (view s.known.git d c p.made) new are holds (body_blob row) x (each-in (λ x. IsKnown new (body_blob x)) rows row (yes e) i) (all-among s.known.git d c p.made new grown before are blobs x j))))
+              (none_all (λ row. list_any (is_other_content (body_blob row)) (s.known.git ++ commit_objects c)) rows (λ row i.
+              none_all (is_other_content (body_blob row)) (s.known.git ++ commit_objects c) (λ x j.
+              none-else c (view s.known.git d c p.made) new are holds (body_blob row) x (each_in (λ x. IsKnown new (body_blob x)) rows row (yes e) i) (all-among s.known.git d c p.made new grown before are blobs x j))))
               ∙ and-false (not (knows_object s.known.git (id_of b)))
 
       pub pushed : block_of_id blocks (commit_id c) ≡ None → (links : List Id) → links ≡ map changeset_node b.links → (node : Id) → node ≡ changeset_node b.changeset → (id : Id) → id ≡ commit_id c

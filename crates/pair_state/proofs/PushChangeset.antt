@@ -11,6 +11,8 @@ use Rattle.hg_model.specs.Changeset.{changeset_text}
 use Rattle.hg_changeset.specs.Values.{changeset_value}
 use Rattle.text_model.proofs.EachLemmas.{Each-front, Each-rest}
 use Rattle.text_model.proofs.TestLemmas.{or_true}
+use Rattle.text_model.proofs.Elements.{in_any}
+use Rattle.text_model.proofs.Options.{or_parts, none_is}
 use Rattle.hg_model.specs.Revision.{Revision, Changesets, knows, is_otherwise}
 use Rattle.git_model.specs.Object.{Object}
 use Rattle.git_model.specs.Unfold.{walk_fault}
@@ -31,10 +33,9 @@ use Rattle.pair_state.proofs.PartLemmas.{no-text}
 use Rattle.pair_state.specs.Push.{IsPart, AreLinkParts, BringsParts, ChangesetPushed}
 use Rattle.pair_state.specs.Step.{AreItsTexts, IsPushed, line_of}
 use Rattle.pair_state.specs.declared.state_parts.StateParts.{StateParts}
-use Rattle.pair_state.proofs.BlockLemmas.{HoldMore, HasMore, has-more, has-view, parts_of, state-more, git-some, none-is}
+use Rattle.pair_state.proofs.BlockLemmas.{HoldMore, HasMore, has-more, has-view, parts_of, state-more, git-some}
 use Rattle.pair_state.proofs.CameLemmas.{lines-are, within-all}
-use Rattle.pair_state.proofs.ChangesetHeld.{CameAs, all-as, changeset-on, changesets-on, new-changeset, or-parts}
-use Rattle.pair_state.proofs.GrowthLemmas.{in-any}
+use Rattle.pair_state.proofs.ChangesetHeld.{CameAs, all-as, changeset-on, changesets-on, new-changeset}
 use Rattle.pair_state.proofs.SlotLemmas.{none-bad}
 
 -- a block of a node has its changeset among those of the blocks
@@ -170,7 +171,7 @@ module _ (s : StateParts) (d : HgBlock) (blocks : List Block) (b : Block) (p : B
   pub collides : PartsCollide s.known.hg s.changesets hs → IsTrue (changeset_side_collides s.known.hg blocks b)
   collides (inl bad) =
       ap (λ (t : Bool). t || is_any_saved blocks hs)
-      (in-any (λ r. is_null r.node || list_any (is_otherwise r) (s.known.hg ++ revisions_in hs)) (revisions_in hs) bad.revision bad.is_new bad.bad)
+      (in_any (λ r. is_null r.node || list_any (is_otherwise r) (s.known.hg ++ revisions_in hs)) (revisions_in hs) bad.revision bad.is_new bad.bad)
   collides (inr some) =
       ap (λ (t : Bool). list_any (λ r. is_null r.node || list_any (is_otherwise r) (s.known.hg ++ revisions_in hs)) (revisions_in hs) || t) (sym (any-same s.changesets blocks p.state.changesets hs) ∙ some)
       ∙ or_true _
@@ -202,11 +203,11 @@ module _ (s : StateParts) (d : HgBlock) (blocks : List Block) (b : Block) (p : B
 
     -- no block has the changeset
     pub node-free : (node : Id) → node ≡ changeset_node b.changeset → git_at s.known.partners node ≡ None
-    node-free node e = none-is (git_at s.known.partners node) (git-some s.known blocks p.state.held node ∙ by (is_some (block_of_node blocks node)) refl)
+    node-free node e = none_is (git_at s.known.partners node) (git-some s.known blocks p.state.held node ∙ by (is_some (block_of_node blocks node)) refl)
       where
         last : (ls : List ChangesetView) → is_any_among s.changesets (ls ++ b.changeset ∷ []) ≡ false → has_id s.changesets (changeset_node b.changeset) ≡ false
-        last [] a = (or-parts (has_id s.changesets (changeset_node b.changeset)) false a).0
-        last (l ∷ ls) a = last ls (or-parts (has_id s.changesets (changeset_node l)) (is_any_among s.changesets (ls ++ b.changeset ∷ [])) a).1
+        last [] a = (or_parts (has_id s.changesets (changeset_node b.changeset)) false a).0
+        last (l ∷ ls) a = last ls (or_parts (has_id s.changesets (changeset_node l)) (is_any_among s.changesets (ls ++ b.changeset ∷ [])) a).1
 
         by : (t : Bool) → is_some (block_of_node blocks node) ≡ t → is_some (block_of_node blocks node) ≡ false
         by false f = f

@@ -5,11 +5,11 @@ use Rattle.std.specs.List.{list_any}
 use Rattle.text_model.specs.Lists.{In, Each, SomeOf}
 use Rattle.text_model.specs.Id.{Id, has_id}
 use Rattle.text_model.proofs.TestLemmas.{or_true}
+use Rattle.text_model.proofs.Elements.{each_in, each_from}
 use Rattle.hg_model.specs.Revision.{Revision}
 use Rattle.git_model.specs.Object.{Object, knows_object, is_other_content}
 use Rattle.git_store.specs.Known.{AreKnown}
 use Rattle.tree_shape.specs.Laws.{IsKnown}
-use Rattle.tree_shape.proofs.Elements.{each-in}
 use Rattle.view_model.specs.View.{TreeRow, ChangesetView, CommitView, IsCommitView, changeset_node, commit_id, commit_objects, files_among}
 use Rattle.view_model.specs.Held.{IsChangesetHeld, AreChangesetsHeld}
 use Rattle.pair_model.specs.Block.{Block, block_of_id, commits_in}
@@ -19,12 +19,12 @@ use Rattle.pair_known.specs.Ruled.{blob_of_row}
 use Rattle.pair_known.specs.declared.hg_draft.HgDraft.{HgDraft}
 use Rattle.pair_known.specs.declared.git_draft.GitDraft.{GitDraft}
 use Rattle.pair_state.specs.Blocks.{body_blob, IsAgreed}
-use Rattle.pair_state.specs.Growth.{HasGrown, Clash}
+use Rattle.git_store.specs.Growth.{HasGrown, Clash}
 use Rattle.pair_state.specs.Push.{HaveSame, PushesCommit, CommitPushed}
 use Rattle.pair_state.specs.Step.{AreAsked, IsElse, IsPushed}
 use Rattle.pair_state.specs.declared.state_parts.StateParts.{StateParts}
 use Rattle.pair_state.proofs.BlockLemmas.{HoldMore, HasMore, has-more, held-append, any-saved, state-more}
-use Rattle.pair_state.proofs.CommitParts.{own, blob-of, HoldsAll, new-walk, new-held, new-apart, clash-collides, of-map, all-of}
+use Rattle.pair_state.proofs.CommitParts.{own, blob-of, HoldsAll, new-walk, new-held, new-apart, clash-collides, of-map}
 use Rattle.pair_state.proofs.KeptLemmas.{blobs-on}
 use Rattle.pair_state.proofs.MadeCommit.{some-body, each-of_map, each-to_map, same-blobs, with_objects, file-id, parts-clash, among-all, knows-new, all, all-among, old-walks, new-walks}
 use Rattle.git_view.proofs.WalkGrowth.{commits-on}
@@ -81,9 +81,9 @@ module _ (s : StateParts) (h : HgDraft) (links : List Id) (d : GitDraft) (node :
       are = p.draft.rows;
       held = p.held.files;
       blobs = each-of_map (λ (o : Object). knows_object new o.id ≡ true) body_blob v.rows (subst (Each (λ (o : Object). knows_object new o.id ≡ true)) (sym blobs-are)
-          (each-to_map (λ (o : Object). knows_object new o.id ≡ true) blob_of_row (files_among c.rows) (all-of (λ (row : TreeRow). knows_object new row.id ≡ true) (files_among c.rows) (λ row i.
+          (each-to_map (λ (o : Object). knows_object new o.id ≡ true) blob_of_row (files_among c.rows) (each_from (λ (row : TreeRow). knows_object new row.id ≡ true) (files_among c.rows) (λ row i.
           knows-new s.known.git d c p.ruled.made new grown row.id
-          (each-in (λ row. IsTrue (knows_object (d.fresh ++ s.known.git) row.id)) (files_among c.rows) row p.ruled.made.all i)))));
+          (each_in (λ row. IsTrue (knows_object (d.fresh ++ s.known.git) row.id)) (files_among c.rows) row p.ruled.made.all i)))));
     }
 
     -- ---- all came

@@ -9,10 +9,12 @@ use Rattle.text_model.specs.Id.{Id, blob, tree, object_id}
 use Rattle.git_model.specs.Tree.{Mode, Directory, is_directory, is_blob_mode, TreeEntry, tree_text, is_entry_below}
 use Rattle.git_model.specs.Object.{Object, object_of}
 use Rattle.git_model.specs.Shape.{Leaf, first_name_of, first_names, cut_name, leaves_below, is_named, leaf_named, leaf_object, shape_entries, shape_objects}
+use Rattle.git_model.proofs.SortLemmas.{in-order}
 use Rattle.text_model.proofs.Options.{none_some, some_is}
+use Rattle.text_model.proofs.Elements.{in_left, in_right, in_map}
 use Rattle.git_view.proofs.Shapes.{filled, below-filled, entries-filled}
 use Rattle.tree_shape.specs.Shapes.{entry_of, is_tree, trees_below}
-use Rattle.tree_shape.proofs.Elements.{in-left, in-right, in-append, in-flat, of-flat, in-filter}
+use Rattle.tree_shape.proofs.Elements.{in-append, in-flat, of-flat, in-filter}
 use Rattle.tree_shape.proofs.Leaves.{same}
 use Rattle.tree_shape.proofs.VisitLemmas.{no-dir}
 
@@ -51,11 +53,6 @@ in-inserted {X = X} below x y (z ∷ xs) i = by (below z y) i (in-inserted below
     by true (inr (inl q)) later = inl q
     by true (inr (inr j)) later = inr (later (inr j))
 
-in-in_order : {X : Type 0} (below : X → X → Bool) (x : X) (xs : List X) → In x xs → In x (in_order below xs)
-in-in_order below x [] i = absurd i
-in-in_order below x (y ∷ xs) (inl q) = in-inserted below x y (in_order below xs) (inl q)
-in-in_order below x (y ∷ xs) (inr j) = in-inserted below x y (in_order below xs) (inr (in-in_order below x xs j))
-
 in-first : (x : Bytes) (xs : List Bytes) → In x xs → In x (first_of_each bytes_eq xs)
 in-first x [] i = absurd i
 in-first x (y ∷ xs) (inl q) = inl q
@@ -64,11 +61,6 @@ in-first x (y ∷ xs) (inr j) = by (bytes_eq y x) refl (in-first x xs j)
     by : (t : Bool) → bytes_eq y x ≡ t → In x (first_of_each bytes_eq xs) → In x (y ∷ filter (λ z. not (bytes_eq y z)) (first_of_each bytes_eq xs))
     by true t k = inl (sym ((bytes_eq-Decides y x).0 t))
     by false t k = inr (in-filter (λ z. not (bytes_eq y z)) x (first_of_each bytes_eq xs) k (ap not t))
-
-pub in-map : {X Y : Type 0} (f : X → Y) (x : X) (xs : List X) → In x xs → In (f x) (map f xs)
-in-map f x [] i = absurd i
-in-map f x (y ∷ xs) (inl q) = inl (ap f q)
-in-map f x (y ∷ xs) (inr j) = inr (in-map f x xs j)
 
 of-find : (test : Leaf → Bool) (leaves : List Leaf) (leaf : Leaf) → find test leaves ≡ Some leaf → In leaf leaves × (test leaf ≡ true)
 of-find test [] leaf e = absurd (none_some {x = leaf} e)
@@ -148,7 +140,7 @@ module _ (content : Mode → Id → Bytes) where
 
       deeper : (e : TreeEntry) → In e (shape_entries (suc depth) leaves) → is_directory e.mode ≡ true → Part depth (leaves_below e.name leaves) o → Part (suc depth) leaves o
       deeper e k d (inl t) = inl (
-        in-left o (flat_map (trees_below depth other) (shape_entries (suc depth) other)) (object_of tree (tree_text (shape_entries (suc depth) other)) ∷ [])
+        in_left o (flat_map (trees_below depth other) (shape_entries (suc depth) other)) (object_of tree (tree_text (shape_entries (suc depth) other)) ∷ [])
             (in-flat (trees_below depth other) (shape_entries (suc depth) other) e o (subst (λ (es : List TreeEntry). In e es) (sym entries-same) k)
             (subst (λ (b : Bool). In o (if b then shape_objects depth (leaves_below e.name other) else leaf_object (leaf_named e.name other))) (sym d)
             (subst (λ (ls : List Leaf). In o (shape_objects depth ls)) (sym (below-filled content e.name leaves)) t.0))),
@@ -174,7 +166,7 @@ module _ (content : Mode → Id → Bytes) where
           let from = of-flat (trees_below depth leaves) (shape_entries (suc depth) leaves) o j in
           entry from.0 from.1 (is_directory from.0.mode) refl from.2 rec
       by (inr (inl q)) rec = inl (
-        in-right o (flat_map (trees_below depth other) (shape_entries (suc depth) other)) (object_of tree (tree_text (shape_entries (suc depth) other)) ∷ [])
+        in_right o (flat_map (trees_below depth other) (shape_entries (suc depth) other)) (object_of tree (tree_text (shape_entries (suc depth) other)) ∷ [])
             (inl (q ∙ sym (ap (λ (es : List TreeEntry). object_of tree (tree_text es)) entries-same))),
         ap is_tree q,
       )
@@ -209,8 +201,8 @@ module _ (content : Mode → Id → Bytes) where
           → ((ls : List Leaf) → In o (shape_objects depth (map (filled content) ls)) → In o (shape_objects depth ls)) → In o (shape_objects (suc depth) leaves)
       by (inl j) rec =
           let from = of-flat (trees_below depth other) (shape_entries (suc depth) other) o j in
-          in-left o (flat_map (trees_below depth leaves) (shape_entries (suc depth) leaves)) (object_of tree (tree_text (shape_entries (suc depth) leaves)) ∷ []) (entry from.0 from.1 (is_directory from.0.mode) refl from.2 rec)
-      by (inr (inl q)) rec = in-right o (flat_map (trees_below depth leaves) (shape_entries (suc depth) leaves)) (object_of tree (tree_text (shape_entries (suc depth) leaves)) ∷ []) (inl (q ∙ ap (λ (es : List TreeEntry). object_of tree (tree_text es)) entries-same))
+          in_left o (flat_map (trees_below depth leaves) (shape_entries (suc depth) leaves)) (object_of tree (tree_text (shape_entries (suc depth) leaves)) ∷ []) (entry from.0 from.1 (is_directory from.0.mode) refl from.2 rec)
+      by (inr (inl q)) rec = in_right o (flat_map (trees_below depth leaves) (shape_entries (suc depth) leaves)) (object_of tree (tree_text (shape_entries (suc depth) leaves)) ∷ []) (inl (q ∙ ap (λ (es : List TreeEntry). object_of tree (tree_text es)) entries-same))
       by (inr (inr j)) rec = absurd j
 
 -- ---- the blob of each file is there
@@ -259,12 +251,12 @@ module _ (o : Object) (extra : ℕ) (P : Mode → Id → Bytes → Type 0)
       in-entries : (name : Bytes) (names : List Bytes) → leaf.names ≡ name ∷ names → In (entry name) (shape_entries (suc depth) leaves)
       in-entries name names e =
           let first : first_name_of leaf ≡ Some name = ap (λ (ns : List Bytes). elim ns as (λ _. Option Bytes) [ [] ↦ None | name ∷ names ↦ Some name ]) e in
-          in-in_order is_entry_below (entry name) (map (entry_of depth leaves) (first_names leaves))
-          (in-map (entry_of depth leaves) name (first_names leaves) (in-first name (filter_map first_name_of leaves) (in-filter_map first_name_of leaves leaf name i first)))
+          in-order is_entry_below (entry name) (map (entry_of depth leaves) (first_names leaves))
+          (in_map (entry_of depth leaves) name (first_names leaves) (in-first name (filter_map first_name_of leaves) (in-filter_map first_name_of leaves leaf name i first)))
 
       placed : (e : TreeEntry) → In e (shape_entries (suc depth) leaves) → In o (trees_below depth leaves e) → In o (shape_objects (suc depth) leaves)
       placed e k j =
-          in-left o (flat_map (trees_below depth leaves) (shape_entries (suc depth) leaves)) (object_of tree (tree_text (shape_entries (suc depth) leaves)) ∷ [])
+          in_left o (flat_map (trees_below depth leaves) (shape_entries (suc depth) leaves)) (object_of tree (tree_text (shape_entries (suc depth) leaves)) ∷ [])
           (in-flat (trees_below depth leaves) (shape_entries (suc depth) leaves) e o k j)
 
       named : (name : Bytes) → leaf.names ≡ name ∷ [] → (found : Option Leaf) → leaf_named name leaves ≡ found → leaf_named name leaves ≡ Some leaf

@@ -6,14 +6,13 @@ use Rattle.std.proofs.lemmas.Slice.Eq.{bytes_eq-Decides}
 use Rattle.text_model.specs.Lists.{In}
 use Rattle.text_model.specs.Id.{Id, is_null}
 use Rattle.text_model.proofs.TestLemmas.{both}
+use Rattle.text_model.proofs.Elements.{in_left, each_in, none_in, none_all}
+use Rattle.text_model.proofs.Options.{or_parts}
 use Rattle.hg_model.proofs.RevisionLemmas.{same_group-is}
-use Rattle.hg_model.specs.Revision.{Revision, Group, Changesets, Manifests, FilesAt, same_group, same_revision, same_parents, revision_of, knows, known_after, is_otherwise}
-use Rattle.tree_shape.proofs.Elements.{in-left, in-append, each-in}
+use Rattle.hg_model.specs.Revision.{Revision, Group, Changesets, Manifests, FilesAt, same_group, same_revision, same_parents, revision_of, knows, known_after, is_otherwise, known_after_all}
+use Rattle.tree_shape.proofs.Elements.{in-append}
 use Rattle.pair_state.specs.Came.{AreClean}
-use Rattle.history_model.specs.Pull.{all_known}
-use Rattle.pair_state.proofs.ChangesetHeld.{CameAs, all-as, either-way, or-parts}
-use Rattle.pair_state.proofs.CommitParts.{none-all}
-use Rattle.pair_state.proofs.GrowthLemmas.{none-any}
+use Rattle.pair_state.proofs.ChangesetHeld.{CameAs, all-as, either-way}
 
 self : (a : Id) → bytes_eq a a ≡ true
 self a = (bytes_eq-Decides a a).1 refl
@@ -45,20 +44,20 @@ parents-like Manifests p q x y u v a b = pair-is p q x y (pair-like p q x y u v 
 parents-like (FilesAt path) p q x y u v a b = pair-is p q x y (pair-like p q x y u v (either-way p q u v a) (either-way x y u v b))
 
 module _ (known rs : List Revision) (clean : AreClean known rs) where
-  came : (r : Revision) → In r rs → CameAs (all_known known rs) r
-  came r i = each-in (CameAs (all_known known rs)) rs r (all-as known rs clean) i
+  came : (r : Revision) → In r rs → CameAs (known_after_all known rs) r
+  came r i = each_in (CameAs (known_after_all known rs)) rs r (all-as known rs clean) i
 
   none-other : (r x : Revision) → In r rs → In x rs → is_otherwise r x ≡ false
   none-other r x i j = by (same_revision r x) refl
     where
-      a : CameAs (all_known known rs) r
+      a : CameAs (known_after_all known rs) r
       a = came r i
 
-      b : CameAs (all_known known rs) x
+      b : CameAs (known_after_all known rs) x
       b = came x j
 
       found : r.group ≡ x.group → r.node ≡ x.node → a.found ≡ b.found
-      found g n = some_is (sym a.at ∙ (λ i. revision_of (all_known known rs) (g i) (n i)) ∙ b.at)
+      found g n = some_is (sym a.at ∙ (λ i. revision_of (known_after_all known rs) (g i) (n i)) ∙ b.at)
         where
           some_is : {y z : Revision} → Some y ≡ Some z → y ≡ z
           some_is e = cc
@@ -88,19 +87,19 @@ after-in known r x i = by (knows known r.group r.node)
   where
     by : (t : Bool) → In x (if t then known else known ++ r ∷ [])
     by true = i
-    by false = in-left x known (r ∷ []) i
+    by false = in_left x known (r ∷ []) i
 
 clean-at : (known rs : List Revision) → AreClean known rs → (r : Revision) → In r rs → (is_null r.node ≡ false) × ((x : Revision) → In x known → is_otherwise r x ≡ false)
 clean-at known [] clean r i = absurd i
 clean-at known (y ∷ rs) clean r (inl q) =
-    let parts = or-parts (is_null y.node) (list_any (is_otherwise y) known) clean.0 in
-    subst (λ (z : Revision). (is_null z.node ≡ false) × ((x : Revision) → In x known → is_otherwise z x ≡ false)) (sym q) (parts.0, λ x j. none-any (is_otherwise y) known x parts.1 j)
+    let parts = or_parts (is_null y.node) (list_any (is_otherwise y) known) clean.0 in
+    subst (λ (z : Revision). (is_null z.node ≡ false) × ((x : Revision) → In x known → is_otherwise z x ≡ false)) (sym q) (parts.0, λ x j. none_in (is_otherwise y) known x parts.1 j)
 clean-at known (y ∷ rs) clean r (inr i) = let c = clean-at (known_after known y) rs clean.1 r i in (c.0, λ x j. c.1 x (after-in known y x j))
 
 pub none-bad : (known rs : List Revision) → AreClean known rs → list_any (λ r. is_null r.node || list_any (is_otherwise r) (known ++ rs)) rs ≡ false
-none-bad known rs clean = none-all (λ r. is_null r.node || list_any (is_otherwise r) (known ++ rs)) rs (λ r i.
+none-bad known rs clean = none_all (λ r. is_null r.node || list_any (is_otherwise r) (known ++ rs)) rs (λ r i.
     let c = clean-at known rs clean r i in
-    rw (c.0, none-all (is_otherwise r) (known ++ rs) (λ x j. by r i c.1 x (in-append x known rs j))) refl)
+    rw (c.0, none_all (is_otherwise r) (known ++ rs) (λ x j. by r i c.1 x (in-append x known rs j))) refl)
   where
     by : (r : Revision) → In r rs → ((x : Revision) → In x known → is_otherwise r x ≡ false) → (x : Revision) → In x known ⊎ In x rs → is_otherwise r x ≡ false
     by r i clean_r x (inl j) = clean_r x j

@@ -11,6 +11,8 @@ use Rattle.text_model.specs.Path.{is_fit_path, is_fit_name}
 use Rattle.text_model.proofs.ByteLemmas.{IsBytes-front, IsBytes-rest}
 use Rattle.text_model.proofs.EachLemmas.{Each-append, Each-front, Each-rest}
 use Rattle.text_model.proofs.LackLemmas.{has_byte-lacks}
+use Rattle.text_model.proofs.Elements.{each_in, each_from}
+use Rattle.text_model.proofs.Digests.{IsId-object_id}
 use Rattle.git_model.specs.Tree.{is_directory, TreeEntry, IsTree, tree_text, has_distinct}
 use Rattle.git_model.specs.Object.{Object, object_of, tree_name}
 use Rattle.git_model.specs.Unfold.{FileRow, by_walk, is_met_before}
@@ -18,17 +20,15 @@ use Rattle.git_model.specs.Shape.{Leaf, leaf_of, first_names, first_clash, trees
 use Rattle.git_model.proofs.TreeTextLemmas.{tree_fault-text}
 use Rattle.tree_shape.specs.Sets.{IsFileRow, IsFiles}
 use Rattle.tree_shape.specs.Shapes.{entry_of, entries_in, trees_in, trees_of_rows, Good, is_in}
-use Rattle.tree_shape.proofs.Elements.{each-in, each-from}
 use Rattle.tree_shape.proofs.WalkOrder.{walk-good, walk-trees}
 use Rattle.git_model.proofs.SortLemmas.{of-order}
 use Rattle.tree_shape.proofs.FitPieces.{fit-pieces, fit-name}
-use Rattle.tree_shape.proofs.IdLemmas.{IsId-object_id}
 use Rattle.tree_shape.proofs.Leaves.{NotFirst, entry_of-name, first_names-other, other}
 use Rattle.tree_shape.proofs.PutRows.{entries-dir, trees-dir, entries-file, trees-file, trees-empty}
 use Rattle.tree_shape.proofs.Rows.{deep, flat, is-in, in-is, Splits, file-one, dir-one, good-rest, good-front, shorter, shorter-path, shorter-good}
 use Rattle.tree_shape.proofs.Sorted.{entries-rise, trees-are}
 use Rattle.tree_shape.proofs.Turns.{prefix-all, prefix-stops, none-depth}
-use Rattle.pair_state.specs.Growth.{IsRight}
+use Rattle.git_store.specs.Growth.{IsRight}
 
 abbrev leaves : List FileRow → List Leaf
 leaves rows = map leaf_of rows
@@ -173,4 +173,4 @@ each-right (o ∷ os) h = (is-right o h.0, each-right os h.1)
 pub trees-right : (rows : List FileRow) → IsFiles rows → first_clash rows ≡ None → Each IsRight (trees_of rows)
 unfolding trees_of
 trees-right rows files apart = each-right (trees_of rows) (subst (Each IsTreeOf) (walk-trees rows files) (are-trees 257 (by_walk rows) (walk-good rows files apart)
-    (each-from IsFileRow (by_walk rows) (λ x i. each-in IsFileRow rows x files.each (of-order is_met_before x rows i)))))
+    (each_from IsFileRow (by_walk rows) (λ x i. each_in IsFileRow rows x files.each (of-order is_met_before x rows i)))))

@@ -7,7 +7,7 @@ use Rattle.text_model.specs.Lists.{In}
 use Rattle.text_model.specs.Id.{Id, is_null, has_id, node_id}
 use Rattle.text_model.specs.Text.{Bytes}
 use Rattle.hg_model.specs.Changeset.{changeset_text}
-use Rattle.hg_model.specs.Revision.{Revision, Group, Changesets, revision_of, knows, known_after, is_otherwise, ancestry_fault, shape_fault}
+use Rattle.hg_model.specs.Revision.{Revision, Group, Changesets, revision_of, knows, known_after, is_otherwise, ancestry_fault, shape_fault, known_after_all}
 use Rattle.view_model.specs.View.{ChangesetView, Row, changeset_node}
 use Rattle.view_model.specs.Held.{IsFileHeld}
 use Rattle.pair_known.specs.Rows.{RowValue, row_value}
@@ -16,7 +16,6 @@ use Rattle.pair_model.specs.Block.{Block, block_of_node}
 use Rattle.pair_known.specs.Ruled.{HasFileParents}
 use Rattle.pair_known.specs.declared.hg_block.HgBlock.{HgBlock}
 use Rattle.pair_known.specs.declared.hg_draft.HgDraft.{HgDraft}
-use Rattle.history_model.specs.Pull.{all_known}
 use Rattle.pair_state.specs.Push.{HasParents, IsPart, AreLinkParts, AreLinked}
 
 -- the node is null, or known with another text or other parents
@@ -36,7 +35,7 @@ AreClean known (r ∷ rs) = (is_bad known r ≡ false) × AreClean (known_after 
 
 -- the revisions came, and none was bad
 pub record HaveCome (old new rs : List Revision) : Type 0 where
-  pub are : new ≡ all_known old rs
+  pub are : new ≡ known_after_all old rs
   pub clean : AreClean old rs
 
 -- one of the revisions is bad, over the store or the others

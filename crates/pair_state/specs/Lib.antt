@@ -1,6 +1,5 @@
 pub mod Blocks
 pub mod AllBlocks
 pub mod Push
-pub mod Growth
 pub mod Step
 pub mod Came

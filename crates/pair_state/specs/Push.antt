@@ -5,7 +5,7 @@ use Rattle.text_model.specs.Lists.{In, Each}
 use Rattle.text_model.specs.Id.{Id, null}
 use Rattle.hg_model.specs.Changeset.{changeset_text}
 use Rattle.hg_model.specs.FileText.{file_text}
-use Rattle.hg_model.specs.Revision.{Revision, Changesets, is_known_parent}
+use Rattle.hg_model.specs.Revision.{Revision, Changesets, is_known_parent, known_after_all}
 use Rattle.git_model.specs.Object.{Object, knows_object, is_other_content}
 use Rattle.git_model.specs.Unfold.{walk_fault, rows_limit}
 use Rattle.tree_shape.specs.Laws.{IsKnown}
@@ -15,7 +15,6 @@ use Rattle.view_model.specs.Dump.{revisions_in}
 use Rattle.pair_model.specs.Block.{Block, id_of, block_of_node, block_of_id}
 use Rattle.pair_model.specs.Collision.{commit_collides}
 use Rattle.pair_model.specs.Octopus.{is_link_view}
-use Rattle.history_model.specs.Pull.{all_known}
 use Rattle.partner_model.specs.Clash.{commit_side_collides, changeset_side_collides}
 use Rattle.pair_known.specs.declared.hg_draft.HgDraft.{HgDraft}
 use Rattle.pair_known.specs.declared.hg_block.HgBlock.{HgBlock}
@@ -117,7 +116,7 @@ pub record ChangesetPushed (s next : StateParts) (blocks : List Block) (b : Bloc
   pub state : IsStateOf next (blocks ++ b ∷ [])
   pub tags : next.tags ≡ s.tags
   pub names : next.names ≡ s.names
-  pub revisions : next.known.hg ≡ all_known s.known.hg (revisions_in (b.links ++ b.changeset ∷ []))
+  pub revisions : next.known.hg ≡ known_after_all s.known.hg (revisions_in (b.links ++ b.changeset ∷ []))
   pub objects : next.known.git ≡ s.known.git
 
 -- ---- both sides
@@ -150,5 +149,5 @@ pub record BlockPushed (s next : StateParts) (blocks : List Block) (b : Block) :
   pub state : IsStateOf next (blocks ++ b ∷ [])
   pub tags : next.tags ≡ s.tags
   pub names : next.names ≡ s.names
-  pub revisions : next.known.hg ≡ all_known s.known.hg (revisions_in (b.links ++ b.changeset ∷ []))
+  pub revisions : next.known.hg ≡ known_after_all s.known.hg (revisions_in (b.links ++ b.changeset ∷ []))
   pub objects : HaveSame next.known.git (s.known.git ++ commit_objects b.commit)

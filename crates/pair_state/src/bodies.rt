@@ -11,7 +11,7 @@ ghost use Rattle.pair_state.specs.Step.{AreAsked, AreBlobs, HaveBlobs, IsElse};
 
 use bridge_text::{Id, IdSet, Kind};
 use git_object::Objects;
-use hg_filelog::{split, splits_exactly};
+use hg_filelog::split;
 use hg_manifest::Manifest;
 use hg_store::HgStore;
 use pair_known::{Cursor, HgDraft, HgRow, HgRows, Known};
@@ -47,7 +47,6 @@ fn walk_of<'a>(hg: &'a HgStore, agreed: &IdSet, parent: &Id) -> Option<Cursor<'a
 fn manifest_of<'a>(hg: &'a HgStore, node: &Id) -> Option<&'a Manifest>
     ensures { IfSome result (λ m. (w : ChangesetView) → IsChangesetHeld hg.now node.now w → map entry_of_row w.rows ≡ m.now) }
 {
-    hg.check();
     let Some((_, _, changeset)) = hg.changeset(node) else {
         return None;
     };
@@ -112,7 +111,6 @@ fn has_body(known: &Known, row: &HgRow) -> bool
     ensures yes { result ≡ true → (x : Row) → AreAsked known.now.hg known.now.git (row.now ∷ []) (x ∷ []) → IsKnown known.now.git (body_blob x) }
     ensures otherwise { result ≡ false → (x : Row) → AreAsked known.now.hg known.now.git (row.now ∷ []) (x ∷ []) → IsElse known.now.git (body_blob x) }
 {
-    splits_exactly();
     let text = known.hg.file_text(row.path.as_slice(), &row.node).unwrap();
     let body = match split(text) {
         Ok((_, body)) => body,

@@ -6,7 +6,7 @@ ghost use Rattle.text_model.specs.Lists.{Each};
 ghost use Rattle.bridge_text.specs.Kinds.{object_kind};
 ghost use Rattle.git_model.specs.Object.{content_fault};
 ghost use Rattle.git_store.specs.Known.{AreKnown, object_with};
-ghost use Rattle.pair_state.specs.Growth.{IsRight, HasGrown, Clash};
+ghost use Rattle.git_store.specs.Growth.{IsRight, HasGrown, Clash};
 ghost use Rattle.pair_state.specs.declared.fault.PushFault.TheVariants.{Collision};
 
 use crate::fault::PushFault;

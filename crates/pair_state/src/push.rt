@@ -9,7 +9,7 @@ ghost use Rattle.git_store.specs.Known.{AreKnown};
 ghost use Rattle.pair_model.specs.Block as model;
 ghost use Rattle.partner_model.specs.Clash.{commit_side_collides, changeset_side_collides};
 ghost use Rattle.pair_known.specs.Partners.{git_at, hg_at};
-ghost use Rattle.pair_state.specs.Growth.{IsRight, HasGrown, Clash};
+ghost use Rattle.git_store.specs.Growth.{IsRight, HasGrown, Clash};
 ghost use Rattle.pair_state.specs.Push.{PushesCommit, CommitPushed, PushesChangeset, ChangesetPushed, PushesBlock, BlockPushed, block_collides};
 ghost use Rattle.pair_state.specs.Step.{IsPushed};
 ghost use Rattle.pair_state.specs.declared.fault.PushFault.TheVariants.{Collision};
@@ -182,7 +182,6 @@ impl StateParts {
         self.changesets.push(node)?;
         self.commits.push(id)?;
         self.known.hg.check();
-        self.known.partners.check();
         Ok(())
     }
 }

@@ -6,6 +6,7 @@ use Rattle.std.proofs.lemmas.Bool.{and_parts}
 use Rattle.std.proofs.lemmas.Slice.Eq.{bytes_eq-Decides}
 use Rattle.text_model.specs.Lists.{Each}
 use Rattle.text_model.specs.Id.{Id, null, is_null}
+use Rattle.text_model.proofs.Options.{none_some, some_is}
 use Rattle.git_model.specs.Tree.{has_distinct}
 use Rattle.hg_model.specs.Revision.{Revision, Changesets}
 use Rattle.hg_store.specs.Known.{AreAdded}
@@ -15,7 +16,7 @@ use Rattle.pair_model.specs.Block.{Block, node_of, id_of, changesets_in, view_at
 use Rattle.pair_model.specs.Octopus.{links_by, links_over, links_of, partners_of_parents, parents_of_commit, last_id, first_of, second_of}
 use Rattle.pair_model.specs.Rule.{rule_commit}
 use Rattle.pair_known.specs.Partners.{ArePartners}
-use Rattle.pair_known.proofs.HeldViews.{some_is, none_some, held-as}
+use Rattle.pair_known.proofs.HeldViews.{held-as}
 use Rattle.file_rule.specs.Parents.{IsParentView}
 
 eq_true : (x y : List ℕ) → bytes_eq x y ≡ true → x ≡ y

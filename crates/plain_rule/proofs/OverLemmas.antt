@@ -6,6 +6,7 @@ use Rattle.text_model.specs.Lists.{Each, rises}
 use Rattle.text_model.specs.Path.{is_fit_path}
 use Rattle.text_model.specs.Text.{Bytes, IsBytes, is_below}
 use Rattle.text_model.specs.Id.{Id, IsId, is_null}
+use Rattle.text_model.proofs.Options.{none_some, some_is}
 use Rattle.hg_model.specs.Manifest.{IsManifest}
 use Rattle.hg_model.specs.Revision.{Revision, FilesAt, is_of}
 use Rattle.hg_store.specs.Known.{AreAdded, AreAddedTo}
@@ -19,7 +20,7 @@ use Rattle.pair_known.specs.Over.{IsChangesetOver}
 use Rattle.pair_known.specs.Partners.{ArePartners}
 use Rattle.pair_known.specs.declared.known.Known.{Known}
 use Rattle.pair_known.specs.declared.hg_draft.HgDraft.{HgDraft}
-use Rattle.pair_known.proofs.HeldViews.{some_is, none_some, held-as}
+use Rattle.pair_known.proofs.HeldViews.{held-as}
 use Rattle.file_rule.specs.Parents.{IsParent, IsParentView}
 use Rattle.file_rule.specs.declared.parents.Parent.{Parent}
 use Rattle.file_rule.specs.Back.{AreHeldRows}

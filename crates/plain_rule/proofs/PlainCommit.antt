@@ -8,7 +8,8 @@ use Rattle.std.proofs.lemmas.Slice.Eq.{bytes_eq-Decides}
 use Rattle.text_model.specs.Lists.{In, Each}
 use Rattle.text_model.specs.Text.{Bytes, lf}
 use Rattle.text_model.specs.Id.{Id, null, is_null}
-use Rattle.text_model.proofs.Elements.{each_at}
+use Rattle.text_model.proofs.Elements.{each_at, in_right}
+use Rattle.text_model.proofs.Options.{none_some, some_is}
 use Rattle.hg_model.specs.Revision.{Revision, Changesets}
 use Rattle.git_model.specs.Commit.{Commit}
 use Rattle.git_model.specs.Residue.{ResidueItem, residue_of, carried, plain_files, rows_with}
@@ -18,7 +19,7 @@ use Rattle.git_model.proofs.ResidueLemmas.{path_of, path_of_item, up_residue}
 use Rattle.git_model.specs.Unfold.{FileRow, tree_rows}
 use Rattle.git_store.specs.Known.{AreKnown, IsCommitAt}
 use Rattle.git_view.proofs.Walks.{none-refused}
-use Rattle.tree_shape.proofs.Elements.{in-flat, in-right}
+use Rattle.tree_shape.proofs.Elements.{in-flat}
 use Rattle.tree_shape.proofs.Unfolding.{walk-files}
 use Rattle.view_model.specs.View.{ChangesetView, CommitView, changeset_node, commit_id, root_of_rows}
 use Rattle.view_model.specs.Held.{IsChangesetHeld, AreChangesetsHeld, file_row_of}
@@ -32,7 +33,7 @@ use Rattle.pair_known.specs.declared.git_draft.GitDraft.{GitDraft}
 use Rattle.pair_known.specs.Over.{IsCommitOver}
 use Rattle.pair_known.specs.Blocks.{AreBlocksHeld}
 use Rattle.pair_known.specs.Partners.{ArePartners}
-use Rattle.pair_known.proofs.HeldViews.{some_is, none_some, held-as}
+use Rattle.pair_known.proofs.HeldViews.{held-as}
 use Rattle.pair_known.proofs.PartnerLemmas.{block-of-id, back-partner, found-in}
 use Rattle.commit_rule.specs.Parts.{IsTreeOf, WalksThrough, residue_below}
 use Rattle.commit_rule.proofs.Handed.{bare-with}
@@ -84,7 +85,7 @@ module _ (k : Known) (blocks : List Block) (d : GitDraft) (c : CommitView) (over
   some-node : (b : Block) → In b blocks → is_null (node_of b) ≡ false
   some-node b i =
       let there : In b.changeset (changesets_in blocks) =
-      in-flat (λ (b : Block). b.links ++ b.changeset ∷ []) blocks b b.changeset i (in-right b.changeset b.links (b.changeset ∷ []) (inl refl)) in
+      in-flat (λ (b : Block). b.links ++ b.changeset ∷ []) blocks b b.changeset i (in_right b.changeset b.links (b.changeset ∷ []) (inl refl)) in
       let stored = held-member k.hg (changesets_in blocks) b.changeset held.changesets there in
       (held-as k.hg over.history.added Changesets (node_of b) stored.revision stored.is_held).some
 

@@ -5,8 +5,9 @@ use Rattle.std.proofs.lemmas.List.{take-append-drop}
 use Rattle.std.proofs.lemmas.List.Elements.{filter-append}
 use Rattle.text_model.specs.Fault.{Refusal}
 use Rattle.text_model.proofs.Elements.{drop_next, map_append, take_push}
-use Rattle.hg_model.specs.Revision.{Group, Changesets, Manifests, FilesAt, Revision, known_after}
+use Rattle.hg_model.specs.Revision.{Group, Changesets, Manifests, FilesAt, Revision, known_after, known_after_all}
 use Rattle.hg_model.specs.Reading.{Arrival}
+use Rattle.hg_model.proofs.RevisionLemmas.{known_after_all-append}
 use Rattle.git_model.specs.Object.{Object}
 use Rattle.hg_store.specs.Known.{AreAdded}
 use Rattle.hg_bundle.specs.declared.arrival.RevKind.{RevKind}
@@ -16,7 +17,7 @@ use Rattle.hg_bundle.specs.Arrivals.{arrival_of, kind_of}
 use Rattle.hg_dump.proofs.HeldLemmas.{node-is}
 use Rattle.view_model.specs.Dump.{objects_in}
 use Rattle.pair_model.specs.Block.{Block, node_of, commits_in}
-use Rattle.history_model.specs.Pull.{BringBlocks, ChangesetRefused, IsChangesetRefusal, all_known, changesets_among, revisions_among, is_changesets}
+use Rattle.history_model.specs.Pull.{BringBlocks, ChangesetRefused, IsChangesetRefusal, changesets_among, revisions_among, is_changesets}
 use Rattle.pair_state.specs.declared.state_parts.StateParts.{StateParts}
 use Rattle.pair_state.specs.Blocks.{IsStateOf}
 use Rattle.pair_state.specs.Push.{HaveSame}
@@ -27,7 +28,7 @@ use Rattle.bridge_text.specs.Refusals.{refusal_value}
 use Rattle.pair_state.specs.AllBlocks.{state_value, stands_in}
 use Rattle.pair_state.proofs.AllBlocks.{stands-more, saved-stands}
 use Rattle.pull_bundle.specs.Takes.{AreStanding, Comes, Takes, TakesArrivals, IsRefusedArrival, Starts}
-use Rattle.pull_bundle.proofs.Known.{all_known-append, grown, standing-more, standing-after, saved-last}
+use Rattle.pull_bundle.proofs.Known.{grown, standing-more, standing-after, saved-last}
 use Rattle.pull_bundle.proofs.Blocks.{brings-none, brings-append, brings-same, objects_in-more, same-more, same-then, refused-same}
 
 -- ---- which entries are changesets
@@ -128,11 +129,11 @@ among-more came more =
     sym (map_append (λ a. a.revision) (changesets_among came) (changesets_among more))
     ∙ sym (ap revisions_among (filter-append (λ a. is_changesets (a.revision).group) came more))
 
-known-more : (base : List Revision) (came : List Arrival) (a : Arrival) → known_after (all_known base (revisions_among came)) a.revision ≡ all_known base (revisions_among (came ++ a ∷ []))
-known-more base came a = sym (ap (all_known base) (map_append (λ x. x.revision) came (a ∷ [])) ∙ all_known-append base (revisions_among came) (a.revision ∷ []))
+known-more : (base : List Revision) (came : List Arrival) (a : Arrival) → known_after (known_after_all base (revisions_among came)) a.revision ≡ known_after_all base (revisions_among (came ++ a ∷ []))
+known-more base came a = sym (ap (known_after_all base) (map_append (λ x. x.revision) came (a ∷ [])) ∙ known_after_all-append base (revisions_among came) (a.revision ∷ []))
 
 pub arrivals-append : (start mid next : StateParts) (base : List Revision) (blocks : List Block) (came : List Arrival) (a : Arrival) (t : TakesArrivals start mid base blocks came)
-    → TakesArrivals mid next (all_known base (revisions_among came)) (blocks ++ (t.takes).new) (a ∷ []) → TakesArrivals start next base blocks (came ++ a ∷ [])
+    → TakesArrivals mid next (known_after_all base (revisions_among came)) (blocks ++ (t.takes).new) (a ∷ []) → TakesArrivals start next base blocks (came ++ a ∷ [])
 arrivals-append start mid next base blocks came a t u = record {
   takes = record {
     new = (t.takes).new ++ (u.takes).new;
@@ -144,7 +145,7 @@ arrivals-append start mid next base blocks came a t u = record {
     tags = (u.takes).tags ∙ (t.takes).tags;
     names = (u.takes).names ∙ (t.takes).names;
   };
-  saved = subst (λ (l : List Block). AreStanding l (all_known base (revisions_among (came ++ a ∷ [])))) (append_assoc blocks (t.takes).new (u.takes).new)
+  saved = subst (λ (l : List Block). AreStanding l (known_after_all base (revisions_among (came ++ a ∷ [])))) (append_assoc blocks (t.takes).new (u.takes).new)
       (subst (AreStanding ((blocks ++ (t.takes).new) ++ (u.takes).new)) (known-more base came a) u.saved);
 }
 
@@ -167,22 +168,22 @@ parted : (came : List Arrival) (i : ℕ) (a : Arrival) → slice_get came i ≡ 
 parted came i a at = sym (take-append-drop i came) ∙ ap (λ (l : List Arrival). take i came ++ l) (drop_next came i a at)
 
 module _ (start mid : StateParts) (base : List Revision) (blocks : List Block) (list : List listed.Arrival) (came : List Arrival) (starts : Starts start base blocks list came) (i : ℕ) (a : Arrival) (at : slice_get came i ≡ Some a) (t : TakesArrivals start mid base blocks (take i came)) where
-  pub comes-next : Comes mid (blocks ++ (t.takes).new) (all_known base (revisions_among (take i came))) a.revision
+  pub comes-next : Comes mid (blocks ++ (t.takes).new) (known_after_all base (revisions_among (take i came))) a.revision
   comes-next =
       let rest = revisions_among (drop (i + 1) came) in
-      let before = all_known base (revisions_among (take i came)) in
+      let before = known_after_all base (revisions_among (take i came)) in
       let later = grown (known_after before a.revision) rest in
       record {
         state = (t.takes).state;
         saved = t.saved;
         later = later.0;
         store =
-            (t.takes).revisions ∙ starts.store ∙ ap (λ (l : List Arrival). all_known base (revisions_among l)) (parted came i a at)
-            ∙ ap (all_known base) (map_append (λ x. x.revision) (take i came) (a ∷ drop (i + 1) came))
-            ∙ all_known-append base (revisions_among (take i came)) (a.revision ∷ rest) ∙ later.1;
+            (t.takes).revisions ∙ starts.store ∙ ap (λ (l : List Arrival). known_after_all base (revisions_among l)) (parted came i a at)
+            ∙ ap (known_after_all base) (map_append (λ x. x.revision) (take i came) (a ∷ drop (i + 1) came))
+            ∙ known_after_all-append base (revisions_among (take i came)) (a.revision ∷ rest) ∙ later.1;
       }
 
-  pub taken-next : (next : StateParts) → TakesArrivals mid next (all_known base (revisions_among (take i came))) (blocks ++ (t.takes).new) (a ∷ []) → TakesArrivals start next base blocks (take (i + 1) came)
+  pub taken-next : (next : StateParts) → TakesArrivals mid next (known_after_all base (revisions_among (take i came))) (blocks ++ (t.takes).new) (a ∷ []) → TakesArrivals start next base blocks (take (i + 1) came)
   taken-next next u = subst (TakesArrivals start next base blocks) (sym (take_push came i a at)) (arrivals-append start mid next base blocks (take i came) a t u)
 
   refusal-next : (why : Refusal) → IsRefusedArrival mid (blocks ++ (t.takes).new) a why → IsChangesetRefusal start.known.hg (state_value start blocks) (changesets_among came) why

@@ -5,7 +5,7 @@ use Rattle.std.specs.List.{list_any}
 use Rattle.text_model.specs.Lists.{In}
 use Rattle.text_model.specs.Id.{Id}
 use Rattle.text_model.specs.Fault.{FaultName}
-use Rattle.text_model.proofs.TestLemmas.{or_true}
+use Rattle.text_model.proofs.TestLemmas.{or_true, same_bool}
 use Rattle.text_model.proofs.Elements.{flat_map_append, map_append}
 use Rattle.hg_model.specs.Revision.{Revision}
 use Rattle.git_model.specs.Object.{Object, is_other_content}
@@ -17,11 +17,6 @@ use Rattle.history_model.specs.Pull.{BringBlocks, GivesBlock, ViewRefused, Chang
 use Rattle.pair_state.specs.Push.{HaveSame}
 
 -- ---- lists with the same elements
-
-same_bool : (a b : Bool) → (a ≡ true → b ≡ true) → (b ≡ true → a ≡ true) → a ≡ b
-same_bool true b f g = sym (f refl)
-same_bool false true f g = absurd (true≢false (sym (g refl)))
-same_bool false false f g = refl
 
 module _ {X : Type 0} where
   in-left : (x : X) (xs ys : List X) → In x xs → In x (xs ++ ys)

@@ -4,24 +4,16 @@ use Rattle.std.specs.Prelude.{is_some, bytes_eq, IsTrue}
 use Rattle.std.proofs.lemmas.Slice.Eq.{bytes_eq-Decides}
 use Rattle.text_model.specs.Id.{Id}
 use Rattle.text_model.proofs.EachLemmas.{Each-append, Each-weaker}
-use Rattle.hg_model.specs.Revision.{Group, Changesets, Manifests, FilesAt, Revision, is_of, revision_of, knows, known_after}
+use Rattle.hg_model.specs.Revision.{Group, Changesets, Manifests, FilesAt, Revision, is_of, revision_of, knows, known_after, known_after_all}
 use Rattle.hg_model.proofs.RevisionLemmas.{is_of-self}
-use Rattle.hg_bundle.specs.Arrivals.{known_after_all}
 use Rattle.view_model.specs.View.{Row, file_node, ManifestParents, NoManifest, Over, ChangesetView}
 use Rattle.view_model.specs.Held.{IsFileHeld, IsManifestHeld, IsChangesetHeld, AreChangesetsHeld}
 use Rattle.pair_model.specs.Block.{Block, node_of}
-use Rattle.history_model.specs.Pull.{all_known, is_saved}
+use Rattle.history_model.specs.Pull.{is_saved}
 use Rattle.pair_state.specs.AllBlocks.{stands_in}
 use Rattle.pair_state.proofs.AllBlocks.{stands-more}
+use Rattle.pair_state.proofs.CameLemmas.{find-front}
 use Rattle.pull_bundle.specs.Takes.{AreStanding}
-
-pub known-is : (known rs : List Revision) → known_after_all known rs ≡ all_known known rs
-known-is known [] = refl
-known-is known (r ∷ rs) = known-is (known_after known r) rs
-
-pub all_known-append : (known xs ys : List Revision) → all_known known (xs ++ ys) ≡ all_known (all_known known xs) ys
-all_known-append known [] ys = refl
-all_known-append known (x ∷ xs) ys = all_known-append (known_after known x) xs ys
 
 grown-one : (known : List Revision) (r : Revision) → (more : List Revision) × (known_after known r ≡ known ++ more)
 grown-one known r = by (knows known r.group r.node) refl
@@ -30,7 +22,7 @@ grown-one known r = by (knows known r.group r.node) refl
     by true e = ([], rw e (sym (append-nil known)))
     by false e = (r ∷ [], rw e refl)
 
-pub grown : (known rs : List Revision) → (more : List Revision) × (all_known known rs ≡ known ++ more)
+pub grown : (known rs : List Revision) → (more : List Revision) × (known_after_all known rs ≡ known ++ more)
 grown known [] = ([], sym (append-nil known))
 grown known (r ∷ rs) =
     let one = grown-one known r in
@@ -38,14 +30,6 @@ grown known (r ∷ rs) =
     (one.0 ++ all.0, all.1 ∙ ap (λ (l : List Revision). l ++ all.0) one.1 ∙ append_assoc known one.0 all.0)
 
 -- ---- looking up among more
-
-pub revision-more : (known more : List Revision) (group : Group) (node : Id) (r : Revision) → revision_of known group node ≡ Some r → revision_of (known ++ more) group node ≡ Some r
-revision-more [] more group node r h = absurd cc
-revision-more (x ∷ known) more group node r h = by (is_of group node x) refl (revision-more known more group node r)
-  where
-    by : (t : Bool) → is_of group node x ≡ t → (revision_of known group node ≡ Some r → revision_of (known ++ more) group node ≡ Some r) → revision_of (x ∷ (known ++ more)) group node ≡ Some r
-    by true e later = rw e (sym (rw e refl) ∙ h)
-    by false e later = rw e (later (sym (rw e refl) ∙ h))
 
 revision-last : (known : List Revision) (group : Group) (node : Id) (r : Revision) → knows known group node ≡ false → is_of group node r ≡ true → revision_of (known ++ r ∷ []) group node ≡ Some r
 revision-last [] group node r h is = rw is refl
@@ -59,16 +43,16 @@ revision-last (x ∷ known) group node r h is = by (is_of group node x) refl (re
 
 module _ (known more : List Revision) where
   file-more : (row : Row) → IsFileHeld known row → IsFileHeld (known ++ more) row
-  file-more row h = record { revision = h.revision; is_held = revision-more known more (FilesAt row.path) (file_node row.revision) h.revision h.is_held; parents = h.parents; text = h.text }
+  file-more row h = record { revision = h.revision; is_held = find-front known more (FilesAt row.path) (file_node row.revision) h.revision h.is_held; parents = h.parents; text = h.text }
 
   manifest-more : (node : Id) (m : ManifestParents) (rows : List Row) → IsManifestHeld known node m rows → IsManifestHeld (known ++ more) node m rows
   manifest-more node NoManifest rows h = h
-  manifest-more node (Over p q) rows h = record { revision = h.revision; is_held = revision-more known more Manifests node h.revision h.is_held; parents = h.parents; text = h.text }
+  manifest-more node (Over p q) rows h = record { revision = h.revision; is_held = find-front known more Manifests node h.revision h.is_held; parents = h.parents; text = h.text }
 
   pub changeset-more : (node : Id) (h : ChangesetView) → IsChangesetHeld known node h → IsChangesetHeld (known ++ more) node h
   changeset-more node h held = record {
     revision = held.revision;
-    is_held = revision-more known more Changesets node held.revision held.is_held;
+    is_held = find-front known more Changesets node held.revision held.is_held;
     parents = held.parents;
     fields = held.fields;
     manifest = manifest-more (h.fields).manifest h.manifest h.rows held.manifest;
@@ -112,5 +96,5 @@ came-found known later r = by (revision_of known r.group r.node) refl
     self = is_of-self r
 
     by : (o : Option Revision) → revision_of known r.group r.node ≡ o → (found : Revision) × (revision_of (known_after known r ++ later) r.group r.node ≡ Some found)
-    by (Some found) e = (found, rw e (revision-more known later r.group r.node found e))
-    by None e = (r, rw e (revision-more (known ++ r ∷ []) later r.group r.node r (revision-last known r.group r.node r (ap is_some e) self)))
+    by (Some found) e = (found, rw e (find-front known later r.group r.node found e))
+    by None e = (r, rw e (find-front (known ++ r ∷ []) later r.group r.node r (revision-last known r.group r.node r (ap is_some e) self)))

@@ -7,6 +7,7 @@ use Rattle.text_model.specs.Lists.{Each, SomeOf}
 use Rattle.text_model.specs.Text.{Bytes}
 use Rattle.text_model.specs.Id.{Id, null, is_null}
 use Rattle.text_model.specs.Fault as fault
+use Rattle.text_model.proofs.Options.{none_some, some_is}
 use Rattle.hg_model.specs.Changeset.{Changeset, IsChangesetText}
 use Rattle.hg_model.specs.Manifest.{ManifestEntry, IsManifestText}
 use Rattle.hg_model.specs.Revision.{Revision, Changesets, Manifests, FilesAt, revision_of, knows}
@@ -19,12 +20,6 @@ use Rattle.view_model.specs.View.{Row, ChangesetView, ManifestParents, NoManifes
 use Rattle.view_model.specs.Held.{IsFileHeld, IsManifestHeld, IsChangesetHeld}
 use Rattle.history_model.specs.Pull.{LacksManifest, LacksFile}
 use Rattle.pull_bundle.specs.Faults.{ViewLacks}
-
-some_is : {X : Type 0} {x y : X} → Some x ≡ Some y → x ≡ y
-some_is e = cc
-
-none_some : {X : Type 0} {x : X} → None ≡ Some x → ⊥
-none_some e = cc
 
 not_null : (node : Id) → node ≢ null → is_null node ≡ false
 not_null node some = by (is_null node) refl

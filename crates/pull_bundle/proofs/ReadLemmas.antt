@@ -6,19 +6,18 @@ use Rattle.text_model.specs.Id.{Id, has_id}
 use Rattle.text_model.specs.Fault.{Refusal}
 use Rattle.text_model.proofs.Options.{some_is, none_some}
 use Rattle.bridge_text.specs.Refusals.{refusal_value}
-use Rattle.hg_model.specs.Revision.{Revision}
+use Rattle.hg_model.specs.Revision.{Revision, known_after_all}
 use Rattle.hg_model.specs.Reading.{Arrival, bundle_reading}
 use Rattle.hg_bundle.specs.declared.arrival.Arrival as listed
 use Rattle.hg_bundle.specs.declared.fault.BundleFault.{BundleFault}
 use Rattle.hg_bundle.specs.declared.fault.BundleFault.TheVariants as bundle
 use Rattle.hg_bundle.specs.Faults as read
-use Rattle.hg_bundle.specs.Arrivals.{Reads, refused, arrival_of, known_after_all, revisions_of}
+use Rattle.hg_bundle.specs.Arrivals.{Reads, refused, arrival_of, revisions_of}
 use Rattle.git_store.specs.Known.{AreKnown}
 use Rattle.hg_store.specs.Known.{AreAdded}
 use Rattle.view_model.specs.View.{changeset_node}
 use Rattle.view_model.specs.Held.{AreChangesetsHeld}
 use Rattle.pair_model.specs.Block.{Block, changesets_in}
-use Rattle.history_model.specs.Pull.{all_known}
 use Rattle.pair_known.specs.declared.known.Known.{Known}
 use Rattle.pair_known.specs.Blocks.{IsHistoryHeld}
 use Rattle.pair_state.specs.declared.state_parts.StateParts.{StateParts}
@@ -26,7 +25,7 @@ use Rattle.pair_state.specs.Blocks.{IsAgreed, IsStateOf, value_of}
 use Rattle.pull_outcome.specs.Names.{IsOfPullHg}
 use Rattle.pull_outcome.specs.Refused.{IsRefusedBy, FaultCause, bundle_refused}
 use Rattle.pull_bundle.specs.Takes.{HasRead}
-use Rattle.pull_bundle.proofs.Known.{known-is, grown, changeset-more, changesets-more}
+use Rattle.pull_bundle.proofs.Known.{grown, changeset-more, changesets-more}
 
 -- the next state has another store of revisions, and all else as it was
 pub record HasStore (s next : StateParts) (hg : List Revision) : Type 0 where
@@ -43,7 +42,7 @@ module _ (s next : StateParts) (hg rs : List Revision) (has : HasStore s next hg
   more = (grown s.known.hg rs).0
 
   whole : hg ≡ s.known.hg ++ more
-  whole = is ∙ known-is s.known.hg rs ∙ (grown s.known.hg rs).1
+  whole = is ∙ (grown s.known.hg rs).1
 
   agreed-more : (node : Id) → IsAgreed s.known.hg s.known.git node → IsAgreed next.known.hg next.known.git node
   agreed-more node a =
@@ -77,7 +76,7 @@ module _ (s next : StateParts) (hg rs : List Revision) (has : HasStore s next hg
   pub has-read : (list : List listed.Arrival) (came : List Arrival) → list ≡ map arrival_of came → rs ≡ revisions_of came → HasRead s next list came
   has-read list came are revisions = record {
     are = are;
-    store = ap (λ (k : Known). k.hg) has.known ∙ is ∙ known-is s.known.hg rs ∙ ap (all_known s.known.hg) revisions;
+    store = ap (λ (k : Known). k.hg) has.known ∙ is ∙ ap (known_after_all s.known.hg) revisions;
     git = ap (λ (k : Known). k.git) has.known;
     state = state-more;
     blocks = has.blocks;

@@ -2,7 +2,7 @@
 use Rattle.std.specs.Prelude.{◌≡◌, false, true, List, [], ◌∷◌, ◌++◌, map, Some, None, IsTrue}
 use Rattle.text_model.specs.Lists.{Each}
 use Rattle.text_model.specs.Fault.{FaultName, Refusal, refusal}
-use Rattle.hg_model.specs.Revision.{Revision, Changesets, revision_of, known_after}
+use Rattle.hg_model.specs.Revision.{Revision, Changesets, revision_of, known_after, known_after_all}
 use Rattle.hg_model.specs.Reading.{Arrival}
 use Rattle.git_model.specs.Object.{Object}
 use Rattle.view_model.specs.View.{ChangesetView, paths_of, has_clash}
@@ -10,7 +10,7 @@ use Rattle.view_model.specs.Dump.{objects_in}
 use Rattle.pair_model.specs.Block.{Block, block_of_node, commits_in}
 use Rattle.pair_model.specs.Rule.{rule_commit}
 use Rattle.pair_model.specs.Plain.{IsPlainChangeset}
-use Rattle.history_model.specs.Pull.{BringBlocks, AreParentsSaved, ChangesetRefused, GivesBlock, all_known, changesets_among, revisions_among, is_changesets, is_saved}
+use Rattle.history_model.specs.Pull.{BringBlocks, AreParentsSaved, ChangesetRefused, GivesBlock, changesets_among, revisions_among, is_changesets, is_saved}
 use Rattle.hg_bundle.specs.declared.arrival.Arrival as listed
 use Rattle.hg_bundle.specs.Arrivals.{arrival_of}
 use Rattle.pair_known.specs.declared.git_draft.GitDraft.{GitDraft}
@@ -75,7 +75,7 @@ pub record IsRefusedNew (s : StateParts) (blocks : List Block) (r : Revision) (n
 -- the changesets among what came have their blocks, and so has each changeset that is known then
 pub record TakesArrivals (s next : StateParts) (base : List Revision) (blocks : List Block) (came : List Arrival) : Type 0 where
   pub takes : Takes s next blocks (revisions_among (changesets_among came))
-  pub saved : AreStanding (blocks ++ takes.new) (all_known base (revisions_among came))
+  pub saved : AreStanding (blocks ++ takes.new) (known_after_all base (revisions_among came))
 
 -- one of those that came is refused
 pub record IsRefusedArrival (s : StateParts) (blocks : List Block) (a : Arrival) (why : Refusal) : Type 0 where
@@ -89,14 +89,14 @@ pub record Starts (s : StateParts) (base : List Revision) (blocks : List Block) 
   pub are : list ≡ map arrival_of came
   pub state : IsStateOf s blocks
   pub saved : AreStanding blocks base
-  pub store : s.known.hg ≡ all_known base (revisions_among came)
+  pub store : s.known.hg ≡ known_after_all base (revisions_among came)
 
 -- ---- the reading
 
 -- the bundle was read into the state's store
 pub record HasRead (s next : StateParts) (list : List listed.Arrival) (came : List Arrival) : Type 0 where
   pub are : list ≡ map arrival_of came
-  pub store : next.known.hg ≡ all_known s.known.hg (revisions_among came)
+  pub store : next.known.hg ≡ known_after_all s.known.hg (revisions_among came)
   pub git : next.known.git ≡ s.known.git
   pub state : (blocks : List Block) → IsStateOf s blocks → IsStateOf next blocks
   pub blocks : next.blocks ≡ s.blocks

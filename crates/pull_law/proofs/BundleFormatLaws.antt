@@ -6,7 +6,8 @@ use Rattle.text_model.specs.Fault.{Refusal}
 use Rattle.hg_model.specs.Bundle.{bundle_framing, listing, listing_fault, ListsBundle, IsNoBundle}
 use Rattle.hg_model.specs.Reading.{Arrival, bundle_reading}
 use Rattle.hg_model.proofs.BundleLemmas.{lists_bundle, refused_is_none}
-use Rattle.hg_bundle.specs.Arrivals.{arrival_of, known_after_all, revisions_of}
+use Rattle.hg_model.specs.Revision.{known_after_all}
+use Rattle.hg_bundle.specs.Arrivals.{arrival_of, revisions_of}
 use Rattle.hg_bundle.proofs.Groups.{brings_bundle}
 use Rattle.hg_bundle.proofs.Unreadable.{bundle_read}
 use Rattle.history_model.specs.Command.{ListHg, CheckHg, Written, Refused, written_unless, written_of, revision_counts, ComesTo}

@@ -5,7 +5,8 @@ use Rattle.text_model.specs.Id.{Id}
 use Rattle.text_model.specs.Fault.{FaultName}
 use Rattle.text_model.specs.Fault as fault
 use Rattle.text_model.proofs.Options.{some_is}
-use Rattle.hg_model.specs.Revision.{Revision, known_after}
+use Rattle.hg_model.specs.Revision.{Revision, known_after, known_after_all}
+use Rattle.hg_model.proofs.RevisionLemmas.{known_after_all-append}
 use Rattle.git_model.specs.Commit.{Commit, IsCommitText}
 use Rattle.git_model.specs.Object.{Object, object_at}
 use Rattle.git_model.specs.Unfold.{WalkFault, walk_fault}
@@ -15,7 +16,7 @@ use Rattle.view_model.specs.Held.{IsCommitHeld}
 use Rattle.view_model.specs.Dump.{revisions_of, revisions_in}
 use Rattle.pair_model.specs.Block.{Block, changesets_in}
 use Rattle.pair_model.specs.Plain.{block_of_commit}
-use Rattle.history_model.specs.Pull.{all_known, FilesRefused, FilesPass, WalkRefused, CommitRefused, CommitGives, CommitsBring}
+use Rattle.history_model.specs.Pull.{FilesRefused, FilesPass, WalkRefused, CommitRefused, CommitGives, CommitsBring}
 use Rattle.git_view.proofs.One.{one-held}
 use Rattle.pull_law.proofs.Choices.{IsOneName, nothing-one, unless-one, nothing-none, unless-none}
 
@@ -98,8 +99,8 @@ unfolding CommitsBring
 blocks-one known objects blocks [] xs ys h k = h ∙ sym k
 blocks-one known objects blocks (id ∷ ids) xs ys (b, rest, is, gives, later) (c, rest', is', gives', later') =
     let same : b ≡ c = block-one known objects blocks id b c gives gives' in
-    let others : rest ≡ rest' = blocks-one (all_known known (revisions_of b.changeset)) objects (blocks ++ b ∷ []) ids rest rest' later
-    (subst (λ (x : Block). CommitsBring (all_known known (revisions_of x.changeset)) objects (blocks ++ x ∷ []) ids rest') (sym same) later') in
+    let others : rest ≡ rest' = blocks-one (known_after_all known (revisions_of b.changeset)) objects (blocks ++ b ∷ []) ids rest rest' later
+    (subst (λ (x : Block). CommitsBring (known_after_all known (revisions_of x.changeset)) objects (blocks ++ x ∷ []) ids rest') (sym same) later') in
     is ∙ (λ i. same i ∷ others i) ∙ sym is'
 
 -- what some commits bring, and what others bring behind them
@@ -107,20 +108,16 @@ pub record BringsParts (known : List Revision) (objects : List Object) (blocks :
   pub front : List Block
   pub back : List Block
   pub first : CommitsBring known objects blocks ids front
-  pub then : CommitsBring (all_known known (revisions_in (changesets_in front))) objects (blocks ++ front) ids' back
-
-all_known-append : (known xs ys : List Revision) → all_known known (xs ++ ys) ≡ all_known (all_known known xs) ys
-all_known-append known [] ys = refl
-all_known-append known (x ∷ xs) ys = all_known-append (known_after known x) xs ys
+  pub then : CommitsBring (known_after_all known (revisions_in (changesets_in front))) objects (blocks ++ front) ids' back
 
 -- a block of a commit has no links, so its changeset alone is new
 known-behind : (known : List Revision) (blocks : List Block) (c : CommitView) (b : Block) (front : List Block) → b ≡ block_of_commit blocks c
-    → all_known known (revisions_in (changesets_in (b ∷ front)))
-    ≡ all_known (all_known known (revisions_of b.changeset)) (revisions_in (changesets_in front))
+    → known_after_all known (revisions_in (changesets_in (b ∷ front)))
+    ≡ known_after_all (known_after_all known (revisions_of b.changeset)) (revisions_in (changesets_in front))
 known-behind known blocks c b front is =
-    subst (λ (x : Block). all_known known (revisions_in (changesets_in (x ∷ front))) ≡ all_known (all_known known (revisions_of x.changeset))
+    subst (λ (x : Block). known_after_all known (revisions_in (changesets_in (x ∷ front))) ≡ known_after_all (known_after_all known (revisions_of x.changeset))
     (revisions_in (changesets_in front))) (sym is)
-    (all_known-append known (revisions_of (block_of_commit blocks c).changeset) (revisions_in (changesets_in front)))
+    (known_after_all-append known (revisions_of (block_of_commit blocks c).changeset) (revisions_in (changesets_in front)))
 
 parts : (known : List Revision) (objects : List Object) (blocks : List Block) (ids ids' : List Id) (new : List Block)
     → CommitsBring known objects blocks (ids ++ ids') new → BringsParts known objects blocks ids ids'
@@ -132,7 +129,7 @@ parts known objects blocks [] ids' new h = record {
   then = subst (λ (l : List Block). CommitsBring known objects l ids' new) (sym (append-nil blocks)) h;
 }
 parts known objects blocks (id ∷ ids) ids' new (b, rest, is, gives, later) =
-    let p = parts (all_known known (revisions_of b.changeset)) objects (blocks ++ b ∷ []) ids ids' rest later in
+    let p = parts (known_after_all known (revisions_of b.changeset)) objects (blocks ++ b ∷ []) ids ids' rest later in
     record {
       front = b ∷ p.front;
       back = p.back;
@@ -140,21 +137,21 @@ parts known objects blocks (id ∷ ids) ids' new (b, rest, is, gives, later) =
       then = subst (λ (l : List Revision). CommitsBring l objects (blocks ++ b ∷ p.front) ids' p.back)
           (sym (known-behind known blocks gives.view b p.front gives.block))
           (subst (λ (l : List Block). CommitsBring
-          (all_known (all_known known (revisions_of b.changeset)) (revisions_in (changesets_in p.front))) objects l ids' p.back)
+          (known_after_all (known_after_all known (revisions_of b.changeset)) (revisions_in (changesets_in p.front))) objects l ids' p.back)
           (append_assoc blocks (b ∷ []) p.front) p.then);
     }
 
 -- a commit behind others has its block
 pub gives-behind : (known : List Revision) (objects : List Object) (blocks : List Block) (ids : List Id) (id : Id) (later : List Id) (new all : List Block)
     → CommitsBring known objects blocks (ids ++ id ∷ later) all → CommitsBring known objects blocks ids new
-    → (b : Block) × CommitGives (all_known known (revisions_in (changesets_in new))) objects (blocks ++ new) id b
+    → (b : Block) × CommitGives (known_after_all known (revisions_in (changesets_in new))) objects (blocks ++ new) id b
 unfolding CommitsBring
 gives-behind known objects blocks ids id later new all h k =
     let p = parts known objects blocks ids (id ∷ later) all h in
     let same : p.front ≡ new = blocks-one known objects blocks ids p.front new p.first k in
-    by p.back (subst (λ (l : List Block). CommitsBring (all_known known (revisions_in (changesets_in l))) objects (blocks ++ l)
+    by p.back (subst (λ (l : List Block). CommitsBring (known_after_all known (revisions_in (changesets_in l))) objects (blocks ++ l)
     (id ∷ later) p.back) same p.then)
   where
-    by : (back : List Block) → CommitsBring (all_known known (revisions_in (changesets_in new))) objects (blocks ++ new) (id ∷ later) back
-        → (b : Block) × CommitGives (all_known known (revisions_in (changesets_in new))) objects (blocks ++ new) id b
+    by : (back : List Block) → CommitsBring (known_after_all known (revisions_in (changesets_in new))) objects (blocks ++ new) (id ∷ later) back
+        → (b : Block) × CommitGives (known_after_all known (revisions_in (changesets_in new))) objects (blocks ++ new) id b
     by back x = (x.0, x.3)

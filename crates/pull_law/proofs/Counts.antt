@@ -4,9 +4,9 @@ use Rattle.std.specs.Prelude.{count_by, cond}
 use Rattle.std.proofs.lemmas.List.Sums.{sum_by-cons, sum_by-append}
 use Rattle.text_model.specs.Text.{Bytes}
 use Rattle.hg_model.specs.Bundle.{BundleEntry, FileGroup, Bundle}
-use Rattle.hg_model.specs.Revision.{Group, Changesets, Manifests, FilesAt, Revision}
+use Rattle.hg_model.specs.Revision.{Group, Changesets, Manifests, FilesAt, Revision, known_after_all}
 use Rattle.hg_model.specs.Reading.{Arrival, AreTextsFrom, AreTextsOf, revision_by}
-use Rattle.hg_bundle.specs.Arrivals.{known_after_all, revisions_of}
+use Rattle.hg_bundle.specs.Arrivals.{revisions_of}
 use Rattle.hg_bundle.specs.Brought.{AreOfGroup, AreOfFiles, AreOfBundle, revisions_with}
 use Rattle.history_model.specs.Command.{count_in, is_manifests, is_files, revision_counts}
 use Rattle.history_model.specs.Pull.{is_changesets}

@@ -7,9 +7,8 @@ use Rattle.text_model.specs.Id.{Id, null, is_null, node_id}
 use Rattle.text_model.specs.Fault.{FaultName}
 use Rattle.text_model.specs.Fault as fault
 use Rattle.text_model.proofs.Options.{some_none, or_parts}
-use Rattle.hg_model.specs.Revision.{Group, Manifests, Revision, is_of, same_group, is_otherwise, revision_of, knows, known_after, named_if, shape_fault, ancestry_fault, text_fault, addition_fault}
+use Rattle.hg_model.specs.Revision.{Group, Manifests, Revision, is_of, same_group, is_otherwise, revision_of, knows, known_after, named_if, shape_fault, ancestry_fault, text_fault, addition_fault, known_after_all}
 use Rattle.hg_model.proofs.RevisionLemmas.{first_name-two, first_name-three, named_if-None}
-use Rattle.history_model.specs.Pull.{all_known}
 use Rattle.hg_bundle.specs.Brought.{AreAdditions}
 
 -- ---- what an addition shows
@@ -63,6 +62,6 @@ no-null_then known r none h = by (knows known r.group r.node) refl
 
 -- ---- behind all additions
 
-pub no-null : (known : List Revision) (sum : ℕ) (rs : List Revision) → HasNoNull known → AreAdditions known sum rs → HasNoNull (all_known known rs)
+pub no-null : (known : List Revision) (sum : ℕ) (rs : List Revision) → HasNoNull known → AreAdditions known sum rs → HasNoNull (known_after_all known rs)
 no-null known sum [] none h = none
 no-null known sum (r ∷ rs) none h = no-null (known_after known r) (sum + length r.text) rs (no-null_then known r none h.0) h.2

@@ -5,10 +5,11 @@ use Rattle.text_model.specs.Id.{Id}
 use Rattle.text_model.specs.Fault.{FaultName, Refusal, refusal}
 use Rattle.text_model.specs.Fault as fault
 use Rattle.text_model.proofs.Options.{some_is}
+use Rattle.hg_model.specs.Revision.{known_after_all}
 use Rattle.git_model.specs.Stream.{Placed, stream_reading}
 use Rattle.view_model.specs.Dump.{revisions_in, hg_increment}
 use Rattle.pair_model.specs.Block.{Block, changesets_in}
-use Rattle.history_model.specs.Pull.{State, all_known, CommitsBring, CommitRefused, IsCommitRefusal, StreamBrings, StreamRefused, PullGitMakes, PullGitRefuses, objects_with, ancestries, saved_ids, place_of}
+use Rattle.history_model.specs.Pull.{State, CommitsBring, CommitRefused, IsCommitRefusal, StreamBrings, StreamRefused, PullGitMakes, PullGitRefuses, objects_with, ancestries, saved_ids, place_of}
 use Rattle.pull_law.proofs.Splits.{Splits, Same, First, Second, splits}
 use Rattle.pull_law.proofs.Placements.{one-order, order-or_stuck, one-stuck}
 use Rattle.pull_law.proofs.Commits.{blocks-one, gives-behind, gives-or_refused, refusal-one}
@@ -20,10 +21,10 @@ module _ (s : State) (came : List Placed) where
   stops : (before : List Id) (refused : Id) (after : List Id) (new all : List Block) (name : FaultName)
       → CommitsBring s.revisions (objects_with s came) s.blocks (before ++ refused ∷ after) all
       → CommitsBring s.revisions (objects_with s came) s.blocks before new
-      → CommitRefused (all_known s.revisions (revisions_in (changesets_in new))) (objects_with s came) (s.blocks ++ new) refused name → ⊥
+      → CommitRefused (known_after_all s.revisions (revisions_in (changesets_in new))) (objects_with s came) (s.blocks ++ new) refused name → ⊥
   stops before refused after new all name h k why =
       let gives = gives-behind s.revisions (objects_with s came) s.blocks before refused after new all h k in
-      gives-or_refused (all_known s.revisions (revisions_in (changesets_in new))) (objects_with s came) (s.blocks ++ new) refused gives.0 name gives.1 why
+      gives-or_refused (known_after_all s.revisions (revisions_in (changesets_in new))) (objects_with s came) (s.blocks ++ new) refused gives.0 name gives.1 why
 
   brings-or_refused : (ordered : List Id) (all : List Block) (why : Refusal) → CommitsBring s.revisions (objects_with s came) s.blocks ordered all
       → IsCommitRefusal s came ordered why → ⊥
@@ -44,11 +45,11 @@ module _ (s : State) (came : List Placed) where
       by (Same fronts elements) =
           let new : x.new ≡ y.new = blocks-one s.revisions (objects_with s came) s.blocks x.before x.new y.new x.brings
           (subst (λ (l : List Id). CommitsBring s.revisions (objects_with s came) s.blocks l y.new) (sym fronts) y.brings) in
-          let there = λ (l : List Block) (id : Id). CommitRefused (all_known s.revisions (revisions_in (changesets_in l))) (objects_with s came)
+          let there = λ (l : List Block) (id : Id). CommitRefused (known_after_all s.revisions (revisions_in (changesets_in l))) (objects_with s came)
           (s.blocks ++ l) id y.name in
           let fault = subst (λ (id : Id). there x.new id) (sym elements) (subst (λ (l : List Block). there l y.refused) (sym new) y.fault) in
           let name : x.name ≡ y.name =
-          refusal-one (all_known s.revisions (revisions_in (changesets_in x.new))) (objects_with s came)
+          refusal-one (known_after_all s.revisions (revisions_in (changesets_in x.new))) (objects_with s came)
           (s.blocks ++ x.new) x.refused x.name y.name x.fault fault in
           let place : x.at ≡ y.at = some_is (sym x.place ∙ ap (λ (id : Id). place_of came id) elements ∙ y.place) in
           x.is ∙ (λ i. refusal (name i) (elements i) (place i)) ∙ sym y.is
@@ -93,7 +94,7 @@ pub outputs : (s : State) (stream a b : Bytes) → PullGitMakes s stream a → P
 outputs s stream a b x y =
     let same : y.came ≡ x.came = one-read y.came x.came (stream_reading s.objects stream) y.reads x.reads in
     let new : x.new ≡ y.new = new-one s x.came x.new y.new x.brings (subst (λ (l : List Placed). StreamBrings s l y.new) same y.brings) in
-    x.is ∙ ap (λ (l : List Block). hg_increment (all_known s.revisions (revisions_in (changesets_in l))) (changesets_in s.blocks) (changesets_in l)) new
+    x.is ∙ ap (λ (l : List Block). hg_increment (known_after_all s.revisions (revisions_in (changesets_in l))) (changesets_in s.blocks) (changesets_in l)) new
     ∙ sym y.is
 
 pub refusals : (s : State) (stream : Bytes) (a b : Refusal) → PullGitRefuses s stream a → PullGitRefuses s stream b → a ≡ b

@@ -1,9 +1,10 @@
 -- What pulls come to.
 use Rattle.std.specs.Prelude.{◌≡◌, ◌++◌, List, length}
 use Rattle.text_model.specs.Text.{Bytes}
+use Rattle.hg_model.specs.Revision.{known_after_all}
 use Rattle.view_model.specs.Dump.{git_increment, hg_increment, revisions_in}
 use Rattle.pair_model.specs.Block.{Block, changesets_in, commits_in}
-use Rattle.history_model.specs.Pull.{PullHgMakes, PullHgRefuses, PullGitMakes, PullGitRefuses, all_known}
+use Rattle.history_model.specs.Pull.{PullHgMakes, PullHgRefuses, PullGitMakes, PullGitRefuses}
 use Rattle.pair_state.specs.declared.state.State.{State}
 use Rattle.pull_outcome.specs.declared.pulled.Pulled.{Pulled}
 use Rattle.pull_outcome.specs.declared.refused.PullFault.{PullFault}
@@ -46,6 +47,6 @@ pub record GoesOnGit (s : State) (blocks : List Block) (pulled : Pulled) : Type 
   pub new : List Block
   pub next : HasAllBlocks pulled.state (blocks ++ new)
   pub first_new : pulled.first_new ≡ length blocks
-  pub made : pulled.made ≡ hg_increment (all_known s.known.hg (revisions_in (changesets_in new))) (changesets_in blocks) (changesets_in new)
+  pub made : pulled.made ≡ hg_increment (known_after_all s.known.hg (revisions_in (changesets_in new))) (changesets_in blocks) (changesets_in new)
   pub tags : (pulled.state).tags ≡ s.tags
   pub names : (pulled.state).names ≡ s.names

@@ -9,7 +9,8 @@ use Rattle.text_model.specs.Lists.{Each}
 use Rattle.text_model.specs.Id.{Id, commit}
 use Rattle.text_model.specs.Fault.{FaultName}
 use Rattle.text_model.proofs.TestLemmas.{both}
-use Rattle.hg_model.specs.Revision.{Revision, known_after}
+use Rattle.hg_model.specs.Revision.{Revision, known_after, known_after_all}
+use Rattle.hg_model.proofs.RevisionLemmas.{known_after_all-append}
 use Rattle.git_model.specs.Commit.{Commit, parent_ids}
 use Rattle.git_model.proofs.CommitLemmas.{parent_ids-text}
 use Rattle.git_model.specs.Object.{Object}
@@ -25,7 +26,7 @@ use Rattle.pair_state.specs.declared.state_parts.StateParts.{StateParts}
 use Rattle.pair_state.specs.Blocks.{IsStateOf}
 use Rattle.pull_outcome.specs.declared.refused.PullFault.{PullFault}
 use Rattle.history_model.specs.Pull as model
-use Rattle.history_model.specs.Pull.{all_known, CommitGives, CommitsBring, CommitRefused, IsCommitRefusal, objects_with, saved_ids, place_of}
+use Rattle.history_model.specs.Pull.{CommitGives, CommitsBring, CommitRefused, IsCommitRefusal, objects_with, saved_ids, place_of}
 use Rattle.pull_stream.specs.declared.fault.TakeFault.{TakeFault}
 use Rattle.pull_stream.specs.declared.fault.TakeFault.TheVariants.{Refused, Memory}
 use Rattle.pull_stream.specs.Faults.{IsNameDue, IsJudgement, placed_fault}
@@ -37,10 +38,6 @@ use Rattle.pull_stream.proofs.Blocks.{has-block, has-append}
 use Rattle.pull_stream.proofs.Orders.{same-place, has-place, Next, next-is}
 
 -- ---- what blocks bring
-
-pub known-append : (known xs ys : List Revision) → all_known known (xs ++ ys) ≡ all_known (all_known known xs) ys
-known-append known [] ys = refl
-known-append known (x ∷ xs) ys = known-append (known_after known x) xs ys
 
 module _ {known : List Revision} {objects : List Object} {blocks : List Block} {id : Id} where
   pub no_links : (b : Block) → CommitGives known objects blocks id b → b.links ≡ []
@@ -76,14 +73,14 @@ record First (known : List Revision) (objects : List Object) (blocks : List Bloc
   rest : List Block
   is : new ≡ b ∷ rest
   gives : CommitGives known objects blocks id b
-  more : CommitsBring (all_known known (revisions_of b.changeset)) objects (blocks ++ b ∷ []) ids rest
+  more : CommitsBring (known_after_all known (revisions_of b.changeset)) objects (blocks ++ b ∷ []) ids rest
 
 first : (known : List Revision) (objects : List Object) (blocks : List Block) (id : Id) (ids : List Id) (new : List Block) → CommitsBring known objects blocks (id ∷ ids) new → First known objects blocks id ids new
 unfolding CommitsBring
 first known objects blocks id ids new h = record { b = h.0; rest = h.1; is = h.2; gives = h.3; more = h.4 }
 
 brings-first : (known : List Revision) (objects : List Object) (blocks : List Block) (id : Id) (ids : List Id) (b : Block) (rest : List Block) → CommitGives known objects blocks id b
-    → CommitsBring (all_known known (revisions_of b.changeset)) objects (blocks ++ b ∷ []) ids rest → CommitsBring known objects blocks (id ∷ ids) (b ∷ rest)
+    → CommitsBring (known_after_all known (revisions_of b.changeset)) objects (blocks ++ b ∷ []) ids rest → CommitsBring known objects blocks (id ∷ ids) (b ∷ rest)
 unfolding CommitsBring
 brings-first known objects blocks id ids b rest g more = (b, rest, refl, g, more)
 
@@ -93,23 +90,23 @@ none-linked known objects blocks [] new h = subst (Each (λ b. b.links ≡ [])) 
 none-linked known objects blocks (id ∷ ids) new h =
     let f = first known objects blocks id ids new h in
     subst (Each (λ b. b.links ≡ [])) (sym f.is)
-    (no_links f.b f.gives, none-linked (all_known known (revisions_of (f.b).changeset)) objects (blocks ++ f.b ∷ []) ids f.rest f.more)
+    (no_links f.b f.gives, none-linked (known_after_all known (revisions_of (f.b).changeset)) objects (blocks ++ f.b ∷ []) ids f.rest f.more)
 
 -- one more is brought
 pub brings-push : (known : List Revision) (objects : List Object) (blocks : List Block) (ids : List Id) (new : List Block) (id : Id) (b : Block) → CommitsBring known objects blocks ids new
-    → CommitGives (all_known known (revisions_in (changesets_in new))) objects (blocks ++ new) id b → CommitsBring known objects blocks (ids ++ id ∷ []) (new ++ b ∷ [])
+    → CommitGives (known_after_all known (revisions_in (changesets_in new))) objects (blocks ++ new) id b → CommitsBring known objects blocks (ids ++ id ∷ []) (new ++ b ∷ [])
 brings-push known objects blocks [] new id b h g =
     let none = brings-nothing known objects blocks new h in
     subst (λ (l : List Block). CommitsBring known objects blocks (id ∷ []) (l ++ b ∷ [])) (sym none)
-    (brings-one known objects blocks id b (subst (λ (bs : List Block). CommitGives known objects bs id b) (append-nil blocks) (subst (λ (l : List Block). CommitGives (all_known known (revisions_in (changesets_in l))) objects (blocks ++ l) id b) none g)))
+    (brings-one known objects blocks id b (subst (λ (bs : List Block). CommitGives known objects bs id b) (append-nil blocks) (subst (λ (l : List Block). CommitGives (known_after_all known (revisions_in (changesets_in l))) objects (blocks ++ l) id b) none g)))
 brings-push known objects blocks (x ∷ ids) new id b h g =
     let f = first known objects blocks x ids new h in
-    let at = subst (λ (l : List Block). CommitGives (all_known known (revisions_in (changesets_in l))) objects (blocks ++ l) id b) f.is g in
-    let over = ap (all_known known) (first-revisions f.b f.rest (no_links f.b f.gives)) ∙ known-append known (revisions_of (f.b).changeset) (revisions_in (changesets_in f.rest)) in
+    let at = subst (λ (l : List Block). CommitGives (known_after_all known (revisions_in (changesets_in l))) objects (blocks ++ l) id b) f.is g in
+    let over = ap (known_after_all known) (first-revisions f.b f.rest (no_links f.b f.gives)) ∙ known_after_all-append known (revisions_of (f.b).changeset) (revisions_in (changesets_in f.rest)) in
     subst (λ (l : List Block). CommitsBring known objects blocks (x ∷ ids ++ id ∷ []) (l ++ b ∷ [])) (sym f.is)
     (brings-first known objects blocks x (ids ++ id ∷ []) f.b (f.rest ++ b ∷ []) f.gives
-    (brings-push (all_known known (revisions_of (f.b).changeset)) objects (blocks ++ f.b ∷ []) ids f.rest id b f.more
-    (subst (λ (bs : List Block). CommitGives (all_known (all_known known (revisions_of (f.b).changeset)) (revisions_in (changesets_in f.rest))) objects bs id b) (sym (append_assoc blocks (f.b ∷ []) f.rest))
+    (brings-push (known_after_all known (revisions_of (f.b).changeset)) objects (blocks ++ f.b ∷ []) ids f.rest id b f.more
+    (subst (λ (bs : List Block). CommitGives (known_after_all (known_after_all known (revisions_of (f.b).changeset)) (revisions_in (changesets_in f.rest))) objects bs id b) (sym (append_assoc blocks (f.b ∷ []) f.rest))
     (subst (λ (k : List Revision). CommitGives k objects (blocks ++ f.b ∷ f.rest) id b) over at))))
 
 -- ---- one turn
@@ -140,9 +137,9 @@ taken-push s next after blocks ids new id b so_far one =
       ids_are = map-append id_of new (b ∷ []) ∙ (λ i. so_far.ids_are i ++ one.id_is i ∷ []);
       state = subst (IsStateOf after) (append_assoc blocks new (b ∷ [])) one.state;
       revisions =
-          one.revisions ∙ ap (λ (k : List Revision). all_known k (revisions_of b.changeset)) so_far.revisions
-          ∙ sym (known-append s.known.hg (revisions_in (changesets_in new)) (revisions_of b.changeset))
-          ∙ ap (all_known s.known.hg) (sym (last-revisions new b (no_links b gives)));
+          one.revisions ∙ ap (λ (k : List Revision). known_after_all k (revisions_of b.changeset)) so_far.revisions
+          ∙ sym (known_after_all-append s.known.hg (revisions_in (changesets_in new)) (revisions_of b.changeset))
+          ∙ ap (known_after_all s.known.hg) (sym (last-revisions new b (no_links b gives)));
       objects = one.objects ∙ so_far.objects;
       tags = one.tags ∙ so_far.tags;
       names = one.names ∙ so_far.names;
@@ -217,8 +214,8 @@ module _ (s : StateParts) (arrivals : List ObjectArrival) (ordered : List Id) (m
       brings = subst (λ (k : List Revision). CommitsBring k (objects_with m came) m.blocks (take i ordered) new) (o.ready).revisions (subst (λ (os : List Object). CommitsBring s.known.hg os m.blocks (take i ordered) new) (o.ready).objects taken.brings);
       name = name;
       fault =
-          subst (λ (os : List Object). CommitRefused (all_known m.revisions (revisions_in (changesets_in new))) os (m.blocks ++ new) id name) (taken.objects ∙ (o.ready).objects)
-          (subst (λ (k : List Revision). CommitRefused k now.known.git (m.blocks ++ new) id name) (taken.revisions ∙ ap (λ (k : List Revision). all_known k (revisions_in (changesets_in new))) (o.ready).revisions) refused);
+          subst (λ (os : List Object). CommitRefused (known_after_all m.revisions (revisions_in (changesets_in new))) os (m.blocks ++ new) id name) (taken.objects ∙ (o.ready).objects)
+          (subst (λ (k : List Revision). CommitRefused k now.known.git (m.blocks ++ new) id name) (taken.revisions ∙ ap (λ (k : List Revision). known_after_all k (revisions_in (changesets_in new))) (o.ready).revisions) refused);
       at = place;
       place = is;
       is = refl;

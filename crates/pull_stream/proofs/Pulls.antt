@@ -7,7 +7,7 @@ use Rattle.text_model.specs.Text.{Bytes}
 use Rattle.text_model.specs.Id.{Id}
 use Rattle.text_model.specs.Fault.{Refusal}
 use Rattle.text_model.proofs.Elements.{take_front, drop_front}
-use Rattle.hg_model.specs.Revision.{Revision}
+use Rattle.hg_model.specs.Revision.{Revision, known_after_all}
 use Rattle.git_model.specs.Object.{Object}
 use Rattle.git_model.specs.Stream.{Placed, stream_reading}
 use Rattle.git_batch.specs.declared.arrival.ObjectArrival.{ObjectArrival}
@@ -25,7 +25,7 @@ use Rattle.pull_outcome.specs.declared.refused.PullFault.TheVariants as pull
 use Rattle.pull_outcome.specs.Pulls.{PulledGit, GoesOnGit, RefusesGit}
 use Rattle.pull_outcome.specs.Refused.{IsRefusedBy, FaultCause}
 use Rattle.pair_state.specs.AllBlocks.{HasAllBlocks, state_value}
-use Rattle.history_model.specs.Pull.{all_known, objects_with, CommitsBring, IsCommitRefusal, PullGitRefuses}
+use Rattle.history_model.specs.Pull.{objects_with, CommitsBring, IsCommitRefusal, PullGitRefuses}
 use Rattle.pull_stream.specs.Faults.{IsJudgement}
 use Rattle.pull_stream.specs.Ready.{IsInOrder, LacksParent}
 use Rattle.pull_stream.specs.Taken.{CommitsTaken}
@@ -98,8 +98,8 @@ count-within s next blocks new n state later is =
 
 module _ (s : StateParts) (blocks : List Block) (all : HasAllBlocks s blocks) (mid : StateParts) (arrivals : List ObjectArrival) (ordered : List Id) (came : List Placed)
     (o : IsInOrder mid arrivals ordered (state_value s blocks) came) (p : Pulled) (new : List Block) (taken : CommitsTaken mid p.state blocks ordered new) where
-  known-is : (p.state).known.hg ≡ all_known s.known.hg (revisions_in (changesets_in new))
-  known-is = taken.revisions ∙ ap (λ (k : List Revision). all_known k (revisions_in (changesets_in new))) (o.ready).revisions
+  known-is : (p.state).known.hg ≡ known_after_all s.known.hg (revisions_in (changesets_in new))
+  known-is = taken.revisions ∙ ap (λ (k : List Revision). known_after_all k (revisions_in (changesets_in new))) (o.ready).revisions
 
   pub next-all : HasAllBlocks p.state (blocks ++ new)
   next-all =
@@ -108,7 +108,7 @@ module _ (s : StateParts) (blocks : List Block) (all : HasAllBlocks s blocks) (m
 
   module _ (count : p.first_new ≡ length blocks) (n : ℕ) (saved : n ≡ length s.changesets)
       (made : p.made ≡ hg_increment (p.state).known.hg (take n (changesets_in (blocks ++ new))) (drop n (changesets_in (blocks ++ new)))) where
-    made-is : p.made ≡ hg_increment (all_known s.known.hg (revisions_in (changesets_in new))) (changesets_in blocks) (changesets_in new)
+    made-is : p.made ≡ hg_increment (known_after_all s.known.hg (revisions_in (changesets_in new))) (changesets_in blocks) (changesets_in new)
     made-is =
         let old = many s blocks n all.state saved in
         made ∙ (λ i. hg_increment (known-is i) (old-ones blocks new n old i) (new-ones blocks new n old i))

@@ -8,7 +8,7 @@ use Rattle.text_model.specs.Id.{Id, null, is_null}
 use Rattle.text_model.specs.Fault.{FaultName}
 use Rattle.text_model.proofs.Options.{or_false}
 use Rattle.text_model.proofs.TestLemmas.{or_true}
-use Rattle.hg_model.specs.Revision.{Revision, Changesets, is_known_parent, is_otherwise, knows}
+use Rattle.hg_model.specs.Revision.{Revision, Changesets, is_known_parent, is_otherwise, knows, known_after_all}
 use Rattle.view_model.specs.View.{CommitView, ChangesetView, ChangesetFits, changeset_node}
 use Rattle.view_model.specs.Dump.{revisions_of, revisions_in}
 use Rattle.pair_model.specs.Block.{Block, block_of_id, changesets_in, hg_partner, Parents, parents_among, view_at}
@@ -26,7 +26,7 @@ use Rattle.pair_state.specs.declared.state_parts.StateParts.{StateParts}
 use Rattle.pair_state.specs.declared.fault.PushFault.{PushFault}
 use Rattle.pair_state.specs.declared.fault.PushFault.TheVariants as push
 use Rattle.pair_state.specs.Push.{AreLinkParts, HasParents, HasShortTexts, IsPart, PushesChangeset, ChangesetPushed}
-use Rattle.history_model.specs.Pull.{all_known, CommitRefused}
+use Rattle.history_model.specs.Pull.{CommitRefused}
 use Rattle.pull_stream.specs.declared.fault.TakeFault.{TakeFault}
 use Rattle.pull_stream.specs.declared.fault.TakeFault.TheVariants.{Refused, Memory}
 use Rattle.pull_stream.specs.Faults.{IsNameDue, push_refused}
@@ -168,7 +168,7 @@ module _ (s : StateParts) (id : Id) (blocks : List Block) (d : GitDraft) (v : Co
         };
         id_is = f.id_is;
         state = p.state;
-        revisions = p.revisions ∙ ap (all_known s.known.hg) (append-nil (revisions_of k));
+        revisions = p.revisions ∙ ap (known_after_all s.known.hg) (append-nil (revisions_of k));
         objects = p.objects;
         tags = p.tags;
         names = p.names;

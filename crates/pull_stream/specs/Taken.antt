@@ -6,6 +6,7 @@ use Rattle.text_model.specs.Id.{Id, commit}
 use Rattle.git_model.specs.Commit.{Commit}
 use Rattle.text_model.specs.Fault.{FaultName}
 use Rattle.text_model.specs.Fault as fault
+use Rattle.hg_model.specs.Revision.{known_after_all}
 use Rattle.git_model.specs.Unfold.{walk_fault}
 use Rattle.git_store.specs.Known.{content_at, IsCommitAt}
 use Rattle.view_model.specs.View.{CommitView, commit_id, ChangesetFits}
@@ -18,7 +19,7 @@ use Rattle.pair_known.specs.Over.{IsCommitOver}
 use Rattle.pair_known.specs.Ruled.{IsRuledChangeset}
 use Rattle.view_model.specs.Dump.{revisions_of, revisions_in}
 use Rattle.pair_model.specs.Block.{Block, id_of, block_of_id, changesets_in}
-use Rattle.history_model.specs.Pull.{Unless, Nothing, all_known, CommitGives, CommitsBring}
+use Rattle.history_model.specs.Pull.{Unless, Nothing, CommitGives, CommitsBring}
 use Rattle.pair_state.specs.declared.state_parts.StateParts.{StateParts}
 use Rattle.pair_state.specs.Blocks.{IsStateOf}
 
@@ -54,7 +55,7 @@ pub record CommitTaken (s next : StateParts) (id : Id) (blocks : List Block) (b 
   pub gives : CommitGives s.known.hg s.known.git blocks id b
   pub id_is : id_of b ≡ id
   pub state : IsStateOf next (blocks ++ b ∷ [])
-  pub revisions : next.known.hg ≡ all_known s.known.hg (revisions_of b.changeset)
+  pub revisions : next.known.hg ≡ known_after_all s.known.hg (revisions_of b.changeset)
   pub objects : next.known.git ≡ s.known.git
   pub tags : next.tags ≡ s.tags
   pub names : next.names ≡ s.names
@@ -64,7 +65,7 @@ pub record CommitsTaken (s next : StateParts) (blocks : List Block) (ids : List 
   pub brings : CommitsBring s.known.hg s.known.git blocks ids new
   pub ids_are : map id_of new ≡ ids
   pub state : IsStateOf next (blocks ++ new)
-  pub revisions : next.known.hg ≡ all_known s.known.hg (revisions_in (changesets_in new))
+  pub revisions : next.known.hg ≡ known_after_all s.known.hg (revisions_in (changesets_in new))
   pub objects : next.known.git ≡ s.known.git
   pub tags : next.tags ≡ s.tags
   pub names : next.names ≡ s.names

@@ -17,7 +17,7 @@ at_head b rest = rw (eq-eqb b b refl) refl
 past_head : (b x : ℕ) (rest : List ℕ) → eqb x b ≡ false → position_or_len (λ x. x == b) (x ∷ rest) ≡ 1 + position_or_len (λ x. x == b) rest
 past_head b x rest e = rw e refl
 
-place_is : (b : ℕ) (front rest : List ℕ) → Lacks b front → position_or_len (λ x. x == b) (front ++ b ∷ rest) ≡ length front
+pub place_is : (b : ℕ) (front rest : List ℕ) → Lacks b front → position_or_len (λ x. x == b) (front ++ b ∷ rest) ≡ length front
 place_is b [] rest h = at_head b rest
 place_is b (x ∷ xs) rest h = omega (arith, past_head b x (xs ++ b ∷ rest) (differs x b h.0), place_is b xs rest h.1)
 

@@ -1,5 +1,5 @@
 -- Decimals: what is written reads as the number, and what reads as a number is what is written of it.
-use Rattle.std.proofs.Common.{◌≡◌, ◌≢◌, ◌<◌, ◌≤◌, ◌+◌, ◌-◌, ◌*◌, ◌^◌, ◌&&◌, ◌==◌, ℕ, zero, suc, Bool, true, false, not, [], ◌∷◌, length, take, drop, get_or, Some, None, fold, decimal, refl, sym, ap, ◌∙◌, arith, leb, leb-true, eqb, lt-ltb, ltb-true, eq-eqb, true≢false, take-append-drop}
+use Rattle.std.proofs.Common.{◌≡◌, ◌≢◌, ◌<◌, ◌≤◌, ◌+◌, ◌-◌, ◌*◌, ◌^◌, ◌&&◌, ◌==◌, ℕ, zero, suc, Bool, true, false, not, [], ◌∷◌, length, take, drop, get_or, Some, fold, decimal, refl, sym, ap, ◌∙◌, arith, leb, leb-true, eqb, lt-ltb, ltb-true, eq-eqb, true≢false, take-append-drop}
 use Rattle.std.specs.Prelude.{nat_lt}
 use Rattle.std.specs.List.{list_all}
 use Rattle.std.proofs.lemmas.Bool.Decides.{nat_tests}
@@ -8,6 +8,7 @@ use Rattle.std.proofs.lemmas.Str.Parse.{IsNumeralModel, numerals_by_fold}
 use Rattle.std.proofs.lemmas.Fmt.{digits_decimal, digits_value-decimal, decimal-digits_value, decimal_nonempty, decimal_digit, first_decimal}
 use Rattle.text_model.proofs.TestLemmas.{both, differs, or_true}
 use Rattle.text_model.specs.Text.{Bytes, is_digit, is_decimal, number_of, decimal_below}
+use Rattle.text_model.proofs.Options.{some_is, none_some}
 
 le_fold : (n : ℕ) (text : Bytes) → n ≤ fold (λ m b. m * 10 + (b - 48)) n text
 le_fold n [] = omega arith
@@ -91,12 +92,6 @@ decimal-number_of text is h = let d = digits-is_decimal text is in decimal-digit
 pub decimal_below-decimal : (limit n : ℕ) → n < limit → n < 2 ^ 64 → decimal_below limit (decimal n) ≡ Some n
 decimal_below-decimal limit n lt h = rw (is_decimal-decimal n h, number_of-decimal n h, lt-ltb n limit lt) refl
 
-none_some : (n : ℕ) → None ≡ Some n → ⊥
-none_some n h = cc
-
-some_is : (m n : ℕ) → Some m ≡ Some n → m ≡ n
-some_is m n h = cc
-
 -- what reads as a number is what is written of it
 pub decimal_below-takes : (limit : ℕ) (text : Bytes) (n : ℕ) → limit ≤ 2 ^ 64 → decimal_below limit text ≡ Some n → (text ≡ decimal n) × (n < limit)
 decimal_below-takes limit text n small e = by (is_decimal text && nat_lt (number_of text) limit) refl
@@ -104,7 +99,7 @@ decimal_below-takes limit text n small e = by (is_decimal text && nat_lt (number
     by : (t : Bool) → (is_decimal text && nat_lt (number_of text) limit) ≡ t → (text ≡ decimal n) × (n < limit)
     by true t =
         let p = both (is_decimal text) _ t in
-        let is : number_of text ≡ n = some_is (number_of text) n (sym (rw t refl) ∙ e) in
+        let is : number_of text ≡ n = some_is (sym (rw t refl) ∙ e) in
         let lt = ltb-true (number_of text) limit p.1 in
         (sym (decimal-number_of text p.0 (omega (arith, lt, small))) ∙ ap decimal is, omega (arith, lt, is))
-    by false t = absurd (none_some n (sym (rw t refl) ∙ e))
+    by false t = absurd (none_some (sym (rw t refl) ∙ e))

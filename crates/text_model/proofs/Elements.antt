@@ -1,5 +1,5 @@
 -- Elements of lists: what holds of each, and where they stand.
-use Rattle.std.proofs.Common.{◌≡◌, ◌+◌, ℕ, zero, suc, Bool, true, false, ◌||◌, List, [], ◌∷◌, ◌++◌, length, map, take, drop, slice_get, Option, Some, None, refl, sym, ap, subst, ◌∙◌, inl, inr, arith, append_assoc, ◌≤◌}
+use Rattle.std.proofs.Common.{◌≡◌, ◌+◌, ℕ, zero, suc, Bool, true, false, ◌||◌, List, [], ◌∷◌, ◌++◌, length, map, take, drop, slice_get, Some, refl, sym, ap, subst, ◌∙◌, inl, inr, arith, append_assoc, ◌≤◌}
 use Rattle.std.specs.List.{list_any, flat_map}
 use Rattle.std.proofs.lemmas.Bool.{true≢false}
 use Rattle.text_model.specs.Lists.{Each, In}

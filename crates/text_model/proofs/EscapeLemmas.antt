@@ -13,6 +13,7 @@ use Rattle.text_model.specs.Items.{ReadsItems, Follow}
 use Rattle.text_model.proofs.TestLemmas.{both, below, below-at}
 use Rattle.text_model.proofs.EachLemmas.{Each-append, Each-push, Each-weaker}
 use Rattle.text_model.proofs.ItemLemmas.{one_list, continues}
+use Rattle.text_model.proofs.Options.{some_is, none_some}
 
 -- ---- the sixteen digits
 
@@ -28,12 +29,6 @@ digit_value-glyph : (v : ℕ) → v < 16 → digit_value (glyph v) ≡ Some v
 unfolding glyph
 digit_value-glyph v lt = grind (arith, lt, nat_tests)
 
-some_is : (x y : ℕ) → Some x ≡ Some y → x ≡ y
-some_is x y h = cc
-
-none_some : (y : ℕ) → None ≡ Some y → ⊥
-none_some y h = cc
-
 digit_value-takes : (c v : ℕ) → digit_value c ≡ Some v → (v < 16) × (glyph v ≡ c)
 unfolding glyph
 digit_value-takes c v e = by (nat_le 48 c && nat_le c 57) refl (nat_le 65 c && nat_le c 70) refl
@@ -41,17 +36,17 @@ digit_value-takes c v e = by (nat_le 48 c && nat_le c 57) refl (nat_le 65 c && n
     by : (s : Bool) → (nat_le 48 c && nat_le c 57) ≡ s → (t : Bool) → (nat_le 65 c && nat_le c 70) ≡ t → (v < 16) × (glyph v ≡ c)
     by true s t f =
         let p = both (nat_le 48 c) (nat_le c 57) s in
-        let is : c - 48 ≡ v = some_is (c - 48) v (sym (rw s refl) ∙ e) in
+        let is : c - 48 ≡ v = some_is (sym (rw s refl) ∙ e) in
         let low = leb-true 48 c p.0 in
         let high = leb-true c 57 p.1 in
         (omega (arith, is, low, high), grind (arith, is, low, high, nat_tests))
     by false s true t =
         let p = both (nat_le 65 c) (nat_le c 70) t in
-        let is : c - 65 + 10 ≡ v = some_is (c - 65 + 10) v (sym (rw (s, t) refl) ∙ e) in
+        let is : c - 65 + 10 ≡ v = some_is (sym (rw (s, t) refl) ∙ e) in
         let low = leb-true 65 c p.0 in
         let high = leb-true c 70 p.1 in
         (omega (arith, is, low, high), grind (arith, is, low, high, nat_tests))
-    by false s false t = absurd (none_some v (sym (rw (s, t) refl) ∙ e))
+    by false s false t = absurd (none_some (sym (rw (s, t) refl) ∙ e))
 
 -- ---- the two digits of a byte
 
@@ -73,14 +68,14 @@ hex_byte-takes : (high low b : ℕ) → hex_byte high low ≡ Some b → IsDigit
 hex_byte-takes high low b e = by (digit_value high) refl (digit_value low) refl
   where
     by : (s : Option ℕ) → digit_value high ≡ s → (t : Option ℕ) → digit_value low ≡ t → IsDigitsOf high low b
-    by None s t f = absurd (none_some b (sym (rw s refl) ∙ e))
-    by (Some h) s None t = absurd (none_some b (sym (rw (s, t) refl) ∙ e))
+    by None s t f = absurd (none_some (sym (rw s refl) ∙ e))
+    by (Some h) s None t = absurd (none_some (sym (rw (s, t) refl) ∙ e))
     by (Some h) s (Some l) t = value (is_plain (h * 16 + l)) refl
       where
         value : (p : Bool) → is_plain (h * 16 + l) ≡ p → IsDigitsOf high low b
-        value true p = absurd (none_some b (sym (rw (s, t, p) refl) ∙ e))
+        value true p = absurd (none_some (sym (rw (s, t, p) refl) ∙ e))
         value false p =
-            let is : h * 16 + l ≡ b = some_is (h * 16 + l) b (sym (rw (s, t, p) refl) ∙ e) in
+            let is : h * 16 + l ≡ b = some_is (sym (rw (s, t, p) refl) ∙ e) in
             let upper = digit_value-takes high h s in
             let lower = digit_value-takes low l t in
             let front : b / 16 ≡ h = omega (arith, is, lower.0) in
@@ -97,9 +92,6 @@ hex_byte-takes high low b e = by (digit_value high) refl (digit_value low) refl
 some_pair_is : (x y : ℕ × Bytes) → Some x ≡ Some y → x ≡ y
 some_pair_is x y h = cc
 
-none_some_pair : (y : ℕ × Bytes) → None ≡ Some y → ⊥
-none_some_pair y h = cc
-
 plain_byte-lt : (b : ℕ) → is_plain b ≡ true → b < 256
 plain_byte-lt b h = grind (arith, h, nat_tests)
 
@@ -113,16 +105,16 @@ escaped_byte-some b = by (is_plain b) refl
 
 -- what is read stands there
 pub first_byte-takes : (text : Bytes) (b : ℕ) (rest : Bytes) → first_byte text ≡ Some (b, rest) → (text ≡ escaped_byte b ++ rest) × (b < 256)
-first_byte-takes [] b rest e = absurd (none_some_pair (b, rest) e)
+first_byte-takes [] b rest e = absurd (none_some e)
 first_byte-takes (c ∷ text) b rest e = by (is_plain c) refl (c == 37) refl
   where
     digits : (text : Bytes) → c ≡ 37 → after_percent text ≡ Some (b, rest) → (c ∷ text ≡ escaped_byte b ++ rest) × (b < 256)
-    digits [] is a = absurd (none_some_pair (b, rest) a)
-    digits (high ∷ []) is a = absurd (none_some_pair (b, rest) a)
+    digits [] is a = absurd (none_some a)
+    digits (high ∷ []) is a = absurd (none_some a)
     digits (high ∷ low ∷ after) is a = read (hex_byte high low) refl
       where
         read : (r : Option ℕ) → hex_byte high low ≡ r → (c ∷ high ∷ low ∷ after ≡ escaped_byte b ++ rest) × (b < 256)
-        read None r = absurd (none_some_pair (b, rest) (sym (rw r refl) ∙ a))
+        read None r = absurd (none_some (sym (rw r refl) ∙ a))
         read (Some x) r =
             let same : (x, after) ≡ (b, rest) = some_pair_is (x, after) (b, rest) (sym (rw r refl) ∙ a) in
             let it = hex_byte-takes high low b (r ∙ ap (λ (p : ℕ × Bytes). Some p.0) same) in
@@ -136,7 +128,7 @@ first_byte-takes (c ∷ text) b rest e = by (is_plain c) refl (c == 37) refl
         let tail : text ≡ rest = ap (λ (p : ℕ × Bytes). p.1) same in
         (rw (← is, s, tail) refl, subst (λ (x : ℕ). x < 256) is (plain_byte-lt c s))
     by false s true t = digits text (eqb-true c 37 t) (sym (rw (s, t) refl) ∙ e)
-    by false s false t = absurd (none_some_pair (b, rest) (sym (rw (s, t) refl) ∙ e))
+    by false s false t = absurd (none_some (sym (rw (s, t) refl) ∙ e))
 
 -- what stands there is read
 pub first_byte-again : (b : ℕ) (rest : Bytes) → b < 256 → first_byte (escaped_byte b ++ rest) ≡ Some (b, rest)
@@ -162,7 +154,7 @@ escape-injective raw other r o e = one_list escaped_byte (λ b. b < 256) stays A
 
 -- where nothing is read, no byte's escape begins the rest
 pub no_byte-from_none : (rest : Bytes) → first_byte rest ≡ None → (b : ℕ) (after : Bytes) → b < 256 → rest ≢ escaped_byte b ++ after
-no_byte-from_none rest none b after lt e = none_some_pair (b, after) (sym none ∙ ap first_byte e ∙ first_byte-again b after lt)
+no_byte-from_none rest none b after lt e = none_some (sym none ∙ ap first_byte e ∙ first_byte-again b after lt)
 
 -- a text with a byte that can't stand where it stands is the escape of nothing
 pub bad_escape-is_no_escape : (text raw : Bytes) (place : ℕ) → IsEscapeOf text raw → IsBadEscapeAt text place → ⊥

@@ -1,6 +1,7 @@
--- The words of refusals are short.
-use Rattle.std.proofs.Common.{ℕ, ◌≤◌, length, arith}
-use Rattle.text_model.specs.Fault.{FaultName, fault_word}
+-- The words of refusals are short; and the ends that an input reaches.
+use Rattle.std.proofs.Common.{◌≡◌, ℕ, ◌≤◌, length, None, arith}
+use Rattle.std.proofs.lemmas.Bool.Decides.{nat_tests}
+use Rattle.text_model.specs.Fault.{FaultName, fault_word, reach, input_limit}
 use Rattle.text_model.specs.Fault as fault
 
 -- no word is longer than 18 bytes
@@ -54,3 +55,11 @@ fault_word-short fault.TargetUnknown = omega arith
 fault_word-short fault.TagUnknown = omega arith
 fault_word-short fault.NameLimit = omega arith
 fault_word-short fault.CountLimit = omega arith
+
+-- ---- ends within the input and its limit
+
+pub reach-within : (total end : ℕ) → end ≤ total → end ≤ input_limit → reach total end ≡ None
+reach-within total end all within = grind (arith, nat_tests)
+
+pub within-reach : (total end : ℕ) → reach total end ≡ None → (end ≤ total) × (end ≤ input_limit)
+within-reach total end fits = (grind (arith, nat_tests), grind (arith, nat_tests))

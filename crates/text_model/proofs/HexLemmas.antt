@@ -1,5 +1,5 @@
 -- Ids and their hex digits.
-use Rattle.std.proofs.Common.{◌≡◌, ◌<◌, ◌+◌, ◌*◌, ◌/◌, ◌%◌, ◌==◌, eqb-true, ℕ, zero, suc, Bool, true, false, [], ◌∷◌, length, replicate, Some, None, Ok, refl, sym, ap, subst, ◌∙◌, arith}
+use Rattle.std.proofs.Common.{◌≡◌, ◌<◌, ◌+◌, ◌*◌, ◌/◌, ◌%◌, ◌==◌, eqb-true, ℕ, zero, suc, Bool, true, false, [], ◌∷◌, length, replicate, Some, Ok, refl, sym, ap, subst, ◌∙◌, arith}
 use Rattle.std.specs.Prelude.{if◌then◌else◌, nat_le, slice_index}
 use Rattle.std.specs.List.{list_all}
 use Rattle.std.proofs.lemmas.Bool.Decides.{nat_tests}
@@ -9,6 +9,7 @@ use Rattle.text_model.proofs.TestLemmas.{both, below, below-at}
 use Rattle.text_model.specs.Text.{Bytes, IsBytes}
 use Rattle.text_model.specs.Cuts.{Lacks}
 use Rattle.text_model.specs.Id.{Id, IsId, null, hex, is_lower_digit, is_hex_id, digit_value, bytes_of_digits, id_of_hex}
+use Rattle.text_model.proofs.Options.{some_is, none_some}
 
 hex_digit_value-lower : (c : ℕ) → is_lower_digit c ≡ true → hex_digit_value c ≡ Some (digit_value c)
 hex_digit_value-lower c h = grind (arith, nat_tests)
@@ -119,12 +120,6 @@ names (high ∷ low ∷ rest) even h =
       shows = rw (front, end, a, b, others.shows) refl;
     }
 
-some_is : (x y : Bytes) → Some x ≡ Some y → x ≡ y
-some_is x y h = cc
-
-none_some : (y : Bytes) → None ≡ Some y → ⊥
-none_some y h = cc
-
 -- what reads as an id is its digits
 pub id_of_hex-takes : (text : Bytes) (id : Id) → id_of_hex text ≡ Some id → IsId id × (text ≡ hex id)
 id_of_hex-takes text id e = by (is_hex_id text) refl
@@ -134,13 +129,13 @@ id_of_hex-takes text id e = by (is_hex_id text) refl
         let parts = both (length text == 40) _ t in
         let long : length text ≡ 40 = eqb-true (length text) 40 parts.0 in
         let it = names text (omega (arith, long)) parts.1 in
-        let is : bytes_of_digits text ≡ id = some_is (bytes_of_digits text) id (sym (rw t refl) ∙ e) in
+        let is : bytes_of_digits text ≡ id = some_is (sym (rw t refl) ∙ e) in
         subst (λ (x : Bytes). IsId x × (text ≡ hex x)) is ((omega (arith, long, it.long), it.bytes), sym it.shows)
-    by false t = absurd (none_some id (sym (rw t refl) ∙ e))
+    by false t = absurd (none_some (sym (rw t refl) ∙ e))
 
 -- ids with the same digits are one
 pub hex-injective : (id other : Id) → IsId id → IsId other → hex id ≡ hex other → id ≡ other
-hex-injective id other is os e = some_is id other (sym (id_of_hex-hex id is) ∙ ap id_of_hex e ∙ id_of_hex-hex other os)
+hex-injective id other is os e = some_is (sym (id_of_hex-hex id is) ∙ ap id_of_hex e ∙ id_of_hex-hex other os)
 
 -- a byte below the digits stands nowhere in them, as NUL, LF and the space
 pub hex-lacks : (b : ℕ) (bytes : Bytes) → b < 48 → IsBytes bytes → Lacks b (hex bytes)

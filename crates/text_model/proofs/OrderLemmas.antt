@@ -14,7 +14,7 @@ use Rattle.text_model.specs.Id.{Id, has_id, node_id}
 laws : IsTotalOrder (slice_cmp nat_cmp)
 laws = nat_list_cmp_total
 
-less : (o : Ordering) → is_lt o ≡ true → o ≡ Less
+pub less : (o : Ordering) → is_lt o ≡ true → o ≡ Less
 less Less h = refl
 less Equal h = absurd (true≢false (sym h))
 less Greater h = absurd (true≢false (sym h))
@@ -66,3 +66,19 @@ pub In-has_id : (ids : List Id) (id : Id) → In id ids → has_id ids id ≡ tr
 In-has_id [] id h = absurd h
 In-has_id (x ∷ ids) id (inl e) = rw ((bytes_eq-Decides id x).1 e) refl
 In-has_id (x ∷ ids) id (inr h) = rw (In-has_id ids id h) (or_true (bytes_eq id x))
+
+-- ---- paths of which one is below the other
+
+pub below-other : (x y : Bytes) → is_below x y ≡ true → bytes_eq x y ≡ false
+below-other x y h = by (bytes_eq x y) refl
+  where
+    by : (t : Bool) → bytes_eq x y ≡ t → bytes_eq x y ≡ false
+    by true e = absurd (true≢false (sym h ∙ ap (is_below x) (sym ((bytes_eq-Decides x y).0 e)) ∙ is_below-irreflexive x))
+    by false e = e
+
+pub above-other : (x y : Bytes) → is_below x y ≡ true → bytes_eq y x ≡ false
+above-other x y h = by (bytes_eq y x) refl
+  where
+    by : (t : Bool) → bytes_eq y x ≡ t → bytes_eq y x ≡ false
+    by true e = absurd (true≢false (sym h ∙ ap (is_below x) ((bytes_eq-Decides y x).0 e) ∙ is_below-irreflexive x))
+    by false e = e

@@ -12,14 +12,10 @@ use Rattle.std.proofs.lemmas.Slice.Eq.{bytes_eq-Decides}
 use Rattle.text_model.specs.Lists.{Each, rises}
 use Rattle.text_model.specs.Text.{Bytes, is_below}
 use Rattle.text_model.proofs.EachLemmas.{Each-weaker}
-use Rattle.text_model.proofs.OrderLemmas.{is_below-chain, is_below-irreflexive}
+use Rattle.text_model.proofs.OrderLemmas.{is_below-chain, is_below-irreflexive, less}
+use Rattle.text_model.proofs.TestLemmas.{bytes_eq-other}
 
 -- ---- one comparison
-
-less : (o : Ordering) → is_lt o ≡ true → o ≡ Less
-less Less h = refl
-less Equal h = absurd (false≢true h)
-less Greater h = absurd (false≢true h)
 
 -- where a is below b, b compares with p as a does or later
 index_rises : (a b p : Bytes) → is_below a b ≡ true → ordering_index (slice_cmp nat_cmp a p) ≤ ordering_index (slice_cmp nat_cmp b p)
@@ -34,13 +30,6 @@ index_rises a b p below = by (slice_cmp nat_cmp a p) refl
     by Greater e = omega (arith, past (is_below-chain p a b (ap is_lt (nat_list_cmp_total.antisymm p a ∙ ap ordering_reverse e)) below))
 
 -- ---- paths that rise
-
-pub other_path : (a p : Bytes) → a ≢ p → bytes_eq a p ≡ false
-other_path a p h = by (bytes_eq a p) refl
-  where
-    by : (t : Bool) → bytes_eq a p ≡ t → bytes_eq a p ≡ false
-    by true e = absurd (h ((bytes_eq-Decides a p).0 e))
-    by false e = e
 
 pub apart : (a b : Bytes) → is_below a b ≡ true → a ≢ b
 apart a b below same = false≢true (sym (is_below-irreflexive b) ∙ ap (λ (x : Bytes). is_below x b) (sym same) ∙ below)
@@ -101,12 +90,12 @@ module _ {X : Type 0} (path : X → Bytes) where
   found_at [] i d h lt = absurd (omega arith)
   found_at (x ∷ xs) zero d h lt = rw ((bytes_eq-Decides (path x) (path x)).1 refl) refl
   found_at (x ∷ xs) (suc i) d h lt =
-      let other = other_path (path x) (path (get_or xs i d)) (apart (path x) (path (get_or xs i d)) (each_at (λ y. is_below (path x) (path y) ≡ true) xs i d h.0 (omega arith))) in
+      let other = bytes_eq-other (path x) (path (get_or xs i d)) (apart (path x) (path (get_or xs i d)) (each_at (λ y. is_below (path x) (path y) ≡ true) xs i d h.0 (omega arith))) in
       rw other (found_at xs i d h.1 (omega arith))
 
   pub not_found : (xs : List X) (p : Bytes) → ((k : ℕ) (d : X) → k < length xs → path (get_or xs k d) ≢ p) → found_in xs p ≡ None
   not_found [] p h = refl
-  not_found (x ∷ xs) p h = rw (other_path (path x) p (h 0 x (omega arith))) (not_found xs p (λ k d lt. h (suc k) d (omega arith)))
+  not_found (x ∷ xs) p h = rw (bytes_eq-other (path x) p (h 0 x (omega arith))) (not_found xs p (λ k d lt. h (suc k) d (omega arith)))
 
   -- what stands at a place where the path is the one sought
   pub got_at : (xs : List X) (p : Bytes) (i : ℕ) (e : X) → rises is_below (map path xs) ≡ true → i < length xs → e ≡ get_or xs i e → path e ≡ p → Some e ≡ found_in xs p

@@ -21,6 +21,10 @@ commit_limit = 2 ^ 24
 abbrev pub rows_limit : ℕ
 rows_limit = 2 ^ 26
 
+-- the parents of a commit
+abbrev pub parent_limit : ℕ
+parent_limit = 64
+
 -- the bytes of a path
 abbrev pub path_limit : ℕ
 path_limit = 4096

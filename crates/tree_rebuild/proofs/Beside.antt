@@ -3,6 +3,7 @@ use Rattle.std.proofs.Common.{◌≡◌, ◌≢◌, ◌<◌, ◌+◌, ℕ, zero,
 use Rattle.std.specs.Prelude.{if◌then◌else◌, IsTrue, IfSome, MatchOption, bytes_eq, slice_get}
 use Rattle.std.specs.Option.{unwrap_or}
 use Rattle.std.proofs.lemmas.Slice.Eq.{bytes_eq-Decides}
+use Rattle.std.proofs.lemmas.Bool.{and_from}
 use Rattle.text_model.specs.Lists.{In, Each}
 use Rattle.text_model.specs.Text.{Bytes, has_byte}
 use Rattle.text_model.specs.Id.{Id}
@@ -24,7 +25,7 @@ use Rattle.tree_shape.proofs.Unfolding.{no-entries, name-of}
 use Rattle.tree_rebuild.specs.Entries.{met_text, IsNext, IsDirectoryNext, IsRowNext, IsIdNext}
 use Rattle.tree_rebuild.specs.Added.{IsAdded}
 use Rattle.tree_rebuild.specs.News.{same_leaves, has_group, new_group, new_in, new_over}
-use Rattle.tree_rebuild.proofs.SameLeaves.{and_true, leaves-one}
+use Rattle.tree_rebuild.proofs.SameLeaves.{leaves-one}
 use Rattle.tree_rebuild.proofs.Kept.{at-in, first-of, kept-tree, added-none}
 use Rattle.tree_rebuild.proofs.SameSteps.{left-entries, Has, leaf-not, leaf-is, dir-flat, dir-other, dir-same, IsGroup}
 
@@ -34,7 +35,7 @@ pub directory-at : (name : Bytes) (old : List TreeEntry) (place : ℕ) (e : Tree
     → (IsTrue b → IsDirectoryNext name (drop place old)) × (IsDirectoryNext name (drop place old) → IsTrue b)
 directory-at name old place e b lt at is = subst (λ (es : List TreeEntry). (IsTrue b → IsDirectoryNext name es) × (IsDirectoryNext name es → IsTrue b)) (sym (left-entries old place e lt at)) (
   λ t. let p = both (is_directory e.mode) (bytes_eq e.name name) (sym is ∙ t) in (p.0, (bytes_eq-Decides e.name name).0 p.1),
-  λ d. is ∙ and_true (is_directory e.mode) (bytes_eq e.name name) d.0 ((bytes_eq-Decides e.name name).1 d.1),
+  λ d. is ∙ and_from (is_directory e.mode) (bytes_eq e.name name) d.0 ((bytes_eq-Decides e.name name).1 d.1),
 )
 
 pub next-within : (name : Bytes) (old : List TreeEntry) (place : ℕ) → IsDirectoryNext name (drop place old) → place < length old

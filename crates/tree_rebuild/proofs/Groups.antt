@@ -3,7 +3,7 @@ use Rattle.std.proofs.Common.{◌≡◌, ◌<◌, ◌≤◌, ◌+◌, ℕ, zero,
 use Rattle.std.specs.Prelude.{if◌then◌else◌, bytes_eq, slice_get}
 use Rattle.std.specs.List.{prefix_len}
 use Rattle.std.proofs.Math.Seq.{take-append_seam, drop-append_seam}
-use Rattle.std.proofs.lemmas.Bool.{cases_lt}
+use Rattle.std.proofs.lemmas.Bool.{cases_lt, and_from}
 use Rattle.std.proofs.lemmas.Bool.Decides.{Decides-eqb}
 use Rattle.std.proofs.lemmas.List.{length-append, length-take-le, take-append-drop, take-map, drop-map, map-append}
 use Rattle.std.proofs.lemmas.Slice.Eq.{bytes_eq-Decides}
@@ -19,7 +19,6 @@ use Rattle.tree_shape.proofs.FileSets.{bool-same}
 use Rattle.tree_shape.proofs.Leaves.{NotFirst}
 use Rattle.tree_shape.proofs.Rows.{Splits, clash, dir-one, in-is, is-in}
 use Rattle.tree_shape.proofs.Turns.{prefix-all, prefix-stops, count-within}
-use Rattle.tree_rebuild.proofs.SameLeaves.{and_true}
 
 -- ---- a row that lies in a directory begins with its name and a slash
 
@@ -51,7 +50,7 @@ by-front name front after row plain f a = bool-same (begins_with_slash after && 
         let u = is-in name row h in
         let front_is : front ≡ name = f ∙ ap (take (length name)) u.1.is ∙ take-append_seam name (47 ∷ u.0) in
         let after_is : after ≡ 47 ∷ u.0 = a ∙ ap (drop (length name)) u.1.is ∙ drop-append_seam name (47 ∷ u.0) in
-        and_true (begins_with_slash after) (bytes_eq front name) (ap begins_with_slash after_is) ((bytes_eq-Decides front name).1 front_is)
+        and_from (begins_with_slash after) (bytes_eq front name) (ap begins_with_slash after_is) ((bytes_eq-Decides front name).1 front_is)
 
 -- ---- the end of the group
 

@@ -12,12 +12,13 @@ use Rattle.git_model.specs.Object.{Object, object_of, object_at, tree_at, AreObj
 use Rattle.git_model.specs.Unfold.{FileRow, has_no_entries}
 use Rattle.git_model.specs.Shape.{Leaf, leaf_of, shape_entries, shape_objects}
 use Rattle.text_model.proofs.Options.{some_is}
+use Rattle.text_model.proofs.Elements.{in_left, in_right, each_in, each_from}
 use Rattle.tree_shape.specs.Laws.{IsKnown}
 use Rattle.tree_shape.specs.Shapes.{Good, is_tree, entries_in, trees_in, id_of_rows, trees_of_rows, row_trees}
 use Rattle.tree_shape.proofs.Sorted.{id-is, trees-are}
 use Rattle.tree_shape.specs.Wholes.{entry_leaves, leaves_in, Below, Sound, tree_leaves, AreWhole}
 use Rattle.tree_rebuild.specs.Added.{IsAdded}
-use Rattle.tree_shape.proofs.Elements.{each-in, each-from, in-left, in-right, in-append}
+use Rattle.tree_shape.proofs.Elements.{in-append}
 use Rattle.tree_shape.proofs.Unfolding.{no-entries}
 use Rattle.tree_shape.proofs.Held.{held}
 use Rattle.tree_shape.proofs.Rebuilding.{leaves-some, sound-at, level}
@@ -28,10 +29,10 @@ at-in (y ∷ xs) zero x h is = inl is
 at-in (y ∷ xs) (suc i) x h is = inr (at-in xs i x (omega (arith, h)) is)
 
 pub built-are : (made trees : List Object) → made ≡ trees → Each (λ o. In o trees) made
-built-are made trees h = subst (λ (os : List Object). Each (λ o. In o trees) os) (sym h) (each-from (λ o. In o trees) trees (λ o i. i))
+built-are made trees h = subst (λ (os : List Object). Each (λ o. In o trees) os) (sym h) (each_from (λ o. In o trees) trees (λ o i. i))
 
 pub built-held : (known made trees : List Object) → made ≡ trees → Each (λ o. In o (made ++ known)) trees
-built-held known made trees h = subst (λ (os : List Object). Each (λ o. In o (os ++ known)) trees) (sym h) (each-from (λ o. In o (trees ++ known)) trees (λ o i. in-left o trees known i))
+built-held known made trees h = subst (λ (os : List Object). Each (λ o. In o (os ++ known)) trees) (sym h) (each_from (λ o. In o (trees ++ known)) trees (λ o i. in_left o trees known i))
 
 -- ---- an object that is known is among the objects
 
@@ -63,7 +64,7 @@ whole-of known (suc n) id entries s = let less : n ≡ suc n - 1 = omega arith i
 pub below-sound : (known : List Object) (levels : ℕ) (old : List TreeEntry) (e : TreeEntry) (subtree : List TreeEntry) → AreWhole known levels old → In e old → is_directory e.mode ≡ true → tree_at known e.id ≡ Some subtree
     → Sound known (levels - 1) e.id subtree
 below-sound known levels old e subtree w i d at =
-    let s = each-in (Below (Sound known (levels - 1))) old e w i d in
+    let s = each_in (Below (Sound known (levels - 1))) old e w i d in
     let same : s.0 ≡ subtree = some_is {x = s.0} {y = subtree} (sym (sound-at known (levels - 1) e.id s.0 s.1) ∙ at) in
     subst (Sound known (levels - 1) e.id) same s.1
 
@@ -92,23 +93,23 @@ pub added-none : (known made trees : List Object) → Each (λ o. In o known) tr
 added-none known made trees h = record { added = []; is = sym (append-nil made); are = tt; held = h }
 
 pub added-all : (known made new trees : List Object) → new ≡ made ++ trees → IsAdded known made new trees
-added-all known made new trees is = record { added = trees; is = is; are = each-from (λ o. In o trees) trees (λ o i. i); held = each-from (λ o. In o (trees ++ known)) trees (λ o i. in-left o trees known i) }
+added-all known made new trees is = record { added = trees; is = is; are = each_from (λ o. In o trees) trees (λ o i. i); held = each_from (λ o. In o (trees ++ known)) trees (λ o i. in_left o trees known i) }
 
 pub added-more : (known a b c first second : List Object) → IsAdded known a b first → IsAdded known b c second → IsAdded known a c (first ++ second)
 added-more known a b c first second f s = record {
   added = f.added ++ s.added;
   is = s.is ∙ ap (λ (os : List Object). os ++ s.added) f.is ∙ append_assoc a f.added s.added;
   are = Each-append (λ o. In o (first ++ second)) f.added s.added
-      (each-from (λ o. In o (first ++ second)) f.added (λ o i. in-left o first second (each-in (λ o. In o first) f.added o f.are i)))
-      (each-from (λ o. In o (first ++ second)) s.added (λ o i. in-right o first second (each-in (λ o. In o second) s.added o s.are i)));
+      (each_from (λ o. In o (first ++ second)) f.added (λ o i. in_left o first second (each_in (λ o. In o first) f.added o f.are i)))
+      (each_from (λ o. In o (first ++ second)) s.added (λ o i. in_right o first second (each_in (λ o. In o second) s.added o s.are i)));
   held = Each-append (λ o. In o ((f.added ++ s.added) ++ known)) first second
-      (each-from (λ o. In o ((f.added ++ s.added) ++ known)) first (λ o i. elim (in-append o f.added known (each-in (λ o. In o (f.added ++ known)) first o f.held i)) [
-        | inl j ↦ in-left o (f.added ++ s.added) known (in-left o f.added s.added j)
-        | inr k ↦ in-right o (f.added ++ s.added) known k
+      (each_from (λ o. In o ((f.added ++ s.added) ++ known)) first (λ o i. elim (in-append o f.added known (each_in (λ o. In o (f.added ++ known)) first o f.held i)) [
+        | inl j ↦ in_left o (f.added ++ s.added) known (in_left o f.added s.added j)
+        | inr k ↦ in_right o (f.added ++ s.added) known k
       ]))
-      (each-from (λ o. In o ((f.added ++ s.added) ++ known)) second (λ o i. elim (in-append o s.added known (each-in (λ o. In o (s.added ++ known)) second o s.held i)) [
-        | inl j ↦ in-left o (f.added ++ s.added) known (in-right o f.added s.added j)
-        | inr k ↦ in-right o (f.added ++ s.added) known k
+      (each_from (λ o. In o ((f.added ++ s.added) ++ known)) second (λ o i. elim (in-append o s.added known (each_in (λ o. In o (s.added ++ known)) second o s.held i)) [
+        | inl j ↦ in_left o (f.added ++ s.added) known (in_right o f.added s.added j)
+        | inr k ↦ in_right o (f.added ++ s.added) known k
       ]));
 }
 

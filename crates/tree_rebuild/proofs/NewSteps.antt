@@ -9,6 +9,7 @@ use Rattle.text_model.specs.Lists.{Each}
 use Rattle.text_model.specs.Text.{Bytes}
 use Rattle.text_model.specs.Id.{Id, tree, object_id}
 use Rattle.text_model.specs.Cuts.{cut_of}
+use Rattle.text_model.proofs.TestLemmas.{bytes_eq-self}
 use Rattle.git_model.specs.Tree.{is_directory, TreeEntry, tree_text}
 use Rattle.git_model.specs.Object.{Object, object_of}
 use Rattle.git_model.specs.Unfold.{FileRow}
@@ -24,7 +25,6 @@ use Rattle.tree_shape.proofs.VisitLemmas.{dir-mode}
 use Rattle.tree_shape.proofs.Sorted.{shape-is}
 use Rattle.tree_shape.proofs.Rebuilding.{HasName, below-put}
 use Rattle.tree_rebuild.specs.News.{same_leaves, ends_in, lies_in, is_leaf_in, leaves_in_directory, new_of, new_in, has_group, new_group, empty_leaf, has_empty, new_row}
-use Rattle.tree_rebuild.proofs.SameLeaves.{bytes-same}
 use Rattle.tree_rebuild.proofs.SameSteps.{named-leaves}
 use Rattle.tree_rebuild.proofs.OldLeaves.{in-same}
 
@@ -126,7 +126,7 @@ module _ (depth : ℕ) (old : List Leaf) where
       one d = (λ k. record { names = (flat a.path c).parts k; mode = dir-mode a.mode d k; id = empty d k; content = [] })
 
       inside : leaves_in_directory (a.path ∷ []) (empty_leaf a.path ∷ []) ≡ empty_leaf a.path ∷ []
-      inside = ap (λ (t : Bool). if t && true then empty_leaf a.path ∷ [] else []) (bytes-same a.path)
+      inside = ap (λ (t : Bool). if t && true then empty_leaf a.path ∷ [] else []) (bytes_eq-self a.path)
 
       by : (t : Bool) → is_directory a.mode ≡ t → (if t && not (same_leaves (leaves_in_directory (a.path ∷ []) old) (leaves_in_directory (a.path ∷ []) (leaf_of a ∷ []))) then new_in depth (leaves_below a.path old) (leaves_below a.path (leaf_of a ∷ [])) else [])
           ≡ (if t && not (has_empty a.path old) then trees_of_rows depth [] else [])

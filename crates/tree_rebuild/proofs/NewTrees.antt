@@ -3,22 +3,23 @@ use Rattle.std.proofs.Common.{◌≡◌, ◌≢◌, ℕ, zero, suc, Bool, true, 
 use Rattle.std.specs.Prelude.{filter, if◌then◌else◌, bytes_eq}
 use Rattle.std.specs.List.{flat_map, filter_map}
 use Rattle.std.proofs.lemmas.Slice.Eq.{bytes_eq-Decides}
+use Rattle.std.proofs.lemmas.Bool.{and_from, or_left, or_right, or_cases}
 use Rattle.text_model.specs.Lists.{In, Each}
 use Rattle.text_model.specs.Text.{Bytes, is_below}
 use Rattle.text_model.specs.Id.{Id, tree}
 use Rattle.text_model.specs.Path.{components, lies_below}
-use Rattle.text_model.proofs.TestLemmas.{both}
+use Rattle.text_model.proofs.TestLemmas.{both, bytes_eq-self}
 use Rattle.git_model.specs.Tree.{Mode, mode_text, is_directory, TreeEntry, tree_text, is_entry_below}
 use Rattle.git_model.specs.Object.{Object, object_of, AreObjects}
 use Rattle.git_model.specs.Unfold.{FileRow, joined_path, met_rows, tree_rows, by_walk, is_path_below}
 use Rattle.git_model.specs.Shape.{Leaf, leaf_of, leaves_below, first_names, first_name_of, shape_entries, PlacedTree, placed_trees, is_in_directory, same_row, same_rows, is_kept, new_trees, first_clash}
-use Rattle.text_model.proofs.Elements.{each_in as each-of, each_from as each-by}
+use Rattle.text_model.proofs.Elements.{each_in as each-of, each_from as each-by, each_in, each_from}
 use Rattle.git_model.proofs.SortLemmas.{Ascends, ascends-one, order-ascends, rises-ascends, in-order, of-order}
 use Rattle.tree_shape.specs.Orders.{met_path, Same}
 use Rattle.tree_shape.specs.Sets.{IsFileRow, IsFiles}
 use Rattle.tree_shape.specs.Wholes.{leaves_in}
 use Rattle.tree_shape.specs.Shapes.{entry_of}
-use Rattle.tree_shape.proofs.Elements.{in-filter, of-filter, each-in, each-from}
+use Rattle.tree_shape.proofs.Elements.{in-filter, of-filter}
 use Rattle.tree_shape.proofs.Names.{IsName, components-append, components-some, same-components}
 use Rattle.tree_shape.proofs.FileSets.{lies-true, bool-same, fit-file}
 use Rattle.tree_shape.proofs.Leaves.{of-names, entry_of-name, of-first_of_each}
@@ -29,18 +30,18 @@ use Rattle.tree_shape.proofs.Unfolding.{met-ascends, met-distinct}
 use Rattle.tree_shape.proofs.Rebuilding.{front, joined-front, walk-leaves}
 use Rattle.tree_rebuild.specs.News.{same_leaves, lies_in, is_leaf_in, leaves_in_directory, new_in}
 use Rattle.tree_shape.proofs.Rows.{clash}
-use Rattle.tree_rebuild.proofs.SameLeaves.{bytes-same, mode-one, and_true, leaves-one, leaves-self}
+use Rattle.tree_rebuild.proofs.SameLeaves.{mode-one, leaves-one, leaves-self}
 use Rattle.tree_rebuild.proofs.OnlyNew.{Tells, TellsBelow, placed-new}
 
 -- ---- a row lies in a directory where its names do
 
 lies-more : (n : Bytes) (lead : List Bytes) (mode : Mode) (m : Bytes) (rest : List Bytes) → lies_in (n ∷ lead) mode ((n ∷ lead) ++ m ∷ rest) ≡ true
-lies-more n [] mode m rest = ap (λ (t : Bool). t && true) (bytes-same n)
-lies-more n (k ∷ lead) mode m rest = ap (λ (t : Bool). t && lies_in (k ∷ lead) mode ((k ∷ lead) ++ m ∷ rest)) (bytes-same n) ∙ lies-more k lead mode m rest
+lies-more n [] mode m rest = ap (λ (t : Bool). t && true) (bytes_eq-self n)
+lies-more n (k ∷ lead) mode m rest = ap (λ (t : Bool). t && lies_in (k ∷ lead) mode ((k ∷ lead) ++ m ∷ rest)) (bytes_eq-self n) ∙ lies-more k lead mode m rest
 
 lies-self : (n : Bytes) (lead : List Bytes) (mode : Mode) → is_directory mode ≡ true → lies_in (n ∷ lead) mode (n ∷ lead) ≡ true
-lies-self n [] mode d = and_true (bytes_eq n n) (is_directory mode) (bytes-same n) d
-lies-self n (k ∷ lead) mode d = and_true (bytes_eq n n) (lies_in (k ∷ lead) mode (k ∷ lead)) (bytes-same n) (lies-self k lead mode d)
+lies-self n [] mode d = and_from (bytes_eq n n) (is_directory mode) (bytes_eq-self n) d
+lies-self n (k ∷ lead) mode d = and_from (bytes_eq n n) (lies_in (k ∷ lead) mode (k ∷ lead)) (bytes_eq-self n) (lies-self k lead mode d)
 
 -- names that lie in a directory
 abbrev Parts : List Bytes → Mode → List Bytes → Type 0
@@ -57,25 +58,13 @@ lies-parts n [] mode (x ∷ y ∷ names) h = let p = both (bytes_eq x n) true h 
 lies-parts n (k ∷ lead) mode [] h = absurd (clash (sym h))
 lies-parts n (k ∷ lead) mode (x ∷ names) h = let p = both (bytes_eq x n) (lies_in (k ∷ lead) mode names) h in parts-more x n (k ∷ lead) mode names ((bytes_eq-Decides x n).0 p.0) (lies-parts k lead mode names p.1)
 
-or-parts : (a b : Bool) → (a || b) ≡ true → (a ≡ true) ⊎ (b ≡ true)
-or-parts true b h = inl refl
-or-parts false b h = inr h
-
-or-left : (a b : Bool) → a ≡ true → (a || b) ≡ true
-or-left true b h = refl
-or-left false b h = absurd (clash (sym h))
-
-or-right : (a b : Bool) → b ≡ true → (a || b) ≡ true
-or-right true b h = refl
-or-right false b h = h
-
 -- the path of a directory that isn't the root
 in-path : (path : Bytes) (n : Bytes) (lead : List Bytes) → components path ≡ n ∷ lead → (row : FileRow)
     → (lies_below row.path path || bytes_eq row.path path && is_directory row.mode) ≡ lies_in (n ∷ lead) row.mode (components row.path)
 in-path path n lead parts row = bool-same (lies_below row.path path || bytes_eq row.path path && is_directory row.mode) (lies_in (n ∷ lead) row.mode (components row.path)) to from
   where
     to : (lies_below row.path path || bytes_eq row.path path && is_directory row.mode) ≡ true → lies_in (n ∷ lead) row.mode (components row.path) ≡ true
-    to h = elim (or-parts (lies_below row.path path) (bytes_eq row.path path && is_directory row.mode) h) [
+    to h = elim (or_cases (lies_below row.path path) (bytes_eq row.path path && is_directory row.mode) h) [
       | inl l ↦
           let t = lies-true row.path path l in
           let c = some (components t.0) (components-some t.0) in
@@ -91,10 +80,10 @@ in-path path n lead parts row = bool-same (lies_below row.path path || bytes_eq 
 
     from : lies_in (n ∷ lead) row.mode (components row.path) ≡ true → (lies_below row.path path || bytes_eq row.path path && is_directory row.mode) ≡ true
     from h = elim (lies-parts n lead row.mode (components row.path) h) [
-      | inl p ↦ or-left (lies_below row.path path) (bytes_eq row.path path && is_directory row.mode) (longer-lies path row.path p.0 p.1 (p.2 ∙ ap (λ (l : List Bytes). l ++ p.0 ∷ p.1) (sym parts)))
+      | inl p ↦ or_left (lies_below row.path path) (bytes_eq row.path path && is_directory row.mode) (longer-lies path row.path p.0 p.1 (p.2 ∙ ap (λ (l : List Bytes). l ++ p.0 ∷ p.1) (sym parts)))
       | inr p ↦
-          or-right (lies_below row.path path) (bytes_eq row.path path && is_directory row.mode)
-          (and_true (bytes_eq row.path path) (is_directory row.mode) ((bytes_eq-Decides row.path path).1 (same-components row.path path (p.0 ∙ sym parts))) p.1)
+          or_right (lies_below row.path path) (bytes_eq row.path path && is_directory row.mode)
+          (and_from (bytes_eq row.path path) (is_directory row.mode) ((bytes_eq-Decides row.path path).1 (same-components row.path path (p.0 ∙ sym parts))) p.1)
     ]
 
 in-directory : (path : Bytes) (row : FileRow) → is_in_directory path row ≡ is_leaf_in (front path) (leaf_of row)
@@ -130,8 +119,8 @@ row-one a b h =
 
 row-self : (a : FileRow) → same_row a a ≡ true
 row-self a =
-    and_true (bytes_eq a.path a.path && bytes_eq (mode_text a.mode) (mode_text a.mode)) (bytes_eq a.id a.id)
-    (and_true (bytes_eq a.path a.path) (bytes_eq (mode_text a.mode) (mode_text a.mode)) (bytes-same a.path) (bytes-same (mode_text a.mode))) (bytes-same a.id)
+    and_from (bytes_eq a.path a.path && bytes_eq (mode_text a.mode) (mode_text a.mode)) (bytes_eq a.id a.id)
+    (and_from (bytes_eq a.path a.path) (bytes_eq (mode_text a.mode) (mode_text a.mode)) (bytes_eq-self a.path) (bytes_eq-self (mode_text a.mode))) (bytes_eq-self a.id)
 
 rows-one : (xs ys : List FileRow) → same_rows xs ys ≡ true → xs ≡ ys
 rows-one [] [] h = refl
@@ -141,7 +130,7 @@ rows-one (x ∷ xs) (y ∷ ys) h = let p = both (same_row x y) (same_rows xs ys)
 
 rows-self : (xs : List FileRow) → same_rows xs xs ≡ true
 rows-self [] = refl
-rows-self (x ∷ xs) = and_true (same_row x x) (same_rows xs xs) (row-self x) (rows-self xs)
+rows-self (x ∷ xs) = and_from (same_row x x) (same_rows xs xs) (row-self x) (rows-self xs)
 
 same-rows : (xs ys : List FileRow) → xs ≡ ys → same_rows xs ys ≡ true
 same-rows xs ys e = subst (λ (l : List FileRow). same_rows xs l ≡ true) e (rows-self xs)
@@ -260,9 +249,9 @@ tells-below kept old new tells (suc depth) path lead leaves f h = λ e i.
 row-named : (rows : List FileRow) → IsFiles rows → (xs : List FileRow) → ((x : FileRow) → In x xs → In x rows) → AreNamed (map leaf_of xs)
 row-named rows f [] among a i = absurd i
 row-named rows f (x ∷ xs) among a (inl q) =
-    let is = each-in IsFileRow rows x f.each (among x (inl refl)) in
-    subst (λ (l : Leaf). Each IsName l.names) (sym q) (each-from IsName (components x.path) (λ n i.
-    let p = each-in _ (components x.path) n (fit-file x is.fit is.empty).names i in
+    let is = each_in IsFileRow rows x f.each (among x (inl refl)) in
+    subst (λ (l : Leaf). Each IsName l.names) (sym q) (each_from IsName (components x.path) (λ n i.
+    let p = each_in _ (components x.path) n (fit-file x is.fit is.empty).names i in
     record { some = p.0; plain = p.1 }))
 row-named rows f (x ∷ xs) among a (inr j) = row-named rows f xs (λ y i. among y (inr i)) a j
 

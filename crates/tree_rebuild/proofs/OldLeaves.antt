@@ -4,9 +4,12 @@ use Rattle.std.proofs.Common.{◌≡◌, ◌≢◌, ◌<◌, ◌+◌, ◌-◌, �
 use Rattle.std.specs.Prelude.{if◌then◌else◌, bytes_eq}
 use Rattle.std.specs.List.{flat_map, cons_option}
 use Rattle.std.proofs.lemmas.Slice.Eq.{bytes_eq-Decides}
+use Rattle.std.proofs.lemmas.Bool.{and_from}
 use Rattle.text_model.specs.Lists.{In, Each}
 use Rattle.text_model.specs.Text.{Bytes}
 use Rattle.text_model.specs.Id.{tree, object_id}
+use Rattle.text_model.proofs.Elements.{each_in}
+use Rattle.text_model.proofs.TestLemmas.{bytes_eq-self}
 use Rattle.git_model.specs.Tree.{is_directory, TreeEntry, has_distinct}
 use Rattle.git_model.specs.Object.{Object, tree_at, AreObjects}
 use Rattle.git_model.specs.Unfold.{FileRow, has_no_entries}
@@ -19,13 +22,12 @@ use Rattle.tree_shape.proofs.Held.{held}
 use Rattle.tree_shape.proofs.Unfolding.{text-none}
 use Rattle.tree_shape.proofs.Rebuilding.{HasName, leaf-or-dir, leaves-named, below-put, distinct-later, sound-at}
 use Rattle.tree_shape.specs.Shapes.{short, shorts}
-use Rattle.tree_shape.proofs.Elements.{each-in}
 use Rattle.tree_shape.proofs.Rows.{components-some}
 use Rattle.tree_rebuild.proofs.Kept.{sound-leaves, below-sound}
 use Rattle.tree_rebuild.specs.News.{same_leaves, ends_in, leaves_in_directory, has_group, empty_leaf, has_empty}
 use Rattle.tree_rebuild.specs.Directories.{LacksDirectory}
 use Rattle.tree_shape.proofs.Rows.{clash}
-use Rattle.tree_rebuild.proofs.SameLeaves.{bytes-same, and_true, leaf-other, leaves-put, leaves-self}
+use Rattle.tree_rebuild.proofs.SameLeaves.{leaf-other, leaves-put, leaves-self}
 
 if-false : {X : Type 0} (t : Bool) (x y : List X) → t ≡ false → (if t then x else y) ≡ y
 if-false t x y h = ap (λ (b : Bool). if b then x else y) h
@@ -57,7 +59,7 @@ pub in-same : (n : Bytes) (leaves rest : List Leaf) → Each HasName leaves → 
 in-same n [] rest h = refl
 in-same n (leaf ∷ leaves) rest h =
     ap (λ (t : Bool). if t then put_name n leaf ∷ leaves_in_directory (n ∷ []) (map (put_name n) leaves ++ rest) else leaves_in_directory (n ∷ []) (map (put_name n) leaves ++ rest))
-    (and_true (bytes_eq n n) (ends_in leaf.mode leaf.names) (bytes-same n) (ap (ends_in leaf.mode) h.0.2))
+    (and_from (bytes_eq n n) (ends_in leaf.mode leaf.names) (bytes_eq-self n) (ap (ends_in leaf.mode) h.0.2))
     ∙ (λ k. put_name n leaf ∷ in-same n leaves rest h.1 k)
 
 below-append : (n : Bytes) (front back : List Leaf) → leaves_below n (front ++ back) ≡ leaves_below n front ++ leaves_below n back
@@ -105,7 +107,7 @@ module _ (known : List Object) (n : ℕ) where
     where
       by : (t : Bool) → leaves_in_directory (e.name ∷ []) ((if t then leaf_at e ∷ [] else map (put_name e.name) (leaves_in known n e.id)) ++ rest)
           ≡ (if t then leaf_at e ∷ [] else map (put_name e.name) (leaves_in known n e.id)) ++ leaves_in_directory (e.name ∷ []) rest
-      by true = ap (λ (t : Bool). if t then leaf_at e ∷ leaves_in_directory (e.name ∷ []) rest else leaves_in_directory (e.name ∷ []) rest) (and_true (bytes_eq e.name e.name) (is_directory e.mode) (bytes-same e.name) d)
+      by true = ap (λ (t : Bool). if t then leaf_at e ∷ leaves_in_directory (e.name ∷ []) rest else leaves_in_directory (e.name ∷ []) rest) (and_from (bytes_eq e.name e.name) (is_directory e.mode) (bytes_eq-self e.name) d)
       by false = in-same e.name (leaves_in known n e.id) rest (leaves-named known n e.id)
 
   own-below : (e : TreeEntry) → is_directory e.mode ≡ true → leaves_below e.name (of e) ≡ leaves_in known n e.id
@@ -222,7 +224,7 @@ module _ (known : List Object) (old : List TreeEntry) (e : TreeEntry) (name : By
   sound-known levels subtree whole there = below-sound known levels old e subtree whole at.one at.directory there
 
   pub not-unknown : (levels : ℕ) → AreWhole known levels old → None ≡ tree_at known e.id → ⊥
-  not-unknown levels whole h = let s = each-in (Below (Sound known (levels - 1))) old e whole at.one at.directory in no-some s.0 (h ∙ sound-at known (levels - 1) e.id s.0 s.1)
+  not-unknown levels whole h = let s = each_in (Below (Sound known (levels - 1))) old e whole at.one at.directory in no-some s.0 (h ∙ sound-at known (levels - 1) e.id s.0 s.1)
     where
       no-some : (es : List TreeEntry) → None ≡ Some es → ⊥
       no-some es q = cc

@@ -3,21 +3,14 @@ use Rattle.tree_shape.proofs.Rows.{clash}
 use Rattle.std.proofs.Common.{◌≡◌, Bool, true, false, ◌&&◌, List, [], ◌∷◌, ◌++◌, map, Some, refl, sym, ap, ◌∙◌}
 use Rattle.std.specs.Prelude.{bytes_eq}
 use Rattle.std.proofs.lemmas.Slice.Eq.{bytes_eq-Decides}
+use Rattle.std.proofs.lemmas.Bool.{and_from}
 use Rattle.text_model.specs.Lists.{Each}
 use Rattle.text_model.specs.Text.{Bytes}
-use Rattle.text_model.proofs.TestLemmas.{both}
+use Rattle.text_model.proofs.TestLemmas.{both, bytes_eq-self}
 use Rattle.git_model.specs.Tree.{Mode, File, GroupFile, Exec, Link, Directory, Gitlink, mode_text, mode_of}
 use Rattle.git_model.specs.Shape.{Leaf}
 use Rattle.tree_shape.specs.Wholes.{put_name}
 use Rattle.tree_rebuild.specs.News.{same_names, same_leaf, same_leaves}
-
-pub and_true : (a b : Bool) → a ≡ true → b ≡ true → (a && b) ≡ true
-and_true true true p q = refl
-and_true true false p q = q
-and_true false b p q = p
-
-pub bytes-same : (a : Bytes) → bytes_eq a a ≡ true
-bytes-same a = (bytes_eq-Decides a a).1 refl
 
 pub names-one : (a b : List Bytes) → same_names a b ≡ true → a ≡ b
 names-one [] [] h = refl
@@ -27,7 +20,7 @@ names-one (x ∷ a) (y ∷ b) h = let p = both (bytes_eq x y) (same_names a b) h
 
 pub names-same : (a : List Bytes) → same_names a a ≡ true
 names-same [] = refl
-names-same (x ∷ a) = and_true (bytes_eq x x) (same_names a a) (bytes-same x) (names-same a)
+names-same (x ∷ a) = and_from (bytes_eq x x) (same_names a a) (bytes_eq-self x) (names-same a)
 
 mode-back : (m : Mode) → mode_of (mode_text m) ≡ Some m
 mode-back File = refl
@@ -57,9 +50,9 @@ leaf-one a b h =
 
 pub leaf-self : (a : Leaf) → same_leaf a a ≡ true
 leaf-self a =
-    and_true (same_names a.names a.names) _ (names-same a.names)
-    (and_true (bytes_eq (mode_text a.mode) (mode_text a.mode)) _ (bytes-same (mode_text a.mode))
-    (and_true (bytes_eq a.id a.id) (bytes_eq a.content a.content) (bytes-same a.id) (bytes-same a.content)))
+    and_from (same_names a.names a.names) _ (names-same a.names)
+    (and_from (bytes_eq (mode_text a.mode) (mode_text a.mode)) _ (bytes_eq-self (mode_text a.mode))
+    (and_from (bytes_eq a.id a.id) (bytes_eq a.content a.content) (bytes_eq-self a.id) (bytes_eq-self a.content)))
 
 pub leaf-other : (a b : Leaf) → (a ≡ b → ⊥) → same_leaf a b ≡ false
 leaf-other a b h = by (same_leaf a b) refl
@@ -76,11 +69,11 @@ leaves-one (a ∷ as') (b ∷ bs) h = let p = both (same_leaf a b) (same_leaves 
 
 pub leaves-self : (as' : List Leaf) → same_leaves as' as' ≡ true
 leaves-self [] = refl
-leaves-self (a ∷ as') = and_true (same_leaf a a) (same_leaves as' as') (leaf-self a) (leaves-self as')
+leaves-self (a ∷ as') = and_from (same_leaf a a) (same_leaves as' as') (leaf-self a) (leaves-self as')
 
 -- a name in front of all leaves makes no difference
 leaf-put : (name : Bytes) (a b : Leaf) → same_leaf (put_name name a) (put_name name b) ≡ same_leaf a b
-leaf-put name a b = ap (λ (t : Bool). (t && same_names a.names b.names) && (bytes_eq (mode_text a.mode) (mode_text b.mode) && (bytes_eq a.id b.id && bytes_eq a.content b.content))) (bytes-same name)
+leaf-put name a b = ap (λ (t : Bool). (t && same_names a.names b.names) && (bytes_eq (mode_text a.mode) (mode_text b.mode) && (bytes_eq a.id b.id && bytes_eq a.content b.content))) (bytes_eq-self name)
 
 pub leaves-put : (name : Bytes) (as' bs : List Leaf) → same_leaves (map (put_name name) as') (map (put_name name) bs) ≡ same_leaves as' bs
 leaves-put name [] [] = refl

@@ -9,6 +9,7 @@ use Rattle.text_model.specs.Lists.{Each}
 use Rattle.text_model.specs.Text.{Bytes}
 use Rattle.text_model.specs.Path.{components}
 use Rattle.text_model.specs.Cuts.{cut_of, Lacks}
+use Rattle.text_model.proofs.TestLemmas.{bytes_eq-self}
 use Rattle.git_model.specs.Tree.{TreeEntry, has_distinct}
 use Rattle.git_model.specs.Object.{Object}
 use Rattle.git_model.specs.Unfold.{FileRow}
@@ -22,7 +23,7 @@ use Rattle.tree_shape.proofs.Turns.{prefix-all, prefix-stops, shorts-more}
 use Rattle.tree_shape.proofs.Rebuilding.{HasName, named, leaves-named, of-names, distinct-later}
 use Rattle.tree_rebuild.specs.News.{same_leaves, same_leaf}
 use Rattle.tree_shape.proofs.Rows.{clash}
-use Rattle.tree_rebuild.proofs.SameLeaves.{bytes-same, leaf-other, leaf-self, leaves-put, Stops, parts-same}
+use Rattle.tree_rebuild.proofs.SameLeaves.{leaf-other, leaf-self, leaves-put, Stops, parts-same}
 use Rattle.tree_rebuild.proofs.Kept.{sound-leaves}
 
 -- the name comes first, and more names behind it
@@ -64,7 +65,7 @@ in-deeper : (name : Bytes) (row : FileRow) → is_in name row ≡ true → deepe
 in-deeper name row h =
     let u = is-in name row h in
     let c = components-some u.0 in
-    ap (deeper name) (u.1.parts ∙ ap (λ (ns : List Bytes). name ∷ ns) c.2) ∙ bytes-same name
+    ap (deeper name) (u.1.parts ∙ ap (λ (ns : List Bytes). name ∷ ns) c.2) ∙ bytes_eq-self name
 
 in-all : (name : Bytes) (rows : List FileRow) → Each (λ t. is_in name t ≡ true) rows → Each (λ l. is_deeper name l ≡ true) (map leaf_of rows)
 in-all name [] h = tt
@@ -72,7 +73,7 @@ in-all name (row ∷ rows) h = (in-deeper name row h.0, in-all name rows h.1)
 
 put-all : (name : Bytes) (leaves : List Leaf) → Each HasName leaves → Each (λ l. is_deeper name l ≡ true) (map (put_name name) leaves)
 put-all name [] h = tt
-put-all name (leaf ∷ leaves) h = (ap (λ (ns : List Bytes). deeper name (name ∷ ns)) h.0.2 ∙ bytes-same name, put-all name leaves h.1)
+put-all name (leaf ∷ leaves) h = (ap (λ (ns : List Bytes). deeper name (name ∷ ns)) h.0.2 ∙ bytes_eq-self name, put-all name leaves h.1)
 
 stops-rows : (name : Bytes) (rows : List FileRow) → ((q : FileRow) (more : List FileRow) → rows ≡ q ∷ more → is_in name q ≡ false) → Stops (is_deeper name) (map leaf_of rows)
 stops-rows name [] h = tt

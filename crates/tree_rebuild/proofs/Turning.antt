@@ -9,13 +9,13 @@ use Rattle.text_model.specs.Lists.{Each}
 use Rattle.text_model.specs.Text.{Bytes}
 use Rattle.text_model.specs.Id.{Id}
 use Rattle.text_model.specs.Cuts.{cut_of}
+use Rattle.text_model.proofs.Elements.{each_from}
 use Rattle.git_model.specs.Tree.{is_directory, TreeEntry, has_distinct, IsTree, tree_text}
 use Rattle.git_model.specs.Object.{Object, AreObjects}
 use Rattle.git_model.specs.Unfold.{FileRow}
 use Rattle.git_model.specs.Shape.{Leaf, leaf_of, leaves_below}
 use Rattle.tree_shape.specs.Shapes.{shorts, entries_in, id_of_rows, trees_of_rows}
 use Rattle.tree_shape.specs.Wholes.{Below, Sound, tree_leaves, AreWhole}
-use Rattle.tree_shape.proofs.Elements.{each-from}
 use Rattle.tree_shape.proofs.Names.{IsName}
 use Rattle.tree_shape.proofs.Rows.{clash}
 use Rattle.tree_shape.proofs.Unfolding.{name-of, text-none}
@@ -42,7 +42,7 @@ pub left-of : (known : List Object) (levels : ℕ) (es old : List TreeEntry) (pl
 left-of known levels es old place same is_tree whole = subst (λ (l : List TreeEntry). Left known (levels - 1) (drop place l)) (sym same) (record {
   whole = each-left (Below (Sound known (levels - 1))) old place whole;
   distinct = distinct-left old place is_tree.2;
-  names = each-left (λ e. IsName e.name) old place (each-from (λ e. IsName e.name) old (λ e i. name-of old e is_tree i));
+  names = each-left (λ e. IsName e.name) old place (each_from (λ e. IsName e.name) old (λ e i. name-of old e is_tree i));
 })
 
 -- ---- an outcome

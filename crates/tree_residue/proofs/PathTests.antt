@@ -6,10 +6,11 @@ use Rattle.std.proofs.lemmas.Slice.Eq.{bytes_eq-Decides}
 use Rattle.text_model.specs.Text.{Bytes}
 use Rattle.text_model.specs.Path.{lies_below}
 use Rattle.text_model.proofs.TestLemmas.{both}
+use Rattle.text_model.proofs.Elements.{drop_front}
 use Rattle.tree_shape.specs.Clashes.{begins_with_slash}
 use Rattle.tree_shape.proofs.Rows.{in-lies}
 use Rattle.tree_shape.proofs.FileSets.{lies-true, bool-same}
-use Rattle.tree_shape.proofs.ClashLemmas.{slash-first, take-front, drop-front}
+use Rattle.tree_shape.proofs.ClashLemmas.{slash-first, take-front}
 
 pub lies-by : (path d : Bytes) → (bytes_eq (take (length d) path) d && begins_with_slash (drop (length d) path)) ≡ lies_below path d
 lies-by path d = bool-same (bytes_eq (take (length d) path) d && begins_with_slash (drop (length d) path)) (lies_below path d)
@@ -22,7 +23,7 @@ lies-by path d = bool-same (bytes_eq (take (length d) path) d && begins_with_sla
     (λ e.
     let t = lies-true path d e in
     let front : take (length d) path ≡ d = ap (take (length d)) t.1 ∙ take-front d (47 ∷ t.0) in
-    let rest : drop (length d) path ≡ 47 ∷ t.0 = ap (drop (length d)) t.1 ∙ drop-front d (47 ∷ t.0) in
+    let rest : drop (length d) path ≡ 47 ∷ t.0 = ap (drop (length d)) t.1 ∙ drop_front d (47 ∷ t.0) in
     (λ k. bytes_eq (front k) d && begins_with_slash (rest k)) ∙ (λ k. (bytes_eq-Decides d d).1 refl k && true))
 
 -- a path that is no longer than a directory's lies not below it

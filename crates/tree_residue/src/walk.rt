@@ -11,10 +11,10 @@ ghost use Rattle.tree_shape.specs.Walks.{row_at, entries_visits};
 ghost use Rattle.tree_residue.specs.Items.{has_item, item_rows};
 
 use crate::items::residue_in;
-use bridge_text::{Bytes, Id, NoMemory};
+use bridge_text::{Bytes, COMPONENT_LIMIT, Id, NoMemory};
 use git_object::{Mode, Objects, Residue, Tree, TreeEntry};
 use std::alloc::Global;
-use tree_shape::{FileRow, MOST_NAMES, by_paths, is_leaf, push_name};
+use tree_shape::{FileRow, by_paths, is_leaf, push_name};
 
 /// Whether no changeset can hold a row of this mode.
 fn has_item(mode: Mode) -> bool
@@ -93,7 +93,7 @@ fn rows_at<G: Objects>(alloc: Global, store: &G, root: &Id) -> Result<Vec<FileRo
     let mut rows = Vec::new(alloc);
     if let Some(tree) = store.tree(root) {
         let mut path = Vec::new(alloc);
-        visit_tree(alloc, store, tree, MOST_NAMES, &mut path, &mut rows)?;
+        visit_tree(alloc, store, tree, COMPONENT_LIMIT, &mut path, &mut rows)?;
     }
     Ok(rows)
 }

@@ -5,6 +5,7 @@ use Rattle.text_model.specs.Lists.{In, Each}
 use Rattle.text_model.specs.Text.{Bytes}
 use Rattle.text_model.specs.Id.{Id, tree, object_id}
 use Rattle.text_model.specs.Path.{is_fit_path, is_fit_name}
+use Rattle.text_model.proofs.Elements.{each_in, each_from}
 use Rattle.git_model.specs.Tree.{is_directory, TreeEntry, tree_text}
 use Rattle.git_model.specs.Object.{Object, tree_at, AreObjects}
 use Rattle.git_model.specs.Unfold.{FileRow, WalkFault, joined_path, visits, visit_fault, first_visit_fault, is_object_there, is_row, walk, walk_fault, met_rows, tree_rows, is_path_below}
@@ -13,7 +14,7 @@ use Rattle.git_model.proofs.ObjectLemmas.{tree_at-tree}
 use Rattle.tree_shape.specs.Laws.{IsKnown, AreKnown}
 use Rattle.tree_shape.specs.Shapes.{is_tree}
 use Rattle.tree_shape.specs.Walks.{row_at, entry_visits, IsFront}
-use Rattle.tree_shape.proofs.Elements.{each-in, each-from, in-flat}
+use Rattle.tree_shape.proofs.Elements.{in-flat}
 use Rattle.tree_shape.proofs.FitLemmas.{fit-joined, front-deeper}
 use Rattle.tree_shape.proofs.WalkLemmas.{next, step-none, fault-cons, no-root, walk-fault}
 use Rattle.tree_shape.proofs.VisitLemmas.{fault_by, is_over, dir-tree}
@@ -56,7 +57,7 @@ all-fine known size (w ∷ vs) v h i =
 
 module _ (known : List Object) (are : AreObjects known) where
   name-fit : (id : Id) (entries : List TreeEntry) (e : TreeEntry) → tree_at known id ≡ Some entries → In e entries → is_fit_name e.name ≡ true
-  name-fit id entries e h i = (each-in _ entries e (tree_at-tree known id entries are h).0 i).0
+  name-fit id entries e h i = (each_in _ entries e (tree_at-tree known id entries are h).0 i).0
 
   visited : (levels : ℕ) (path : Bytes) (id : Id) (entries : List TreeEntry) (e : TreeEntry) (v : FileRow) → tree_at known id ≡ Some entries → In e entries → In v (entry_visits known levels path e) → In v (visits known (suc levels) path id)
   visited levels path id entries e v h i j = subst (λ (vs : List FileRow). In v vs) (sym (visits-suc known levels path id entries h)) (in-flat (entry_visits known levels path) entries e v i j)
@@ -64,13 +65,13 @@ module _ (known : List Object) (are : AreObjects known) where
   pub sound : (levels : ℕ) (path : Bytes) (id : Id) (entries : List TreeEntry) → IsFront levels path → tree_at known id ≡ Some entries → ((v : FileRow) → In v (visits known (suc levels) path id) → Fine known v) → Sound known (suc levels) id entries
   sound zero path id entries front h all = (
     h,
-    each-from _ entries (λ e i d.
+    each_from _ entries (λ e i d.
         let f = all (row_at (joined_path path e.name) e) (visited zero path id entries e (row_at (joined_path path e.name) e) h i (inl refl)) in
         absurd (clash (sym f.fit ∙ fit-joined zero path e.name front (name-fit id entries e h i)))),
   )
   sound (suc levels) path id entries front h all = (
     h,
-    each-from _ entries (λ e i d.
+    each_from _ entries (λ e i d.
         let v : FileRow = row_at (joined_path path e.name) e in
         let f = all v (visited (suc levels) path id entries e v h i (inl refl)) in
         let s = f.subtree d in

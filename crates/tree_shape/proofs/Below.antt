@@ -4,16 +4,13 @@ use Rattle.std.specs.Ordering.{nat_cmp, is_lt, ordering_then}
 use Rattle.std.specs.declared.cmp.Ordering.{Ordering}
 use Rattle.std.specs.declared.cmp.Ordering.TheVariants.{Less, Equal, Greater}
 use Rattle.std.specs.Cmp.Lexicographic.{slice_cmp}
-use Rattle.std.proofs.lemmas.Cmp.{nat_cmp_total, tied_itself, ranked}
+use Rattle.std.proofs.lemmas.Cmp.{ranked}
 use Rattle.text_model.specs.Lists.{In, Each, rises}
 use Rattle.text_model.specs.Text.{Bytes, is_below, has_byte}
-use Rattle.tree_shape.proofs.Elements.{each-from, each-in, in-append}
+use Rattle.tree_shape.proofs.Elements.{in-append}
 use Rattle.text_model.proofs.TestLemmas.{or_true}
-
-pub below-front : (base xs ys : Bytes) → is_below (base ++ xs) (base ++ ys) ≡ is_below xs ys
-below-front [] xs ys = refl
-below-front (b ∷ base) xs ys =
-    ap (λ (o : Ordering). is_lt (ordering_then o (slice_cmp nat_cmp (base ++ xs) (base ++ ys)))) (tied_itself nat_cmp_total b) ∙ below-front base xs ys
+use Rattle.text_model.proofs.Options.{or_parts}
+use Rattle.text_model.proofs.Elements.{each_in, each_from}
 
 -- what is below another, which does not go on from it, stays so with more behind both
 pub below-apart : (xs ys s t : Bytes) → is_below xs ys ≡ true → ((r : Bytes) → ys ≡ xs ++ r → ⊥) → is_below (xs ++ s) (ys ++ t) ≡ true
@@ -45,10 +42,6 @@ below-more (x ∷ xs) (y ∷ ys) t h = go (below-more xs ys t) (nat_cmp x y) ref
 
 -- ---- names and slashes
 
-pub either-false : (a b : Bool) → (a || b) ≡ false → (a ≡ false) × (b ≡ false)
-either-false true b h = absurd cc
-either-false false b h = (refl, h)
-
 pub has-slash : (xs r : Bytes) → has_byte 47 ((xs ++ 47 ∷ []) ++ r) ≡ true
 has-slash [] r = refl
 has-slash (x ∷ xs) r = ap (λ (b : Bool). (x == 47) || b) (has-slash xs r) ∙ or_true (x == 47)
@@ -70,7 +63,7 @@ same-dir (x ∷ m) [] r a b e =
 same-dir (x ∷ m) (y ∷ n) r a b e =
     let head : x ≡ y = cc in
     let tail : n ++ 47 ∷ [] ≡ (m ++ 47 ∷ []) ++ r = cc in
-    let rec : m ≡ n = same-dir m n r (either-false (x == 47) (has_byte 47 m) a).1 (either-false (y == 47) (has_byte 47 n) b).1 tail in
+    let rec : m ≡ n = same-dir m n r (or_parts (x == 47) (has_byte 47 m) a).1 (or_parts (y == 47) (has_byte 47 n) b).1 tail in
     (λ k. head k ∷ rec k)
 
 -- ---- lists that rise
@@ -88,8 +81,8 @@ rises-Rising (x ∷ y ∷ xs) h = ap (λ (b : Bool). b && rises is_below (y ∷ 
 pub Rising-append : (xs ys : List Bytes) → Rising xs → Rising ys → ((x y : Bytes) → In x xs → In y ys → is_below x y ≡ true) → Rising (xs ++ ys)
 Rising-append [] ys a b h = b
 Rising-append (x ∷ xs) ys a b h = (
-  each-from (λ y. is_below x y ≡ true) (xs ++ ys) (λ y i. elim (in-append y xs ys i) [
-    | inl l ↦ each-in (λ z. is_below x z ≡ true) xs y a.0 l
+  each_from (λ y. is_below x y ≡ true) (xs ++ ys) (λ y i. elim (in-append y xs ys i) [
+    | inl l ↦ each_in (λ z. is_below x z ≡ true) xs y a.0 l
     | inr r ↦ h x y (inl refl) r
   ]),
   Rising-append xs ys a.1 b (λ u v i j. h u v (inr i) j),

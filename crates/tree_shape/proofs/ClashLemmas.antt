@@ -11,10 +11,10 @@ use Rattle.text_model.specs.Text.{Bytes, is_below}
 use Rattle.text_model.specs.Path.{lies_below}
 use Rattle.text_model.proofs.OrderLemmas.{is_below-chain, is_below-irreflexive, is_below-one_way, is_below-same}
 use Rattle.text_model.proofs.TestLemmas.{both, differs, or_true}
+use Rattle.text_model.proofs.Elements.{in_right, drop_front}
 use Rattle.git_model.specs.Unfold.{FileRow}
 use Rattle.git_model.specs.Shape.{first_clash, clash_from}
 use Rattle.tree_shape.specs.Clashes.{shared, begins_with_slash}
-use Rattle.tree_shape.proofs.Elements.{in-right}
 use Rattle.tree_shape.proofs.Rows.{clash, in-lies, between, above}
 use Rattle.tree_shape.proofs.FileSets.{lies-true, later, rises-rest, no-clash, clash-rest, bool-same}
 
@@ -64,7 +64,7 @@ none-below at before (a ∷ rows) h o b t i j = by (λ u v. none-below (at + 1) 
         elim i [
           | inl p ↦ elim j [
             | inl q ↦ absurd (clash (sym up ∙ ap (λ (z : FileRow). is_below z.path t.path) (p ∙ sym q) ∙ is_below-irreflexive t.path))
-            | inr v ↦ no-clash (at + 1) (before ++ a ∷ []) rows (clash-rest at before a rows h) b t (subst (λ (z : FileRow). In z (before ++ a ∷ [])) (sym p) (in-right a before (a ∷ []) (inl refl))) v
+            | inr v ↦ no-clash (at + 1) (before ++ a ∷ []) rows (clash-rest at before a rows h) b t (subst (λ (z : FileRow). In z (before ++ a ∷ [])) (sym p) (in_right a before (a ∷ []) (inl refl))) v
           ]
           | inr u ↦ elim j [
             | inl q ↦ absurd (clash (sym up ∙ ap (λ (z : FileRow). is_below b.path z.path) q ∙ is_below-one_way a.path b.path (later a rows b o u)))
@@ -108,7 +108,7 @@ IsLast rows last = (front : List FileRow) × (rows ≡ front ++ last ∷ [])
 up-to-last : (front : List FileRow) (last : FileRow) → rise (front ++ last ∷ []) → (b : FileRow) → In b (front ++ last ∷ []) → (b ≡ last) ⊎ (is_below b.path last.path ≡ true)
 up-to-last [] last o b i = elim i [ inl q ↦ inl q | inr j ↦ absurd j ]
 up-to-last (a ∷ front) last o b i = elim i [
-  | inl q ↦ inr (ap (λ (z : FileRow). is_below z.path last.path) q ∙ later a (front ++ last ∷ []) last o (in-right last front (last ∷ []) (inl refl)))
+  | inl q ↦ inr (ap (λ (z : FileRow). is_below z.path last.path) q ∙ later a (front ++ last ∷ []) last o (in_right last front (last ∷ []) (inl refl)))
   | inr j ↦ up-to-last front last (rises-rest a (front ++ last ∷ []) o) b j
 ]
 
@@ -122,13 +122,9 @@ rises-front (a ∷ b ∷ rows) row h =
 below-row : (rows : List FileRow) (row b : FileRow) → rise (rows ++ row ∷ []) → In b rows → is_below b.path row.path ≡ true
 below-row [] row b o i = absurd i
 below-row (a ∷ rows) row b o i = elim i [
-  | inl q ↦ ap (λ (z : FileRow). is_below z.path row.path) q ∙ later a (rows ++ row ∷ []) row o (in-right row rows (row ∷ []) (inl refl))
+  | inl q ↦ ap (λ (z : FileRow). is_below z.path row.path) q ∙ later a (rows ++ row ∷ []) row o (in_right row rows (row ∷ []) (inl refl))
   | inr j ↦ below-row rows row b (rises-rest a (rows ++ row ∷ []) o) j
 ]
-
-pub drop-front : (d s : Bytes) → drop (length d) (d ++ s) ≡ s
-drop-front [] s = refl
-drop-front (x ∷ d) s = drop-front d s
 
 pub take-front : (d s : Bytes) → take (length d) (d ++ s) ≡ d
 take-front [] s = refl
@@ -153,11 +149,11 @@ module _ (before : List FileRow) (row last : FileRow) (o : rise (before ++ row �
         | inl q ↦ ([], ap (λ (z : FileRow). z.path) (sym q) ∙ sym (append-nil b.path))
         | inr low ↦ between b.path [] last.path (47 ∷ s)
             (ap (λ (p : Bytes). is_below p last.path) (append-nil b.path) ∙ low)
-            (sym (ap (is_below last.path) is) ∙ below-row before row last o (subst (λ (rows : List FileRow). In last rows) (sym l.1) (in-right last l.0 (last ∷ []) (inl refl))))
+            (sym (ap (is_below last.path) is) ∙ below-row before row last o (subst (λ (rows : List FileRow). In last rows) (sym l.1) (in_right last l.0 (last ∷ []) (inl refl))))
       ] in
       (λ k. shared (c.1 k) (is k)) ∙ front-shared b.path c.0 47 s (λ z more e q. clash (
       sym (ap (λ (p : Bytes). lies_below p b.path) (c.1 ∙ ap (λ (x : Bytes). b.path ++ x) e ∙ ap (λ (y : ℕ). b.path ++ y ∷ more) q) ∙ in-lies b.path more)
-      ∙ none-below 0 [] before none (rises-front before row o) b last i (subst (λ (rows : List FileRow). In last rows) (sym l.1) (in-right last l.0 (last ∷ []) (inl refl)))))
+      ∙ none-below 0 [] before none (rises-front before row o) b last i (subst (λ (rows : List FileRow). In last rows) (sym l.1) (in_right last l.0 (last ∷ []) (inl refl)))))
 
   pub decides : (begins_with_slash (drop count row.path) && has (take count row.path)) ≡ list_any (λ b. lies_below row.path b.path) before
   decides = bool-same (begins_with_slash (drop count row.path) && has (take count row.path)) (list_any (λ b. lies_below row.path b.path) before)
@@ -173,7 +169,7 @@ module _ (before : List FileRow) (row last : FileRow) (o : rise (before ++ row �
       let t = lies-true row.path b.0.path b.2 in
       let n : count ≡ length b.0.path = all-shared b.0 b.1 t.0 t.1 in
       let front : take count row.path ≡ b.0.path = (λ k. take (n k) (t.1 k)) ∙ take-front b.0.path (47 ∷ t.0) in
-      let rest : drop count row.path ≡ 47 ∷ t.0 = (λ k. drop (n k) (t.1 k)) ∙ drop-front b.0.path (47 ∷ t.0) in
+      let rest : drop count row.path ≡ 47 ∷ t.0 = (λ k. drop (n k) (t.1 k)) ∙ drop_front b.0.path (47 ∷ t.0) in
       rw (rest, front) (in-any (λ r. bytes_eq r.path b.0.path) before b.0 b.1 ((bytes_eq-Decides b.0.path b.0.path).1 refl)))
 
 -- ---- the first clash, row by row

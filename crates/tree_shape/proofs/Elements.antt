@@ -2,15 +2,8 @@
 use Rattle.std.proofs.Common.{◌≡◌, Bool, true, false, List, [], ◌∷◌, ◌++◌, refl, sym, ap, subst, ◌∙◌, inl, inr, ◌⊎◌}
 use Rattle.std.specs.Prelude.{filter, if◌then◌else◌}
 use Rattle.std.specs.List.{flat_map}
-use Rattle.text_model.specs.Lists.{In, Each}
-
-pub in-left : {X : Type 0} (x : X) (xs ys : List X) → In x xs → In x (xs ++ ys)
-in-left x [] ys h = absurd h
-in-left x (z ∷ xs) ys h = elim h [ inl e ↦ inl e | inr r ↦ inr (in-left x xs ys r) ]
-
-pub in-right : {X : Type 0} (x : X) (xs ys : List X) → In x ys → In x (xs ++ ys)
-in-right x [] ys h = h
-in-right x (z ∷ xs) ys h = inr (in-right x xs ys h)
+use Rattle.text_model.specs.Lists.{In}
+use Rattle.text_model.proofs.Elements.{in_left, in_right}
 
 pub in-append : {X : Type 0} (x : X) (xs ys : List X) → In x (xs ++ ys) → In x xs ⊎ In x ys
 in-append x [] ys h = inr h
@@ -20,8 +13,8 @@ in-append x (z ∷ xs) ys h = elim h [ inl e ↦ inl (inl e) | inr r ↦ elim (i
 pub in-flat : {X Y : Type 0} (f : X → List Y) (xs : List X) (x : X) (y : Y) → In x xs → In y (f x) → In y (flat_map f xs)
 in-flat f [] x y h i = absurd h
 in-flat f (z ∷ xs) x y h i = elim h [
-  | inl e ↦ in-left y (f z) (flat_map f xs) (let P : _ → Type 0 = λ w. In y (f w) in subst P e i)
-  | inr r ↦ in-right y (f z) (flat_map f xs) (in-flat f xs x y r i)
+  | inl e ↦ in_left y (f z) (flat_map f xs) (let P : _ → Type 0 = λ w. In y (f w) in subst P e i)
+  | inr r ↦ in_right y (f z) (flat_map f xs) (in-flat f xs x y r i)
 ]
 
 pub of-flat : {X Y : Type 0} (f : X → List Y) (xs : List X) (y : Y) → In y (flat_map f xs) → (x : X) × In x xs × In y (f x)
@@ -49,11 +42,3 @@ of-filter p x (z ∷ xs) h = by (of-filter p x xs) (p z) refl h
     by : (In x (filter p xs) → In x xs × (p x ≡ true)) → (b : Bool) → p z ≡ b → In x (if b then z ∷ filter p xs else filter p xs) → (In x (z ∷ xs)) × (p x ≡ true)
     by rec true e i = elim i [ inl q ↦ (inl q, ap p q ∙ e) | inr r ↦ let o = rec r in (inr o.0, o.1) ]
     by rec false e i = let o = rec i in (inr o.0, o.1)
-
-pub each-in : {X : Type 0} (P : X → Type 0) (xs : List X) (x : X) → Each P xs → In x xs → P x
-each-in P [] x e h = absurd h
-each-in P (z ∷ xs) x e h = elim h [ inl q ↦ subst P (sym q) e.0 | inr r ↦ each-in P xs x e.1 r ]
-
-pub each-from : {X : Type 0} (P : X → Type 0) (xs : List X) → ((x : X) → In x xs → P x) → Each P xs
-each-from P [] h = tt
-each-from P (x ∷ xs) h = (h x (inl refl), each-from P xs (λ y i. h y (inr i)))

@@ -12,9 +12,9 @@ use Rattle.git_model.specs.Tree.{is_directory}
 use Rattle.git_model.specs.Unfold.{FileRow}
 use Rattle.git_model.specs.Shape.{first_clash, clash_from}
 use Rattle.tree_shape.specs.Shapes.{IsFile}
-use Rattle.tree_shape.proofs.Elements.{in-left}
 use Rattle.text_model.proofs.OrderLemmas.{is_below-chain}
 use Rattle.text_model.proofs.TestLemmas.{both}
+use Rattle.text_model.proofs.Elements.{in_left}
 
 -- ---- the test of one path below another
 
@@ -71,7 +71,7 @@ no-clash at before (row ∷ rows) h b t i j =
     let parts = either-false2 (list_any (λ b. lies_below row.path b.path) before) at (clash_from (at + 1) (before ++ row ∷ []) rows) h in
     elim j [
       | inl q ↦ ap (λ (z : FileRow). lies_below z.path b.path) q ∙ any-false row before parts.0 b i
-      | inr k ↦ no-clash (at + 1) (before ++ row ∷ []) rows parts.1 b t (in-left b before (row ∷ []) i) k
+      | inr k ↦ no-clash (at + 1) (before ++ row ∷ []) rows parts.1 b t (in_left b before (row ∷ []) i) k
     ]
 
 pub clash-rest : (at : ℕ) (before : List FileRow) (row : FileRow) (rows : List FileRow) → clash_from at before (row ∷ rows) ≡ None → clash_from (at + 1) (before ++ row ∷ []) rows ≡ None

@@ -8,12 +8,13 @@ use Rattle.text_model.specs.Lists.{In}
 use Rattle.text_model.specs.Text.{Bytes, has_byte}
 use Rattle.text_model.specs.Path.{components, is_fit_component, is_fit_path, is_fit_name}
 use Rattle.text_model.proofs.TestLemmas.{both, differs}
+use Rattle.text_model.proofs.Options.{not_true}
+use Rattle.text_model.proofs.Elements.{each_in}
 use Rattle.git_model.specs.Tree.{TreeEntry, IsTree}
 use Rattle.git_model.specs.Unfold.{joined_path}
 use Rattle.tree_shape.specs.Walks.{IsFront}
-use Rattle.tree_shape.proofs.Elements.{each-in}
 use Rattle.tree_shape.proofs.WalkLemmas.{Turn}
-use Rattle.tree_shape.proofs.Names.{not-true, components-append, components-one}
+use Rattle.tree_shape.proofs.Names.{components-append, components-one}
 
 -- what a fit path is
 pub record Fit (path : Bytes) : Type 0 where
@@ -67,7 +68,7 @@ all-append p (x ∷ xs) ys = ap (λ (b : Bool). p x && b) (all-append p xs ys) �
 pub lacks-both : (b : ℕ) (path name : Bytes) → (47 == b) ≡ false → not (has_byte b path) ≡ true → not (has_byte b name) ≡ true → not (has_byte b (path ++ 47 ∷ name)) ≡ true
 lacks-both b path name other p n =
     ap not (any-append (λ c. c == b) path (47 ∷ name))
-    ∙ rw (not-true (has_byte b path) p, other, not-true (has_byte b name) n) refl
+    ∙ rw (not_true (has_byte b path) p, other, not_true (has_byte b name) n) refl
 
 pub lacks-parts : (b : ℕ) (path name : Bytes) → not (has_byte b (path ++ 47 ∷ name)) ≡ true → (not (has_byte b path) ≡ true) × (not (has_byte b name) ≡ true)
 lacks-parts b path name h = by (has_byte b path) (47 == b) (has_byte b name) (sym (ap not (any-append (λ c. c == b) path (47 ∷ name))) ∙ h)
@@ -106,8 +107,8 @@ fit-joined levels (b ∷ path) name front n =
     let g = fit-parts (b ∷ path) front.0 in
     let whole : Bytes = (b ∷ path) ++ 47 ∷ name in
     let comps : components whole ≡ components (b ∷ path) ++ name ∷ [] =
-    components-append (b ∷ path) name ∙ ap (λ (c : List Bytes). components (b ∷ path) ++ c) (components-one name (not-true (has_byte 47 name) parts.1)) in
-    let one_name : list_all is_fit_component (name ∷ []) ≡ true = sym (ap (list_all is_fit_component) (components-one name (not-true (has_byte 47 name) parts.1))) ∙ f.names in
+    components-append (b ∷ path) name ∙ ap (λ (c : List Bytes). components (b ∷ path) ++ c) (components-one name (not_true (has_byte 47 name) parts.1)) in
+    let one_name : list_all is_fit_component (name ∷ []) ≡ true = sym (ap (list_all is_fit_component) (components-one name (not_true (has_byte 47 name) parts.1))) ∙ f.names in
     let count : length (components whole) ≡ length (components (b ∷ path)) + 1 = ap (λ (c : List Bytes). length c) comps ∙ length-append (components (b ∷ path)) (name ∷ []) in
     rearranged (not (length whole == 0)) (nat_le (length whole) 4096) (nat_le (length (components whole)) 256) (not (has_byte 0 whole)) (not (has_byte 10 whole)) (not (has_byte 13 whole)) (list_all is_fit_component (components whole))
     (nonempty b (path ++ 47 ∷ name)) (lacks-both 0 (b ∷ path) name refl g.no_nul f.no_nul) (lacks-both 10 (b ∷ path) name refl g.no_lf f.no_lf) (lacks-both 13 (b ∷ path) name refl g.no_cr f.no_cr)
@@ -120,9 +121,9 @@ front-deeper levels [] name front n pos fit = by name (both (is_fit_path name) (
   where
     by : (name : Bytes) → not (has_byte 47 name) ≡ true → is_fit_path name ≡ true → IsFront (levels - 1) name
     by [] plain fit = let none = (fit-parts [] fit).some in absurd cc
-    by (b ∷ name) plain fit = (fit, omega (arith, ap (λ (c : List Bytes). length c) (components-one (b ∷ name) (not-true (has_byte 47 (b ∷ name)) plain)), front))
+    by (b ∷ name) plain fit = (fit, omega (arith, ap (λ (c : List Bytes). length c) (components-one (b ∷ name) (not_true (has_byte 47 (b ∷ name)) plain)), front))
 front-deeper levels (b ∷ path) name front n pos fit =
-    let plain = not-true (has_byte 47 name) (both (is_fit_path name) (not (has_byte 47 name)) n).1 in
+    let plain = not_true (has_byte 47 name) (both (is_fit_path name) (not (has_byte 47 name)) n).1 in
     let comps : components ((b ∷ path) ++ 47 ∷ name) ≡ components (b ∷ path) ++ name ∷ [] = components-append (b ∷ path) name ∙ ap (λ (c : List Bytes). components (b ∷ path) ++ c) (components-one name plain) in
     (fit, omega (arith, ap (λ (c : List Bytes). length c) comps, length-append (components (b ∷ path)) (name ∷ []), front.1))
 
@@ -134,7 +135,7 @@ in-at (x ∷ entries) zero e lt is = inl is
 in-at (x ∷ entries) (suc i) e lt is = inr (in-at entries i e (omega (arith, lt)) is)
 
 pub name-fits : (path : Bytes) (entries : List TreeEntry) (i : ℕ) (e : TreeEntry) (whole : Bytes) → IsTree entries → Turn path entries i e whole → is_fit_name e.name ≡ true
-name-fits path entries i e whole tree t = (each-in _ entries e tree.0 (in-at entries i e t.within t.is)).0
+name-fits path entries i e whole tree t = (each_in _ entries e tree.0 (in-at entries i e t.within t.is)).0
 
 pub fit-turn : (levels : ℕ) (path : Bytes) (entries : List TreeEntry) (i : ℕ) (e : TreeEntry) (whole : Bytes) (len : ℕ) (short : Bool) → IsFront levels path → IsTree entries → Turn path entries i e whole
     → short ≡ (nat_lt 0 levels && nat_le len 4096) → len ≡ length whole → is_fit_path whole ≡ short

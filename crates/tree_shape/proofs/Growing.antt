@@ -11,6 +11,7 @@ use Rattle.text_model.specs.Path.{components, is_fit_path, is_fit_name}
 use Rattle.text_model.proofs.ByteLemmas.{IsBytes-front, IsBytes-rest}
 use Rattle.text_model.proofs.EachLemmas.{Each-front, Each-rest}
 use Rattle.text_model.proofs.LackLemmas.{has_byte-lacks}
+use Rattle.text_model.proofs.Digests.{IsId-object_id}
 use Rattle.git_model.specs.Tree.{Directory, is_directory, TreeEntry, IsTree, tree_text, has_distinct}
 use Rattle.git_model.specs.Object.{Object, object_of, object_at, entries_of, tree_at}
 use Rattle.git_model.specs.Unfold.{FileRow, has_no_entries}
@@ -20,7 +21,6 @@ use Rattle.tree_shape.specs.Laws.{IsKnown, AreKnown}
 use Rattle.tree_shape.specs.Sets.{IsFileRow}
 use Rattle.tree_shape.specs.Shapes.{entry_of, entries_in, trees_in, id_of_rows, trees_of_rows, Good, is_in}
 use Rattle.tree_shape.proofs.FitPieces.{fit-pieces, fit-name}
-use Rattle.tree_shape.proofs.IdLemmas.{IsId-object_id}
 use Rattle.tree_shape.proofs.Leaves.{NotFirst, entry_of-name, first_names-other, other}
 use Rattle.tree_shape.proofs.PutRows.{entries-dir, trees-dir, entries-file, trees-file, trees-empty}
 use Rattle.tree_shape.proofs.Unfolding.{text-none}

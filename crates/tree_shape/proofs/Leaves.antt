@@ -11,8 +11,9 @@ use Rattle.git_model.specs.Tree.{Directory, is_directory, TreeEntry, tree_text}
 use Rattle.git_model.specs.Object.{Object}
 use Rattle.git_model.specs.Shape.{Leaf, first_name_of, first_names, leaf_named, is_named, leaves_below, cut_name, leaf_object, shape_entries, shape_objects}
 use Rattle.tree_shape.specs.Shapes.{entry_of, entries_in, is_tree, trees_below, trees_in}
-use Rattle.tree_shape.proofs.Elements.{of-filter, each-from}
+use Rattle.tree_shape.proofs.Elements.{of-filter}
 use Rattle.text_model.proofs.TestLemmas.{both}
+use Rattle.text_model.proofs.Elements.{each_from}
 
 -- ---- tests of names
 
@@ -59,7 +60,7 @@ pub first_names-other : (n : Bytes) (rest : List Leaf) → Each (NotFirst n) res
 first_names-other n rest h x i = names-apart n rest h x (of-first_of_each (filter_map first_name_of rest) x i)
 
 first_names-apart : (n : Bytes) (rest : List Leaf) → Each (NotFirst n) rest → filter (λ y. not (bytes_eq n y)) (first_names rest) ≡ first_names rest
-first_names-apart n rest h = filter-all (λ y. not (bytes_eq n y)) (first_names rest) (each-from (λ x. not (bytes_eq n x) ≡ true) (first_names rest) (λ x i. ap not (other n x (first_names-other n rest h x i))))
+first_names-apart n rest h = filter-all (λ y. not (bytes_eq n y)) (first_names rest) (each_from (λ x. not (bytes_eq n x) ≡ true) (first_names rest) (λ x i. ap not (other n x (first_names-other n rest h x i))))
 
 first_names-cons : (n : Bytes) (leaf : Leaf) (rest : List Leaf) → HasFirst n leaf → first_names (leaf ∷ rest) ≡ n ∷ filter (λ y. not (bytes_eq n y)) (first_names rest)
 first_names-cons n leaf rest h = ap (λ (o : Option Bytes). first_of_each bytes_eq (cons_option o (filter_map first_name_of rest))) h

@@ -17,7 +17,6 @@ pub mod SetLemmas
 pub mod Held
 pub mod Rebuilding
 pub mod Again
-pub mod IdLemmas
 pub mod FitPieces
 pub mod Growing
 pub mod Walking

@@ -9,8 +9,8 @@ use Rattle.text_model.specs.Lists.{Each}
 use Rattle.text_model.proofs.TestLemmas.{differs, both}
 use Rattle.text_model.specs.Text.{Bytes, has_byte}
 use Rattle.text_model.specs.Path.{components, is_fit_path, is_fit_name}
+use Rattle.text_model.proofs.Options.{not_true, or_parts}
 use Rattle.git_model.specs.Unfold.{joined_path}
-use Rattle.tree_shape.proofs.Below.{either-false}
 
 -- a name that is one component
 pub record IsName (name : Bytes) : Type 0 where
@@ -22,14 +22,10 @@ abbrev pub way : Bytes → List Bytes → Bytes
 way path [] = path
 way path (name ∷ names) = way (joined_path path name) names
 
-pub not-true : (b : Bool) → not b ≡ true → b ≡ false
-not-true false h = refl
-not-true true h = absurd cc
-
 pub fit-name : (name : Bytes) → is_fit_name name ≡ true → IsName name
 unfolding is_fit_path
 fit-name [] h = absurd cc
-fit-name (b ∷ name) h = record { some = λ e. cc; plain = not-true (has_byte 47 (b ∷ name)) (both (is_fit_path (b ∷ name)) (not (has_byte 47 (b ∷ name))) h).1 }
+fit-name (b ∷ name) h = record { some = λ e. cc; plain = not_true (has_byte 47 (b ∷ name)) (both (is_fit_path (b ∷ name)) (not (has_byte 47 (b ∷ name))) h).1 }
 
 -- a part that lacks the slash comes first
 pub components-cut : (front rest : Bytes) → Lacks 47 front → components (front ++ 47 ∷ rest) ≡ front ∷ components rest
@@ -43,7 +39,7 @@ components-last (x ∷ xs) h = rw (differs x 47 h.0, components-last xs h.1) ref
 pub components-one : (name : Bytes) → has_byte 47 name ≡ false → components name ≡ name ∷ []
 components-one [] h = refl
 components-one (b ∷ name) h =
-    let parts = either-false (b == 47) (has_byte 47 name) h in
+    let parts = or_parts (b == 47) (has_byte 47 name) h in
     slice_split-cons_no (λ (c : ℕ). c == 47) b name parts.0 ∙ ap (onto_first b) (components-one name parts.1)
 
 onto-more : (b : ℕ) (parts more : List Bytes) → parts ≢ [] → onto_first b (parts ++ more) ≡ onto_first b parts ++ more

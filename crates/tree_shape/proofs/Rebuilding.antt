@@ -16,11 +16,11 @@ use Rattle.git_model.specs.Object.{Object, object_of, tree_at, AreObjects}
 use Rattle.git_model.specs.Unfold.{FileRow, joined_path, visits, has_no_entries, is_row, met_rows}
 use Rattle.git_model.specs.Shape.{Leaf, leaf_of, leaf_named, is_named, leaves_below, cut_name, leaf_object, shape_entries, shape_objects}
 use Rattle.git_model.proofs.ObjectLemmas.{tree_at-tree}
-use Rattle.text_model.proofs.Options.{some_is}
+use Rattle.text_model.proofs.Options.{some_is, not_true}
 use Rattle.tree_shape.specs.Shapes.{entry_of, entries_in, is_tree, trees_below, trees_in}
 use Rattle.tree_shape.specs.Wholes.{put_name, leaf_at, is_leaf, entry_leaves, leaves_in, Below, Sound}
 use Rattle.tree_shape.specs.Walks.{row_at, entry_visits, entries_visits}
-use Rattle.tree_shape.proofs.Names.{IsName, components-one, components-joined, joined-some, not-true}
+use Rattle.tree_shape.proofs.Names.{IsName, components-one, components-joined, joined-some}
 use Rattle.tree_shape.proofs.WalkLemmas.{visits-zero, visits-none}
 use Rattle.tree_shape.proofs.VisitLemmas.{dir-mode}
 use Rattle.tree_shape.proofs.Unfolding.{visits-suc, name-of, no-entries}
@@ -263,7 +263,7 @@ of-names known depth (e ∷ entries) all name others =
 -- a name stands in no later entry
 pub distinct-later : (e : TreeEntry) (entries : List TreeEntry) → has_distinct (map (λ e. e.name) (e ∷ entries)) ≡ true → (f : TreeEntry) → In f entries → e.name ≢ f.name
 distinct-later e entries h f i q =
-    let none = not-true (list_any (bytes_eq e.name) (map (λ e. e.name) entries)) (both (not (list_any (bytes_eq e.name) (map (λ e. e.name) entries))) (has_distinct (map (λ e. e.name) entries)) h).0 in
+    let none = not_true (list_any (bytes_eq e.name) (map (λ e. e.name) entries)) (both (not (list_any (bytes_eq e.name) (map (λ e. e.name) entries))) (has_distinct (map (λ e. e.name) entries)) h).0 in
     clash (sym (any entries f i q) ∙ none)
   where
     any : (es : List TreeEntry) (f : TreeEntry) → In f es → e.name ≡ f.name → list_any (bytes_eq e.name) (map (λ e. e.name) es) ≡ true

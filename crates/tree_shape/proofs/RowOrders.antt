@@ -8,10 +8,10 @@ use Rattle.text_model.specs.Text.{Bytes, is_below}
 use Rattle.text_model.proofs.OrderLemmas.{is_below-chain, is_below-same}
 use Rattle.git_model.specs.Tree.{is_directory, order_name}
 use Rattle.git_model.specs.Unfold.{FileRow, by_paths, by_walk}
-use Rattle.text_model.proofs.Elements.{each_in as each-of, each_from as each-by}
+use Rattle.text_model.proofs.Elements.{each_in as each-of, each_from as each-by, in_left, in_right}
 use Rattle.git_model.proofs.SortLemmas.{Ascends, Distinct, by_key, order-is, order-same}
 use Rattle.tree_shape.specs.Orders.{met_path, Same}
-use Rattle.tree_shape.proofs.Elements.{in-left, in-right, in-append}
+use Rattle.tree_shape.proofs.Elements.{in-append}
 
 -- ---- one that is put among others
 
@@ -137,7 +137,7 @@ sorted-none key sorted e = subst (Sorted key []) (sym e) (record { order = tt; s
 
 key-other : (key : FileRow → Bytes) (done : List FileRow) (row : FileRow) (rest : List FileRow) → Distinct key (done ++ row ∷ rest) → (r : FileRow) → In r done → key row ≢ key r
 key-other key [] row rest d r i = absurd i
-key-other key (x ∷ done) row rest d r (inl q) = λ e. each-of (λ y. key x ≢ key y) (done ++ row ∷ rest) row d.0 (in-right row done (row ∷ rest) (inl refl)) (sym (e ∙ ap key q))
+key-other key (x ∷ done) row rest d r (inl q) = λ e. each-of (λ y. key x ≢ key y) (done ++ row ∷ rest) row d.0 (in_right row done (row ∷ rest) (inl refl)) (sym (e ∙ ap key q))
 key-other key (x ∷ done) row rest d r (inr j) = key-other key done row rest d.1 r j
 
 module _ (key : FileRow → Bytes) (rows done sorted : List FileRow) (row : FileRow) (rest : List FileRow) (is : rows ≡ done ++ row ∷ rest) (s : Sorted key done sorted) where
@@ -148,7 +148,7 @@ module _ (key : FileRow → Bytes) (rows done sorted : List FileRow) (row : File
   next-sorted new up same = record {
     order = up;
     same = record {
-      to = λ x i. elim (same.to x i) [ inl q ↦ in-right x done (row ∷ []) (inl q) | inr j ↦ in-left x done (row ∷ []) (s.same.to x j) ];
+      to = λ x i. elim (same.to x i) [ inl q ↦ in_right x done (row ∷ []) (inl q) | inr j ↦ in_left x done (row ∷ []) (s.same.to x j) ];
       from = λ x i. same.from x (elim (in-append x done (row ∷ []) i) [ inl j ↦ inr (s.same.from x j) | inr k ↦ elim k [ inl q ↦ inl q | inr n ↦ absurd n ] ]);
     };
   }

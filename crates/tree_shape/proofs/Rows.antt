@@ -19,11 +19,11 @@ use Rattle.tree_shape.proofs.Names.{components-cut, components-last}
 use Rattle.git_model.specs.Tree.{is_directory, sort_name}
 use Rattle.git_model.specs.Unfold.{FileRow}
 use Rattle.git_model.specs.Shape.{Leaf, leaf_of, leaf_named, is_named, leaves_below, cut_name}
+use Rattle.git_model.proofs.NameOrderLemmas.{below-front}
 use Rattle.tree_shape.specs.Shapes.{short, Before, IsFile, Good, is_in}
-use Rattle.tree_shape.proofs.Elements.{each-in, each-from, in-left, in-right}
-use Rattle.tree_shape.proofs.Below.{below-front}
 use Rattle.tree_shape.proofs.Leaves.{OneName, HasFirst, NotFirst, same}
 use Rattle.text_model.proofs.OrderLemmas.{is_below-irreflexive, is_below-one_way}
+use Rattle.text_model.proofs.Elements.{in_left, in_right, each_in, each_from}
 use Rattle.tree_shape.specs.Orders.{met_path}
 use Rattle.tree_shape.proofs.Unfolding.{met-front}
 
@@ -184,10 +184,10 @@ either [] g a b i j = absurd i
 either (row ∷ rows) g a b i j = elim i [
   | inl p ↦ elim j [
     | inl q ↦ one (p ∙ sym q)
-    | inr v ↦ first (subst (λ (x : FileRow). Before x b) (sym p) (each-in (Before row) rows b g.1 v))
+    | inr v ↦ first (subst (λ (x : FileRow). Before x b) (sym p) (each_in (Before row) rows b g.1 v))
   ]
   | inr u ↦ elim j [
-    | inl q ↦ second (subst (λ (x : FileRow). Before x a) (sym q) (each-in (Before row) rows a g.1 u))
+    | inl q ↦ second (subst (λ (x : FileRow). Before x a) (sym q) (each_in (Before row) rows a g.1 u))
     | inr v ↦ either rows g.2 a b u v
   ]
 ]
@@ -267,7 +267,7 @@ file-one a rows g e =
     record {
       first = first-is a a.path [] f.parts;
       more = tt;
-      others = each-leaf (NotFirst a.path) rows (λ t i. apart-file a t f (each-in (Before a) rows t g.1 i));
+      others = each-leaf (NotFirst a.path) rows (λ t i. apart-file a t f (each_in (Before a) rows t g.1 i));
     }
 
 -- ---- the rows of one directory, and those behind them
@@ -283,13 +283,13 @@ good-rest (t ∷ group) rest g = good-rest group rest g.2
 
 pub good-front : (group rest : List FileRow) → Good (group ++ rest) → Good group
 good-front [] rest g = tt
-good-front (t ∷ group) rest g = (g.0, each-from (Before t) group (λ x i. each-in (Before t) (group ++ rest) x g.1 (in-left x group rest i)), good-front group rest g.2)
+good-front (t ∷ group) rest g = (g.0, each_from (Before t) group (λ x i. each_in (Before t) (group ++ rest) x g.1 (in_left x group rest i)), good-front group rest g.2)
 
 pub dir-one : (name : Bytes) (a : FileRow) (group rest : List FileRow) → Good (a ∷ (group ++ rest)) → Splits name a group rest → OneName name (leaf_of a) (map leaf_of group) (map leaf_of rest)
 dir-one name a group rest g s = record {
   first = under-first name a (is-in name a s.all.0);
-  more = each-leaf (HasFirst name) group (λ t i. under-first name t (is-in name t (each-in (λ x. is_in name x ≡ true) group t s.all.1 i)));
-  others = by rest (good-rest group rest g.2) (λ t i. each-in (Before a) (group ++ rest) t g.1 (in-right t group rest i)) s.stops;
+  more = each-leaf (HasFirst name) group (λ t i. under-first name t (is-in name t (each_in (λ x. is_in name x ≡ true) group t s.all.1 i)));
+  others = by rest (good-rest group rest g.2) (λ t i. each_in (Before a) (group ++ rest) t g.1 (in_right t group rest i)) s.stops;
 }
   where
     by : (rest : List FileRow) → Good rest → ((t : FileRow) → In t rest → Before a t) → ((q : FileRow) (more : List FileRow) → rest ≡ q ∷ more → is_in name q ≡ false) → Each (NotFirst name) (map leaf_of rest)
@@ -298,7 +298,7 @@ dir-one name a group rest g s = record {
         let u = is-in name a s.all.0 in
         let out = stops q more refl in (
           apart-from name a q u (h q (inl refl)) (λ v. clash (sym (in-is name v.0 q v.1.plain v.1.is) ∙ out)),
-          each-leaf (NotFirst name) more (λ t i. apart-from name a t u (h t (inr i)) (λ v. beyond name a q t u (h q (inl refl)) (each-in (Before q) more t g.1 i) out v)),
+          each-leaf (NotFirst name) more (λ t i. apart-from name a t u (h t (inr i)) (λ v. beyond name a q t u (h q (inl refl)) (each_in (Before q) more t g.1 i) out v)),
         )
 
 -- ---- the rows of a directory without its name

@@ -22,11 +22,12 @@ use Rattle.tree_shape.specs.Orders.{met_path}
 use Rattle.tree_shape.proofs.Unfolding.{met-front}
 use Rattle.git_model.specs.Shape.{Leaf, leaf_of, first_name_of, first_names, leaf_named, is_named, leaves_below, shape_entries, shape_objects}
 use Rattle.tree_shape.specs.Shapes.{entry_of, entries_in, is_tree, trees_below, trees_in, id_of_rows, trees_of_rows, Before, IsFile, Good}
-use Rattle.tree_shape.proofs.Elements.{each-in, of-filter}
+use Rattle.tree_shape.proofs.Elements.{of-filter}
 use Rattle.tree_shape.proofs.Below.{below-apart, below-more, has-slash, same-dir}
 use Rattle.tree_shape.proofs.Leaves.{HasFirst, entry_by, entry_of-name, in_order-rising, of-first_of_each}
 use Rattle.tree_shape.proofs.Rows.{clash, shape, goes_on, ends, either, one, first, second, good-file, first-is, first-same, not-before, not-after, components-some}
 use Rattle.text_model.proofs.OrderLemmas.{is_below-irreflexive, is_below-one_way}
+use Rattle.text_model.proofs.Elements.{each_in}
 
 -- ---- the entry of a name, and the rows of that name
 
@@ -237,7 +238,7 @@ module _ (depth : ℕ) (all : List FileRow) (good : Good all) where
             (ap (has_byte 47) (entry_of-name depth (map leaf_of all) m) ∙ plain-first r.0 m (good-file rows g.2 r.0 r.1) r.2)
             (λ q. ne (sym (entry_of-name depth (map leaf_of all) c.0) ∙ q ∙ entry_of-name depth (map leaf_of all) m))
             (stands depth all good c.0 a (in_all a (inl refl)) has) (stands depth all good m r.0 (in_all r.0 (inr r.1)) r.2)
-            (each-in (Before a) rows r.0 g.1 r.1).below),
+            (each_in (Before a) rows r.0 g.1 r.1).below),
         Up-filter (λ y. not (bytes_eq c.0 y)) names (up rows (λ b i. in_all b (inr i)) g.2),
       )
 

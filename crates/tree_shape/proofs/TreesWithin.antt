@@ -9,14 +9,15 @@ use Rattle.text_model.specs.Lists.{In, Each, first_of_each, in_order, with_inser
 use Rattle.text_model.specs.Text.{Bytes, sp, nul}
 use Rattle.text_model.specs.Id.{Id, IsId, tree, object_id}
 use Rattle.text_model.specs.Path.{components}
+use Rattle.text_model.proofs.Elements.{each_from}
+use Rattle.text_model.proofs.Digests.{IsId-object_id}
 use Rattle.git_model.specs.Tree.{Mode, File, GroupFile, Exec, Link, Directory, Gitlink, mode_text, is_directory, TreeEntry, tree_entry_text, tree_text, is_entry_below}
 use Rattle.git_model.specs.Object.{Object, object_of}
 use Rattle.git_model.specs.Unfold.{FileRow, row_size, rows_limit}
 use Rattle.git_model.specs.Shape.{Leaf, leaf_of, first_name_of, first_names, cut_name, leaves_below, is_named, leaf_named, leaf_object, shape_entries, shape_objects, shape_depth, trees_of}
 use Rattle.tree_shape.specs.Sets.{IsFileRow}
 use Rattle.tree_shape.specs.Shapes.{entry_of, entries_in, is_tree, trees_below}
-use Rattle.tree_shape.proofs.Elements.{in-append, of-flat, in-filter, of-filter, each-from}
-use Rattle.tree_shape.proofs.IdLemmas.{IsId-object_id}
+use Rattle.tree_shape.proofs.Elements.{in-append, of-flat, in-filter, of-filter}
 use Rattle.tree_shape.proofs.PutRows.{no-tree, text-step}
 use Rattle.tree_shape.proofs.Unfolding.{text-none}
 
@@ -195,7 +196,7 @@ components-short (b ∷ path) = by (b == 47) (components path) (components-short
 -- where the rows are within their limit, each of their trees is
 pub trees-within : (rows : List FileRow) → Each IsFileRow rows → sum_by row_size rows ≤ rows_limit → Each (λ o. length o.content ≤ rows_limit) (trees_of rows)
 unfolding trees_of leaf_size
-trees-within rows files within = each-from (λ (o : Object). length o.content ≤ rows_limit) (trees_of rows) (λ o i.
+trees-within rows files within = each_from (λ (o : Object). length o.content ≤ rows_limit) (trees_of rows) (λ o i.
     let f = of-filter is_tree o (shape_objects shape_depth (map leaf_of rows)) i in
     let short = each-tree shape_depth (map leaf_of rows) o (ids rows files) f.0 f.1 in
     omega (arith, within, short, sum-mapped leaf_size row_size leaf_of rows (λ row. let c = components-short row.path in omega (arith, c))))

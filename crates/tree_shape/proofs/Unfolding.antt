@@ -1,5 +1,5 @@
 -- The rows of a walk that nothing ends are those that the root unfolds to. They are met in the order of a walk.
-use Rattle.text_model.proofs.Options.{some_is}
+use Rattle.text_model.proofs.Options.{some_is, not_true}
 use Rattle.std.proofs.Common.{◌≡◌, ◌≢◌, ◌≤◌, ◌<◌, ℕ, zero, suc, Bool, true, false, not, List, [], ◌∷◌, ◌++◌, length, take, map, Option, Some, None, refl, sym, ap, subst, ◌∙◌, append_assoc, inl, inr, arith}
 use Rattle.std.specs.Prelude.{◌||◌, filter, if◌then◌else◌, bytes_eq}
 use Rattle.std.specs.List.{list_any}
@@ -16,19 +16,20 @@ use Rattle.text_model.specs.Fault as fault
 use Rattle.git_model.specs.Tree.{Mode, Directory, is_directory, TreeEntry, IsTree, sort_name, is_entry_below, has_distinct, tree_text}
 use Rattle.git_model.specs.Object.{Object, tree_at, AreObjects}
 use Rattle.git_model.specs.Unfold.{FileRow, HasEntry, IsLast, Reaches, Unfolds, IsUnfolding, joined_path, visits, has_no_entries, is_row, visit_fault, first_visit_fault, walk, met_rows, tree_rows, is_path_below}
-use Rattle.text_model.proofs.Elements.{in_map as in-map}
+use Rattle.text_model.proofs.Elements.{in_map as in-map, each_in, each_from}
 use Rattle.git_model.proofs.SortLemmas.{Distinct, in-order, of-order, order-rises, Ascends, rises-ascends}
 use Rattle.tree_shape.proofs.Held.{held}
 use Rattle.git_model.proofs.ObjectLemmas.{tree_at-tree}
+use Rattle.git_model.proofs.NameOrderLemmas.{below-front}
 use Rattle.text_model.proofs.ByteLemmas.{IsBytes-append}
 use Rattle.tree_shape.proofs.VisitLemmas.{dir-mode}
 use Rattle.tree_shape.specs.Orders.{met_path}
 use Rattle.tree_shape.specs.Sets.{IsFileRow, IsFiles}
 use Rattle.tree_shape.specs.Walks.{row_at, entry_visits, entries_visits}
-use Rattle.tree_shape.proofs.Elements.{in-flat, of-flat, in-filter, of-filter, each-in, each-from}
-use Rattle.tree_shape.proofs.Below.{below-front, below-apart, below-more, has-slash, same-dir, Rising, rises-Rising, Rising-append}
+use Rattle.tree_shape.proofs.Elements.{in-flat, of-flat, in-filter, of-filter}
+use Rattle.tree_shape.proofs.Below.{below-apart, below-more, has-slash, same-dir, Rising, rises-Rising, Rising-append}
 use Rattle.tree_shape.proofs.FitLemmas.{fit-parts}
-use Rattle.tree_shape.proofs.Names.{IsName, way, fit-name, joined-some, components-whole, way-of-components, not-true}
+use Rattle.tree_shape.proofs.Names.{IsName, way, fit-name, joined-some, components-whole, way-of-components}
 use Rattle.tree_shape.proofs.WalkLemmas.{visits-zero, visits-none, next, step-none, fault-cons}
 use Rattle.text_model.proofs.OrderLemmas.{is_below-chain, is_below-irreflexive}
 use Rattle.text_model.proofs.TestLemmas.{both, or_true}
@@ -39,13 +40,13 @@ unfolding visits
 visits-suc known depth path root entries h = rw (h, visits) refl
 
 pub name-of : (entries : List TreeEntry) (e : TreeEntry) → IsTree entries → In e entries → IsName e.name
-name-of entries e t i = fit-name e.name (each-in _ entries e t.0 i).0
+name-of entries e t i = fit-name e.name (each_in _ entries e t.0 i).0
 
 bytes-of : (entries : List TreeEntry) (e : TreeEntry) → IsTree entries → In e entries → IsBytes e.name
-bytes-of entries e t i = (each-in _ entries e t.0 i).1
+bytes-of entries e t i = (each_in _ entries e t.0 i).1
 
 id-of : (entries : List TreeEntry) (e : TreeEntry) → IsTree entries → In e entries → IsId e.id
-id-of entries e t i = (each-in _ entries e t.0 i).2
+id-of entries e t i = (each_in _ entries e t.0 i).2
 
 joined-bytes : (path name : Bytes) → IsBytes path → IsBytes name → IsBytes (joined_path path name)
 joined-bytes [] name p n = n
@@ -389,7 +390,7 @@ one-entry : (entries : List TreeEntry) (a b : TreeEntry) → has_distinct (map (
 one-entry [] a b d i j q = absurd i
 one-entry (e ∷ entries) a b d i j q =
     let parts = both (not (list_any (bytes_eq e.name) (map (λ e. e.name) entries))) (has_distinct (map (λ e. e.name) entries)) d in
-    let out : (x : TreeEntry) → In x entries → e.name ≡ x.name → ⊥ = λ x k s. clash (sym (stands entries x k s) ∙ not-true (list_any (bytes_eq e.name) (map (λ e. e.name) entries)) parts.0) in
+    let out : (x : TreeEntry) → In x entries → e.name ≡ x.name → ⊥ = λ x k s. clash (sym (stands entries x k s) ∙ not_true (list_any (bytes_eq e.name) (map (λ e. e.name) entries)) parts.0) in
     elim i [
       | inl p ↦ elim j [
         | inl r ↦ p ∙ sym r
@@ -450,9 +451,9 @@ met-distinct known root trees = by (met_rows known root) (λ r i. i) (met-rises 
     by : (rows : List FileRow) → ((r : FileRow) → In r rows → In r (met_rows known root)) → Rising (map met_path rows) → Distinct (λ (r : FileRow). r.path) rows
     by [] among up = tt
     by (r ∷ rows) among up = (
-      each-from (λ x. r.path ≢ x.path) rows (λ x i q.
+      each_from (λ x. r.path ≢ x.path) rows (λ x i q.
           let one = one-path known root trees r x (among r (inl refl)) (among x (inr i)) q in
-          clash (sym (each-in (λ y. is_below (met_path r) y ≡ true) (map met_path rows) (met_path x) up.0 (in-map met_path x rows i)) ∙ ap (λ (z : FileRow). is_below (met_path z) (met_path x)) one ∙ is_below-irreflexive (met_path x))),
+          clash (sym (each_in (λ y. is_below (met_path r) y ≡ true) (map met_path rows) (met_path x) up.0 (in-map met_path x rows i)) ∙ ap (λ (z : FileRow). is_below (met_path z) (met_path x)) one ∙ is_below-irreflexive (met_path x))),
       by rows (λ x i. among x (inr i)) up.1,
     )
 
@@ -484,6 +485,6 @@ row-of known root row trees none i =
 -- the rows of a tree are a set of rows
 pub walk-files : (known : List Object) (root : Id) → AreObjects known → first_visit_fault known 0 (walk known root) ≡ None → IsFiles (tree_rows known root)
 walk-files known root trees none = record {
-  each = each-from IsFileRow (tree_rows known root) (λ r i. row-of known root r trees none (of-order is_path_below r (met_rows known root) i));
+  each = each_from IsFileRow (tree_rows known root) (λ r i. row-of known root r trees none (of-order is_path_below r (met_rows known root) i));
   in_order = (unfolds known root trees none).in_order;
 }

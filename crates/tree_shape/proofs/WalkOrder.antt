@@ -8,13 +8,12 @@ use Rattle.text_model.proofs.OrderLemmas.{is_below-irreflexive, is_below-one_way
 use Rattle.git_model.specs.Tree.{is_directory}
 use Rattle.git_model.specs.Unfold.{FileRow, is_met_before, by_walk, by_paths}
 use Rattle.git_model.specs.Shape.{first_clash, clash_from, root_of, trees_of}
-use Rattle.text_model.proofs.Elements.{each_in as each-of, each_from as each-by}
+use Rattle.text_model.proofs.Elements.{each_in as each-of, each_from as each-by, in_right, each_in, each_from}
 use Rattle.git_model.proofs.SortLemmas.{Ascends, Distinct, rises-ascends, ascends-distinct, order-ascends, order-is, in-order, of-order}
 use Rattle.tree_shape.specs.Shapes.{shorts, Before, Good, id_of_rows, trees_of_rows}
 use Rattle.tree_shape.specs.Sets.{IsFileRow, IsFiles}
 use Rattle.tree_shape.specs.Orders.{met_path, Same}
 use Rattle.tree_shape.proofs.AnyOrder.{OnePath, root-any_order, trees-any_order}
-use Rattle.tree_shape.proofs.Elements.{each-in, each-from, in-right}
 use Rattle.tree_shape.proofs.FileSets.{lies-true, no-clash, clash-rest, later, rises-rest, fit-file}
 use Rattle.tree_shape.proofs.Rows.{above, in-lies, dir-end}
 
@@ -47,7 +46,7 @@ none-below rows up none a b i j = from 0 [] rows none up a b i j
             | inr v ↦ ap (λ (z : FileRow). lies_below z.path b.path) p ∙ front row.path b.path (later row rows b up v) (lies_below row.path b.path) refl
           ]
           | inr u ↦ elim j [
-            | inl q ↦ ap (λ (z : FileRow). lies_below a.path z.path) q ∙ no-clash (at + 1) (before ++ row ∷ []) rows rest row a (in-right row before (row ∷ []) (inl refl)) u
+            | inl q ↦ ap (λ (z : FileRow). lies_below a.path z.path) q ∙ no-clash (at + 1) (before ++ row ∷ []) rows rest row a (in_right row before (row ∷ []) (inl refl)) u
             | inr v ↦ from (at + 1) (before ++ row ∷ []) rows rest (rises-rest row rows up) a b u v
           ]
         ]
@@ -119,8 +118,8 @@ module _ (rows : List FileRow) (f : IsFiles rows) (none : first_clash rows ≡ N
   good-by : (xs : List FileRow) → ((x : FileRow) → In x xs → In x rows) → Ascends met_path xs → Good xs
   good-by [] among up = tt
   good-by (x ∷ xs) among up = (
-    let is = each-in IsFileRow rows x f.each (among x (inl refl)) in fit-file x is.fit is.empty,
-    each-from (Before x) xs (λ y i.
+    let is = each_in IsFileRow rows x f.each (among x (inl refl)) in fit-file x is.fit is.empty,
+    each_from (Before x) xs (λ y i.
         let below : is_met_before x y ≡ true = each-of (λ y. is_below (met_path x) (met_path y) ≡ true) xs y up.0 i in
         record {
           below = below;

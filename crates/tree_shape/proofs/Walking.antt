@@ -9,6 +9,7 @@ use Rattle.text_model.specs.Text.{Bytes}
 use Rattle.text_model.specs.Id.{Id}
 use Rattle.text_model.specs.Path.{components, is_fit_path}
 use Rattle.text_model.proofs.EachLemmas.{Each-weaker}
+use Rattle.text_model.proofs.Elements.{each_in, each_from}
 use Rattle.git_model.specs.Tree.{is_directory, TreeEntry}
 use Rattle.git_model.specs.Object.{Object, tree_at, AreObjects}
 use Rattle.git_model.specs.Unfold.{FileRow, joined_path, visits, visit_fault, first_visit_fault, has_no_entries, is_row, is_object_there, row_size, rows_limit, walk, walk_fault, met_rows, tree_rows, by_walk, by_paths, is_met_before}
@@ -19,7 +20,7 @@ use Rattle.tree_shape.specs.Laws.{AreKnown, AreWalkable}
 use Rattle.tree_shape.specs.Sets.{IsFileRow}
 use Rattle.tree_shape.specs.Shapes.{entries_in, id_of_rows, trees_of_rows, Good}
 use Rattle.tree_shape.specs.Walks.{row_at, entry_visits, size_after}
-use Rattle.tree_shape.proofs.Elements.{each-in, each-from, in-flat, of-flat, in-filter}
+use Rattle.tree_shape.proofs.Elements.{in-flat, of-flat, in-filter}
 use Rattle.tree_shape.proofs.FitPieces.{fit-pieces}
 use Rattle.tree_shape.proofs.Names.{IsName, joined-some, same-components}
 use Rattle.tree_shape.proofs.WalkLemmas.{next, fault-cons, walk-fault}
@@ -138,7 +139,7 @@ module _ (known : List Object) (are : AreObjects known) where
       by rec =
           let from = of-flat (entry_visits known depth path) entries v (subst (λ (vs : List FileRow). In v vs) (visits-suc known depth path id entries s.0) i) in
           let e = from.0 in
-          let b : Below (Sound known depth) e = each-in (Below (Sound known depth)) entries e s.1 from.1 in
+          let b : Below (Sound known depth) e = each_in (Below (Sound known depth)) entries e s.1 from.1 in
           elim from.2 [
             | inl q ↦
                 let l : is_leaf known e ≡ false = sym (ap (is_row known) q) ∙ d in
@@ -237,7 +238,7 @@ module _ (known : List Object) (rows : List FileRow) (w : AreWalkable known rows
   walked = by_walk rows
 
   files : Each IsFileRow walked
-  files = each-from IsFileRow walked (λ r i. each-in IsFileRow rows r w.files.each (of-order is_met_before r rows i))
+  files = each_from IsFileRow walked (λ r i. each_in IsFileRow rows r w.files.each (of-order is_met_before r rows i))
 
   good : Good walked
   good = walk-good rows w.files w.apart
@@ -266,11 +267,11 @@ module _ (known : List Object) (rows : List FileRow) (w : AreWalkable known rows
   passing v i = record {
     rows = λ r size le.
         let j = among v i r in
-        let f = each-in IsFileRow rows v w.files.each j in
-        row-none known size v f.fit (each-in (λ row. is_object_there known row ≡ true) rows v w.objects_there j) (within size (row_size v) le);
+        let f = each_in IsFileRow rows v w.files.each j in
+        row-none known size v f.fit (each_in (λ row. is_object_there known row ≡ true) rows v w.objects_there j) (within size (row_size v) le);
     dirs = λ r size.
         let n = inside known w.objects 257 [] (id_of_rows 257 walked) (entries_in 256 (leaves walked)) whole v i r in
-        let f = each-in IsFileRow rows n.behind.row w.files.each (among n.behind.row n.behind.in_them n.behind.is_one) in
+        let f = each_in IsFileRow rows n.behind.row w.files.each (among n.behind.row n.behind.in_them n.behind.is_one) in
         let fit = (fit-pieces v.path n.behind.rest (sym (ap is_fit_path n.behind.is) ∙ f.fit)).first in
         dir-none known size v fit (dir-there known v n.subtree (row-or-dir known v r) n.is) r;
   }
@@ -280,4 +281,4 @@ module _ (known : List Object) (rows : List FileRow) (w : AreWalkable known rows
       let small : size_after known 0 (walk known (id_of_rows 257 walked)) ≤ rows_limit =
       omega (arith, w.within, size-sum known 0 (walk known (id_of_rows 257 walked)), ap (λ (rs : List FileRow). sum_by row_size rs) (ap (met_rows known) (sym root_is) ∙ met-again), sum-order is_met_before rows) in
       ap (walk_fault known) root_is ∙ walk-fault known (id_of_rows 257 walked) (entries_in 256 (leaves walked)) whole.0
-      ∙ none-refused known 0 (walk known (id_of_rows 257 walked)) (each-from (Passing known) (walk known (id_of_rows 257 walked)) (λ v i. passing v i)) small
+      ∙ none-refused known 0 (walk known (id_of_rows 257 walked)) (each_from (Passing known) (walk known (id_of_rows 257 walked)) (λ v i. passing v i)) small

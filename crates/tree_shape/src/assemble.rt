@@ -15,12 +15,12 @@ use crate::file_row::FileRow;
 use crate::files::Files;
 use crate::sorting::{by_walk, has_directory};
 use crate::tree_item::{TreeItem, TreeList, Trees};
-use bridge_text::{Bytes, Id, Kind, NoMemory, cut_at, object_id};
+use bridge_text::{Bytes, COMPONENT_LIMIT, Id, Kind, NoMemory, cut_at, object_id};
 use git_object::Mode;
 use std::alloc::Global;
 
-/// The levels of directories in which a file of a fit path can lie, the root among them, and one more.
-pub const LEVELS: usize = 257;
+/// How many trees lie on the way to a file of a root tree at most, the root among them.
+pub const LEVELS: usize = COMPONENT_LIMIT + 1;
 
 /// The path of a row without its first `skip` bytes.
 pub fn rest_of(row: &FileRow, skip: usize) -> &[u8]

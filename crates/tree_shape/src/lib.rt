@@ -24,4 +24,4 @@ pub use leaf::{is_empty_tree, is_leaf};
 pub use sorting::{by_paths, by_walk, has_directory};
 pub use tree_item::{TreeItem, TreeList, Trees};
 pub use unfold::flatten;
-pub use walk::{MOST_NAMES, push_name};
+pub use walk::push_name;

@@ -11,8 +11,8 @@ use crate::fault::TreeFault;
 use crate::file_row::FileRow;
 use crate::files::Files;
 use crate::sorting::{by_paths, has_directory};
-use crate::walk::{MOST_NAMES, Walk, visit_tree};
-use bridge_text::{Id, NoMemory};
+use crate::walk::{Walk, visit_tree};
+use bridge_text::{COMPONENT_LIMIT, Id, NoMemory};
 use git_object::Objects;
 use std::alloc::Global;
 
@@ -30,7 +30,7 @@ pub fn flatten<G: Objects>(alloc: Global, store: &G, root: &Id) -> Result<Files,
         return Err(TreeFault::ObjectUnknown(*root));
     };
     let mut walk = Walk::new(alloc);
-    visit_tree(alloc, store, tree, MOST_NAMES, &mut walk)?;
+    visit_tree(alloc, store, tree, COMPONENT_LIMIT, &mut walk)?;
     let rows = rows_by_paths(alloc, walk.into_rows())?;
     Ok(Files::keep(rows))
 }

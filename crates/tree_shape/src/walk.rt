@@ -10,18 +10,9 @@ ghost use Rattle.tree_shape.specs.Walks.{row_at, refused, entries_visits, IsFron
 
 use crate::fault::TreeFault;
 use crate::file_row::FileRow;
-use bridge_text::{Bytes, Id, Kind, NoMemory};
+use bridge_text::{Bytes, Id, Kind, NoMemory, PATH_LIMIT, ROWS_LIMIT};
 use git_object::{Objects, Tree, TreeEntry};
 use std::alloc::Global;
-
-/// The most names of a fit path.
-pub const MOST_NAMES: usize = 256;
-
-/// The most bytes of a fit path.
-const MOST_BYTES: usize = 4096;
-
-/// The most that the sizes of the rows may be together.
-const LIMIT: usize = 1 << 26;
 
 /// What a walk has come to.
 #[derive(Drop)]
@@ -166,7 +157,7 @@ fn grown(size: usize, path_len: usize) -> Option<usize>
     ensures { MatchOption result (nat_lt rows_limit (size + (path_len + 42)) ≡ true)
         (λ n. (nat_lt rows_limit (size + (path_len + 42)) ≡ false) × (n ≡ size + (path_len + 42))) }
 {
-    let room = LIMIT - size;
+    let room = ROWS_LIMIT - size;
     if path_len > room || room - path_len < 42 {
         None
     } else {
@@ -178,7 +169,7 @@ fn grown(size: usize, path_len: usize) -> Option<usize>
 fn is_short(levels: usize, path: &[u8]) -> bool
     ensures { result ≡ (nat_lt 0 levels && nat_le (length path.now) 4096) }
 {
-    levels > 0 && path.len() <= MOST_BYTES
+    levels > 0 && path.len() <= PATH_LIMIT
 }
 
 /// Walks through a tree, below which so many levels of names may stand, and appends its rows.

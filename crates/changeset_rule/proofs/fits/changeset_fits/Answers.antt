@@ -1,10 +1,7 @@
-use Rattle.std.proofs.Common.{Result, Ok, Err, IfOk, true≢false, sym, ◌∙◌}
+use Rattle.std.proofs.Common.{true≢false, sym, ◌∙◌}
+use Rattle.std.proofs.lemmas.Result.{IfOk-weaker}
 use Rattle.changeset_rule.proofs.FitsLemmas.{fresh-short, rows-short}
 use Rattle.changeset_rule.proofs.fits.changeset_fits.Goals as goal
-
-if_weaker : {A B : Type 0} (r : Result A B) (P Q : A → Type 0) → ((a : A) → P a → Q a) → IfOk r P → IfOk r Q
-if_weaker (Ok a) P Q f h = f a h
-if_weaker (Err e) P Q f h = tt
 
 pub returns-then-not-files_fit : goal.returns-then-not-files_fit
 returns-then-not-files_fit c = λ v made. (
@@ -14,7 +11,7 @@ returns-then-not-files_fit c = λ v made. (
 
 pub returns : goal.returns
 returns c =
-    if_weaker c.text_fits.result _ _ (λ fits h v made.
+    IfOk-weaker c.text_fits.result _ _ (λ fits h v made.
     let t = h v (made.draft).texts (made.draft).fields in (
       (λ e. record {
         text = t.0 e;

@@ -1,10 +1,10 @@
 use Rattle.std.proofs.Common.{◌≡◌, ◌<◌, ℕ, List, Some, true≢false, length, map, get_or, sym, ap, ◌∙◌, arith}
 use Rattle.std.specs.Prelude.{slice_get}
 use Rattle.std.proofs.lemmas.Option.{slice_get-get_or}
+use Rattle.text_model.proofs.Elements.{each_at}
 use Rattle.hg_model.specs.Revision.{Revision}
 use Rattle.pair_known.specs.Fresh.{fresh_revision}
 use Rattle.pair_known.specs.declared.fresh_files.FreshFile.{FreshFile}
-use Rattle.pair_known.proofs.HeldViews.{each_get}
 use Rattle.manifest_rule.proofs.ManifestLemmas.{get-map}
 use Rattle.changeset_rule.proofs.FitsLemmas.{IsShort, each-more}
 use Rattle.changeset_rule.proofs.fits.files_fit.Goals as goal
@@ -18,7 +18,7 @@ pub returns-then-len-gt-TEXT_LIMIT : goal.returns-then-len-gt-TEXT_LIMIT
 returns-then-len-gt-TEXT_LIMIT c =
     let at = file-at c.args.fresh.now c.as_slice-file-items.result.now c.loop-file.file-index c.file-item.result c.as_slice-file-items.ensures c.loop-file-test.true c.file-item.is in (
       (λ e. absurd (true≢false (sym e))),
-      (λ all. absurd (omega (arith, each_get IsShort c.args.fresh.now c.loop-file.file-index (fresh_revision c.file-item.result) at all, c.len.ensures, c.if-len-gt-TEXT_LIMIT.true))),
+      (λ all. absurd (omega (arith, each_at IsShort c.args.fresh.now c.loop-file.file-index (fresh_revision c.file-item.result) at all, c.len.ensures, c.if-len-gt-TEXT_LIMIT.true))),
     )
 
 pub loop-file-preserved : goal.loop-file-preserved

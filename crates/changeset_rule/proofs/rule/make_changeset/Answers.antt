@@ -9,7 +9,7 @@ parent_of-first-requires c =
     let v = c.requires.over.1 in
     let over = c.requires.over.2 in
     let few = few-of c.args.known.now blocks c.args.c.now v over c.requires.few in
-    record { known = ((parents_of_commit blocks v).first, first-there c.args.known.now blocks c.args.c.now v over few c.check.ensures _ (c.parents_of-p1.ensures blocks v over).0) }
+    record { known = ((parents_of_commit blocks v).first, first-there c.args.known.now blocks c.args.c.now v over few over.history.added _ (c.parents_of-p1.ensures blocks v over).0) }
 
 pub parent_of-second-requires : goal.parent_of-second-requires
 parent_of-second-requires c =
@@ -17,13 +17,13 @@ parent_of-second-requires c =
     let v = c.requires.over.1 in
     let over = c.requires.over.2 in
     let few = few-of c.args.known.now blocks c.args.c.now v over c.requires.few in
-    record { known = ((parents_of_commit blocks v).second, second-there c.args.known.now blocks c.args.c.now v over few c.check.ensures _ (c.parents_of-p1.ensures blocks v over).1) }
+    record { known = ((parents_of_commit blocks v).second, second-there c.args.known.now blocks c.args.c.now v over few over.history.added _ (c.parents_of-p1.ensures blocks v over).1) }
 
 pub returns : goal.returns
 returns c = λ blocks v over.
     let k = c.args.known.now in
     let d = c.args.c.now in
-    let added = c.check.ensures in
+    let added = over.history.added in
     let few = few-of k blocks d v over c.requires.few in
     let nodes = c.parents_of-p1.ensures blocks v over in
     let ps = parents_of_commit blocks v in

@@ -11,4 +11,4 @@ returns-clause-ok c = λ blocks v over.
     let k = c.args.known.now in
     let few = few-of k blocks c.args.c.now v over c.requires.few in
     let made = c.in_ok-changeset.ensures blocks v over in
-    ruled k blocks c.args.c.now v over few c.check.ensures c.check-2.ensures _ made ((c.in_ok-changeset_fits.ensures _ made).0 c.if-not-branch.false)
+    ruled k blocks c.args.c.now v over few over.history.added over.history.partners _ made ((c.in_ok-changeset_fits.ensures _ made).0 c.if-not-branch.false)

@@ -1,11 +1,11 @@
 use Rattle.std.proofs.Common.{sym, ap, subst, ◌∙◌}
 use Rattle.text_model.specs.Text.{Bytes}
+use Rattle.text_model.proofs.Options.{none_some}
 use Rattle.hg_model.specs.FileText.{IsFileText}
 use Rattle.hg_model.specs.Revision.{FilesAt, revision_of}
 use Rattle.hg_store.specs.Known.{text_of}
 use Rattle.pair_known.specs.Rows.{RowValue}
 use Rattle.pair_known.specs.Fresh.{fresh_revision}
-use Rattle.pair_known.proofs.HeldViews.{none_some}
 use Rattle.commit_rule.proofs.BlobLemmas.{brought-text, stored-there, stored-text}
 use Rattle.commit_rule.proofs.fresh.text_of.Goals as goal
 

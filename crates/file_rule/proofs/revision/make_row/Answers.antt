@@ -1,6 +1,7 @@
 use Rattle.std.proofs.Common.{◌≡◌, ◌++◌, Option, Result, Ok, Err, IfOk, refl, sym, ap, subst, ◌∙◌}
 use Rattle.std.specs.Prelude.{option_map}
 use Rattle.std.specs.Option.{option_or, option_copied}
+use Rattle.std.proofs.lemmas.Result.{IfOk-weaker}
 use Rattle.text_model.specs.Id.{Id}
 use Rattle.git_model.specs.Unfold.{FileRow}
 use Rattle.hg_manifest.specs.Values.{manifest_entry}
@@ -10,10 +11,6 @@ use Rattle.file_rule.specs.Parents.{row_with}
 use Rattle.file_rule.specs.Made.{IsMadeRow, IsRowOf}
 use Rattle.file_rule.proofs.RowLemmas.{kept-ruled, not-kept}
 use Rattle.file_rule.proofs.revision.make_row.Goals as goal
-
-if_weaker : {A B : Type 0} (r : Result A B) (P Q : A → Type 0) → ((a : A) → P a → Q a) → IfOk r P → IfOk r Q
-if_weaker (Ok a) P Q f h = f a h
-if_weaker (Err e) P Q f h = tt
 
 -- where none is kept the rule gives a new revision
 new_is : (c : goal.After-new_row) (r s : Option FileRevision) (t : TreeRow)
@@ -25,7 +22,7 @@ new_is c r s t is =
 
 pub returns-in_default-clause-ok : goal.returns-in_default-clause-ok
 returns-in_default-clause-ok c =
-    if_weaker c.new_row.result _ _ (λ made h r s t is. subst (λ (x : FileRevision). IsMadeRow c.args.known.now.hg made (row_with c.args.file.now.path (rule.flag_of_mode c.args.file.now.mode) x)) (sym (new_is c r s t is)) (h r s t is)) c.new_row.ensures.ok
+    IfOk-weaker c.new_row.result _ _ (λ made h r s t is. subst (λ (x : FileRevision). IsMadeRow c.args.known.now.hg made (row_with c.args.file.now.path (rule.flag_of_mode c.args.file.now.mode) x)) (sym (new_is c r s t is)) (h r s t is)) c.new_row.ensures.ok
 
 pub returns-clause-ok : goal.returns-clause-ok
 returns-clause-ok c = λ r s t is.

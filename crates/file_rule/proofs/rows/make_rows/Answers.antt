@@ -29,7 +29,7 @@ make_row-requires c =
 pub push-requires : goal.push-requires
 push-requires c =
     let at = file-at c.args.c.now.files c.as_slice-files.result.now c.loop-file.file-index c.file-item.result c.as_slice-files.ensures.rows c.loop-file-test.true c.file-item.is in
-    fresh-rises c.loop-file.ruled.fresh c.in_ok-made.made.fresh c.file-item.result.path c.check.ensures (ahead-here c.args.c.now.files c.as_slice-files.ensures.files.in_order c.loop-file.file-index c.file-item.result at c.loop-file.ruled.fresh c.loop-file.invariant.ahead)
+    fresh-rises c.loop-file.ruled.fresh c.in_ok-made.made.fresh c.file-item.result.path c.loop-file.invariant.rises (ahead-here c.args.c.now.files c.as_slice-files.ensures.files.in_order c.loop-file.file-index c.file-item.result at c.loop-file.ruled.fresh c.loop-file.invariant.ahead)
     (fresh-path c.args.known.now.hg c.file-item.result.path c.in_ok-made.made.fresh c.in_ok-made.ensures.fresh)
 
 pub loop-file-preserved : goal.loop-file-preserved
@@ -46,6 +46,7 @@ loop-file-preserved c =
       first_seen = c.get-in_first.ensures.same ∙ c.loop-file.invariant.first_seen;
       second_seen = c.get-in_second.ensures.same ∙ c.loop-file.invariant.second_seen;
       ahead = subst (IsAhead files (i + 1)) (sym c.in_ok-push.ensures.fresh) (ahead-more files up i file at c.loop-file.ruled.fresh made.fresh c.loop-file.invariant.ahead (fresh-path known file.path made.fresh c.in_ok-made.ensures.fresh));
+      rises = c.in_ok-push.ensures.rises;
       new = subst (Each (λ r. knows_same known r ≡ false)) (sym c.in_ok-push.ensures.fresh) (all-new known file.path c.loop-file.ruled.fresh made.fresh c.loop-file.invariant.new c.in_ok-made.ensures.fresh);
       ruled = λ ps ts are.
           one_more known objects files c.args.first.now c.args.second.now ps ts are i file at (blob-file c.file-item.result.mode c.is_blob.result (ap is_blob_mode (sym c.mode.ensures) ∙ sym c.is_blob.ensures) (cc c.if-not-is_blob.false)) up c.get-in_first.result c.get-in_second.result (seen (c.args.first.now.manifest).now c.loop-file.first_walk _ _ _ c.loop-file.invariant.first_seen c.path.ensures c.get-in_first.ensures.entry) (seen (c.args.second.now.manifest).now c.loop-file.second_walk _ _ _ c.loop-file.invariant.second_seen c.path-in-loop-file.ensures c.get-in_second.ensures.entry) c.loop-file.ruled c.push.new.self made c.in_ok-push.ensures.rows c.in_ok-push.ensures.fresh
@@ -67,6 +68,7 @@ loop-file-preserved-then-not-is_blob c =
       first_seen = c.loop-file.invariant.first_seen;
       second_seen = c.loop-file.invariant.second_seen;
       ahead = ahead-past files c.as_slice-files.ensures.files.in_order i file at c.loop-file.ruled.fresh c.loop-file.invariant.ahead;
+      rises = c.loop-file.invariant.rises;
       new = c.loop-file.invariant.new;
       ruled = λ ps ts are. past c.args.known.now.hg (c.args.c.now.fresh ++ c.args.known.now.git) files c.args.first.now c.args.second.now ps ts c.loop-file.ruled are i file at other (c.loop-file.invariant.ruled ps ts are);
     }

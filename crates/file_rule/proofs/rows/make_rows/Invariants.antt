@@ -2,6 +2,7 @@ use Rattle.std.proofs.Common.{◌≡◌, ◌++◌, false, List, take}
 use Rattle.text_model.specs.Lists.{Each}
 use Rattle.hg_store.specs.Known.{knows_same}
 use Rattle.view_model.specs.View.{TreeRow}
+use Rattle.pair_known.specs.Fresh.{AreFreshFiles}
 use Rattle.pair_model.specs.Block.{Parents}
 use Rattle.file_rule.specs.Rows.{AreRows, AreMadeRows}
 use Rattle.file_rule.proofs.RowsLoop.{IsAhead}
@@ -14,6 +15,7 @@ invariant-loop-file l = record {
   first_seen : l.first_walk ≡ (l.first.manifest).now;
   second_seen : l.second_walk ≡ (l.second.manifest).now;
   ahead : IsAhead l.c.files l.file-index l.ruled.fresh;
+  rises : AreFreshFiles l.ruled.fresh;
   new : Each (λ r. knows_same l.known.hg r ≡ false) l.ruled.fresh;
   ruled : (ps : Parents) (ts : List TreeRow) → AreRows l.known.hg (l.c.fresh ++ l.known.git) l.c.files l.first l.second ps ts → AreMadeRows l.known.hg l.ruled ps (take l.file-index ts);
 }

@@ -1,6 +1,7 @@
 use Rattle.std.proofs.Common.{sym}
+use Rattle.std.proofs.lemmas.Bool.{and_right, and_left}
 use Rattle.bridge_text.specs.Kinds.{object_kind}
-use Rattle.git_batch.proofs.HeaderLemmas.{Said, said, refused, refused_over, refused_huge, refused_kind, no_form, no_kind, no_size, no_id, header_is, text_is}
+use Rattle.git_batch.proofs.HeaderLemmas.{Said, said, refused, refused_over, refused_huge, refused_kind, no_form, no_id, header_is, text_is}
 use Rattle.git_batch.proofs.header.header_of.Goals.{then-not-is_kind_word-via-then-not-is_kind_word, then-not-is_kind_word-via-else-not-is_kind_word+then-not-is_decimal}
 use Rattle.git_batch.proofs.header.header_of.Goals as goal
 
@@ -8,8 +9,8 @@ pub returns-then-not-is_kind_word-clause-reads : goal.returns-then-not-is_kind_w
 returns-then-not-is_kind_word-clause-reads c =
     no_form c.args.at c.args.text.now _ _ _ c.in-Some.ensures
     (elim c.then-not-is_kind_word.branch [
-      | then-not-is_kind_word-via-then-not-is_kind_word w ↦ no_kind _ _ (sym w.if-not-is_kind_word.ensures)
-      | then-not-is_kind_word-via-else-not-is_kind_word+then-not-is_decimal w ↦ no_size _ _ (sym w.if-not-is_decimal.ensures)
+      | then-not-is_kind_word-via-then-not-is_kind_word w ↦ and_left _ _ (sym w.if-not-is_kind_word.ensures)
+      | then-not-is_kind_word-via-else-not-is_kind_word+then-not-is_decimal w ↦ and_right _ _ (sym w.if-not-is_decimal.ensures)
     ])
 
 pub returns-in_default-from_hex-clause-reads : goal.returns-in_default-from_hex-clause-reads

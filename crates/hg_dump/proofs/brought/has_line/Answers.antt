@@ -2,7 +2,7 @@ use Rattle.std.proofs.Common.{◌≡◌, ◌&&◌, Bool, true, false, List, [], 
 use Rattle.std.specs.Prelude.{bytes_eq}
 use Rattle.std.specs.Bool.{OnTrue}
 use Rattle.text_model.proofs.Options.{none_some, some_is}
-use Rattle.hg_model.proofs.RevisionLemmas.{bytes_eq-sym}
+use Rattle.text_model.proofs.TestLemmas.{bytes_eq-sym}
 use Rattle.hg_model.specs.Manifest.{ManifestEntry}
 use Rattle.hg_manifest.specs.Values.{manifest_entry}
 use Rattle.hg_dump.specs.State.{HasLine}

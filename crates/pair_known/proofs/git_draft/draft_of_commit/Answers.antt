@@ -1,14 +1,12 @@
 use Rattle.std.proofs.Common.{◌≡◌, Option, Some, None, sym, ap, subst, ◌∙◌}
 use Rattle.std.specs.Prelude.{option_map}
 use Rattle.text_model.specs.Fault.{FaultName}
+use Rattle.text_model.proofs.Options.{none_some}
 use Rattle.git_model.specs.Unfold.{WalkFault, walk_fault}
 use Rattle.tree_shape.specs.Faults.{IsTreeFault}
 use Rattle.tree_shape.specs.declared.fault.TreeFault.{TreeFault}
 use Rattle.pair_known.proofs.HeldCommits.{held-at}
 use Rattle.pair_known.proofs.git_draft.draft_of_commit.Goals as goal
-
-none_some : {X : Type 0} {x : X} → None ≡ Some x → ⊥
-none_some e = cc
 
 none_name : (why : Option WalkFault) (name : FaultName) → why ≡ None → option_map (λ (w : WalkFault). w.name) why ≡ Some name → ⊥
 none_name why name none is = none_some (sym (ap (option_map (λ (w : WalkFault). w.name)) none) ∙ is)

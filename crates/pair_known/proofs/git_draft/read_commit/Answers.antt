@@ -5,6 +5,7 @@ use Rattle.text_model.specs.Lists.{Each}
 use Rattle.text_model.specs.Text.{Bytes}
 use Rattle.text_model.specs.Id.{Id, ObjectKind, commit, same_kind}
 use Rattle.text_model.specs.Fault as fault
+use Rattle.text_model.proofs.Options.{some_is, none_some}
 use Rattle.git_model.specs.Object.{Object, object_at, content_fault}
 use Rattle.git_model.proofs.OneTextLemmas.{one_commit}
 use Rattle.git_model.specs.Commit.{commit_fault}
@@ -12,11 +13,7 @@ use Rattle.git_object.specs.declared.fault.CommitFault.{CommitFault}
 use Rattle.git_object.specs.Faults.{IsCommitFault}
 use Rattle.git_store.specs.Known.{content_of, IsSound}
 use Rattle.git_store.proofs.KnownLemmas.{found-sound, same_kind-is}
-use Rattle.pair_known.proofs.HeldViews.{some_is}
 use Rattle.pair_known.proofs.git_draft.read_commit.Goals as goal
-
-none_some : {X : Type 0} {x : X} → None ≡ Some x → ⊥
-none_some e = cc
 
 -- the content that was found is that of the commit
 one_content : (found : Option Object) (kind : ObjectKind) (content held : Bytes) → Some (kind, content) ≡ option_map {U = ObjectKind × Bytes} (λ (o : Object). (o.kind, o.content)) found
@@ -47,7 +44,7 @@ is_commit known id kind content held e h sound = by (object_at known id) refl e 
 
 pub unreachable-requires : goal.unreachable-requires
 unreachable-requires c =
-    let none = is_commit c.args.store.now c.args.id.now _ _ _ (sym (ap (option_map {U = ObjectKind × List ℕ} (λ x. (object_kind x.0, x.1.now))) c.unwrap.ensures) ∙ c.content.ensures.content) c.requires.held.1 c.check.ensures.sound in
+    let none = is_commit c.args.store.now c.args.id.now _ _ _ (sym (ap (option_map {U = ObjectKind × List ℕ} (λ x. (object_kind x.0, x.1.now))) c.unwrap.ensures) ∙ c.content.ensures.content) c.requires.held.1 c.content.ensures.known.sound in
     let fault = subst (λ (e : CommitFault). IsCommitFault c.unwrap.result.1.now e) c.in-Err-Shape.field-0-is c.in-Err-Shape.ensures.fault in
     none_some (sym none ∙ fault)
 

@@ -1,12 +1,12 @@
 use Rattle.std.proofs.Common.{◌≡◌, sym, ap, subst, ◌∙◌}
 use Rattle.std.specs.Prelude.{option_map}
 use Rattle.text_model.specs.Text.{Bytes}
+use Rattle.text_model.proofs.Options.{none_some, some_is}
 use Rattle.hg_model.specs.Changeset.{IsChangesetText}
 use Rattle.hg_model.specs.Revision.{Revision}
 use Rattle.hg_model.proofs.ChangesetLemmas.{one_changeset, changeset_fault-text}
 use Rattle.hg_changeset.specs.declared.fault.ChangesetFault.{ChangesetFault}
 use Rattle.hg_changeset.specs.Values.{changeset_value, IsFault}
-use Rattle.pair_known.proofs.HeldViews.{some_is, none_some}
 use Rattle.pair_known.proofs.hg_draft.read_changeset.Goals as goal
 
 pub unreachable-requires : goal.unreachable-requires

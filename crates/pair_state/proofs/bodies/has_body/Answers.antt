@@ -15,7 +15,7 @@ returns-clause-yes c = λ t x asked.
     let known = c.args.known.now in
     let v = c.row.view_is ∙ value-is known.hg known.git c.args.row.now x asked in
     let text = sym (ap (option_map (λ t. t.now)) c.unwrap-text.ensures) ∙ c.file_text.ensures.value ∙ (λ i. text_of known.hg (FilesAt ((c.as_slice.ensures ∙ ap (λ (r : RowValue). r.path) v) i)) (ap (λ (r : RowValue). r.node) v i)) in
-    let body = body-is known.hg x c.unwrap-text.result.now _ c.in-Ok.body.now c.splits_exactly.ensures.one asked.held.0 text c.in-Ok.ensures.ok in
+    let body = body-is known.hg x c.unwrap-text.result.now _ c.in-Ok.body.now c.in-Ok.ensures.only asked.held.0 text in
     is-body known.git x (object_kind c.in-Some.kind) c.in-Some.content.now c.in-Ok.body.now body
     (c.in-Some.ensures.content ∙ (λ i. option_map {U = ObjectKind × Bytes} (λ (o : Object). (o.kind, o.content)) (object_at known.git (ap (λ (r : RowValue). r.blob) v i)))) (sym c.is_blob_of.ensures ∙ t)
 
@@ -24,6 +24,6 @@ returns-clause-otherwise c = λ t x asked.
     let known = c.args.known.now in
     let v = c.row.view_is ∙ value-is known.hg known.git c.args.row.now x asked in
     let text = sym (ap (option_map (λ t. t.now)) c.unwrap-text.ensures) ∙ c.file_text.ensures.value ∙ (λ i. text_of known.hg (FilesAt ((c.as_slice.ensures ∙ ap (λ (r : RowValue). r.path) v) i)) (ap (λ (r : RowValue). r.node) v i)) in
-    let body = body-is known.hg x c.unwrap-text.result.now _ c.in-Ok.body.now c.splits_exactly.ensures.one asked.held.0 text c.in-Ok.ensures.ok in
+    let body = body-is known.hg x c.unwrap-text.result.now _ c.in-Ok.body.now c.in-Ok.ensures.only asked.held.0 text in
     is-else known.git x (object_kind c.in-Some.kind) c.in-Some.content.now c.in-Ok.body.now body
     (c.in-Some.ensures.content ∙ (λ i. option_map {U = ObjectKind × Bytes} (λ (o : Object). (o.kind, o.content)) (object_at known.git (ap (λ (r : RowValue). r.blob) v i)))) (sym c.is_blob_of.ensures ∙ t)

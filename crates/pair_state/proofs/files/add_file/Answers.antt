@@ -1,11 +1,11 @@
 use Rattle.std.proofs.Common.{◌≡◌, ◌≤◌, true, ◌∷◌, [], length, sym, ap, subst, ◌∙◌}
+use Rattle.std.proofs.lemmas.Result.{on_ok_weaker}
 use Rattle.text_model.specs.Text.{Bytes}
 use Rattle.hg_model.specs.Revision.{Revision, FilesAt, revision_of}
 use Rattle.hg_store.specs.Known.{HasBlob, text_limit}
 use Rattle.pair_known.specs.Rows.{RowValue}
 use Rattle.pair_state.specs.Came.{is_bad, IsReady, HaveCome}
 use Rattle.pair_state.proofs.FileLemmas.{file-ready, file-blob, fresh-whole, file-known}
-use Rattle.pair_state.proofs.GrowthLemmas.{on-ok}
 use Rattle.pair_state.proofs.files.add_file.Goals as goal
 
 pub returns-in-None-clause-ok : goal.returns-in-None-clause-ok
@@ -44,7 +44,7 @@ add_revision-requires-clause-short c =
 
 pub returns-clause-ok : goal.returns-clause-ok
 returns-clause-ok c =
-    on-ok c.add_revision.result (λ come x a.
+    on_ok_weaker c.add_revision.result (λ come x a.
     let v = c.args.row.now in
     let path = c.as_slice-path.ensures ∙ ap (λ (w : RowValue). w.path) c.row.view_is in
     let node = ap (λ (w : RowValue). w.node) c.row.view_is in

@@ -1,12 +1,13 @@
 use Rattle.std.proofs.Common.{◌∷◌, [], Err, map, take_all, length, arith, sym, ap, subst, ◌∙◌}
 use Rattle.std.proofs.lemmas.List.{length-map}
 use Rattle.std.proofs.lemmas.Result.{err_from_is_err_and}
+use Rattle.text_model.proofs.Elements.{map_take_push}
 use Rattle.view_model.specs.Dump.{file_revision}
 use Rattle.pair_known.specs.Rows.{row_value}
 use Rattle.pair_state.specs.Came.{HaveCome, HasBad}
 use Rattle.pair_state.proofs.BodyLemmas.{value-at}
 use Rattle.pair_state.proofs.CameLemmas.{come-none, come-more, bad-one, bad-front, bad-rest}
-use Rattle.pair_state.proofs.FileLemmas.{map-at, take-at, asked-row, asked-file, asked-on}
+use Rattle.pair_state.proofs.FileLemmas.{map-at, asked-row, asked-file, asked-on}
 use Rattle.pair_state.proofs.GrowthLemmas.{errs}
 use Rattle.pair_state.proofs.files.add_files.Goals as goal
 
@@ -34,7 +35,7 @@ loop-row-preserved c = λ base k a.
     let at = value-at d.rows c.as_slice-list.result.now i v c.as_slice-list.ensures c.loop-row-test.true c.row-item.is in
     let now = asked-on base c.args.hg.now d c.args.link k a c.loop-row.hg _ (c.loop-row.invariant base k a) in
     let x = asked-row base c.args.hg.now d c.args.link k a i v at in
-    subst (HaveCome c.args.hg.now c.add_file.new.hg) (sym (take-at (file_revision c.args.link) k.rows i x.row x.at))
+    subst (HaveCome c.args.hg.now c.add_file.new.hg) (sym (map_take_push (file_revision c.args.link) k.rows i x.row x.at))
     (come-more c.args.hg.now c.loop-row.hg c.add_file.new.hg _ _ (c.loop-row.invariant base k a) (c.in_ok-add_file.ensures.ok x.row (asked-file base c.loop-row.hg d c.args.link k now i v x)))
 
 pub returns-in_err-add_file-clause-collision : goal.returns-in_err-add_file-clause-collision

@@ -2,7 +2,7 @@ use Rattle.std.proofs.Common.{◌∷◌, [], ◌++◌, Err, sym, ap, subst, ◌�
 use Rattle.std.proofs.lemmas.Result.{err_from_is_err_and}
 use Rattle.text_model.specs.Id.{object_id, blob}
 use Rattle.pair_known.specs.Fresh.{fresh_object}
-use Rattle.pair_state.specs.Growth.{IsRight, HasGrown, Clash}
+use Rattle.git_store.specs.Growth.{IsRight, HasGrown, Clash}
 use Rattle.pair_state.proofs.GrowthLemmas.{each-turn, grown-turn, clash-turn, errs}
 use Rattle.pair_state.proofs.objects.add_blobs.Goals as goal
 

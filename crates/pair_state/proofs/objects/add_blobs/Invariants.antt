@@ -1,6 +1,6 @@
 use Rattle.std.proofs.Common.{◌≡◌, map, ◌++◌}
 use Rattle.pair_known.specs.Fresh.{fresh_object}
-use Rattle.pair_state.specs.Growth.{HasGrown}
+use Rattle.git_store.specs.Growth.{HasGrown}
 use Rattle.pair_state.proofs.objects.add_blobs.Given as goal
 
 -- the blobs so far were added

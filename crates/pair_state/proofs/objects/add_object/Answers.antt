@@ -2,8 +2,8 @@ use Rattle.std.proofs.Common.{sym, subst, ◌∷◌, [], List}
 use Rattle.git_model.specs.Object.{Object}
 use Rattle.git_store.specs.Faults.{IsFault}
 use Rattle.git_store.specs.Known.{object_with}
-use Rattle.pair_state.specs.Growth.{HasGrown}
-use Rattle.pair_state.proofs.GrowthLemmas.{one-more, one-clash, none-fault}
+use Rattle.git_store.specs.Growth.{HasGrown}
+use Rattle.git_store.proofs.Growth.{one-more, one-clash, none-fault}
 use Rattle.pair_state.proofs.objects.add_object.Goals as goal
 
 pub unreachable-requires : goal.unreachable-requires
@@ -24,7 +24,7 @@ unreachable-requires-in-Err-ParentLimit c = none-fault c.args.git.now _ c.requir
 pub returns-in-Ok-clause-ok : goal.returns-in-Ok-clause-ok
 returns-in-Ok-clause-ok c =
     let o : Object = object_with c.args.id c.args.kind c.args.content.items in
-    subst (λ (new : List Object). HasGrown c.args.git.now new (o ∷ [])) (sym c.in-Ok.ensures.ok) (one-more c.args.git.now o c.requires.fits c.in-Ok.ensures.faultless)
+    subst (λ (new : List Object). HasGrown c.args.git.now new (o ∷ [])) (sym c.in-Ok.ensures.ok) (one-more c.args.git.now o c.in-Ok.ensures.faultless)
 
 pub returns-in-Err-Collision-clause-collision : goal.returns-in-Err-Collision-clause-collision
 returns-in-Err-Collision-clause-collision c = λ _. one-clash c.args.git.now _ c.requires.fits (subst (IsFault _) c.in-Err-Collision.field-0-is c.in-Err-Collision.ensures.fault)

@@ -2,8 +2,9 @@ use Rattle.std.proofs.Common.{◌∷◌, [], ◌++◌, Err, sym, ap, subst, ◌�
 use Rattle.std.proofs.lemmas.Result.{err_from_is_err_and}
 use Rattle.text_model.specs.Id.{object_id, tree}
 use Rattle.git_model.specs.Object.{Object}
-use Rattle.pair_state.specs.Growth.{IsRight, HasGrown, Clash}
-use Rattle.pair_state.proofs.GrowthLemmas.{each-here, grown-more, clash-here, errs}
+use Rattle.git_store.specs.Growth.{IsRight, HasGrown, Clash}
+use Rattle.git_store.proofs.Growth.{grown-more}
+use Rattle.pair_state.proofs.GrowthLemmas.{each-here, clash-here, errs}
 use Rattle.pair_state.proofs.objects.add_trees.Goals as goal
 
 pub add_object-requires-clause-its_id : goal.add_object-requires-clause-its_id

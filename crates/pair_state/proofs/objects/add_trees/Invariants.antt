@@ -1,5 +1,5 @@
 use Rattle.std.proofs.Common.{◌≡◌, ◌++◌}
-use Rattle.pair_state.specs.Growth.{HasGrown}
+use Rattle.git_store.specs.Growth.{HasGrown}
 use Rattle.pair_state.proofs.objects.add_trees.Given as goal
 
 -- the trees so far were added

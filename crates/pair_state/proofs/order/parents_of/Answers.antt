@@ -6,5 +6,5 @@ use Rattle.pair_state.proofs.order.parents_of.Goals as goal
 
 pub returns-in-Ok : goal.returns-in-Ok
 returns-in-Ok c = λ meta body spells.
-    let same = (c.splits_exactly.ensures.one c.as_slice.result.now (option_map (λ m. m.now) c.in-Ok.meta) meta c.in-Ok.field-0-1.now body c.in-Ok.ensures.ok (subst (λ (t : Bytes). IsFileText t meta body) (sym c.as_slice.ensures) spells)).0 in
+    let same = (c.in-Ok.ensures.only meta body (subst (λ (t : Bytes). IsFileText t meta body) (sym c.as_slice.ensures) spells)).0 in
     c.file_order.ensures ∙ ap (λ (m : Option Bytes). file_order m c.args.file.now.p c.args.file.now.q) same

@@ -1,7 +1,8 @@
 use Rattle.std.proofs.Common.{◌++◌, Err, sym, ap, ◌∙◌}
-use Rattle.std.proofs.lemmas.Result.{err_from_is_err_and}
-use Rattle.pair_state.proofs.GrowthLemmas.{grown-more, clash-front, clash-rest, errs, on-ok}
+use Rattle.std.proofs.lemmas.Result.{err_from_is_err_and, on_ok_weaker}
+use Rattle.pair_state.proofs.GrowthLemmas.{errs}
 use Rattle.pair_state.proofs.push.add_commit.Goals as goal
+use Rattle.git_store.proofs.Growth.{grown-more, clash-front, clash-rest}
 
 pub returns-in_err-add_blobs-clause-collision : goal.returns-in_err-add_blobs-clause-collision
 returns-in_err-add_blobs-clause-collision c = λ is.
@@ -19,7 +20,7 @@ returns-in_err-add_trees-clause-collision c = λ is.
 pub returns-clause-ok : goal.returns-clause-ok
 returns-clause-ok c =
     let d = c.args.commit in
-    on-ok c.add_object.result (λ g. grown-more c.args.git.now c.add_trees.new.git c.add_object.new.git (d.fresh ++ d.trees) _
+    on_ok_weaker c.add_object.result (λ g. grown-more c.args.git.now c.add_trees.new.git c.add_object.new.git (d.fresh ++ d.trees) _
     (grown-more c.args.git.now c.add_blobs.new.git c.add_trees.new.git d.fresh d.trees c.in_ok-add_blobs.ensures.ok c.in_ok-add_trees.ensures.ok) g) c.add_object.ensures.ok
 
 pub returns-clause-collision : goal.returns-clause-collision

@@ -1,8 +1,8 @@
 use Rattle.std.proofs.Common.{Err, sym, ap, ◌∙◌}
-use Rattle.std.proofs.lemmas.Result.{err_from_is_err_and}
+use Rattle.std.proofs.lemmas.Result.{err_from_is_err_and, on_ok_weaker}
 use Rattle.pair_state.proofs.CameLemmas.{bad-one}
 use Rattle.pair_state.proofs.FileLemmas.{asked-on}
-use Rattle.pair_state.proofs.GrowthLemmas.{errs, on-ok}
+use Rattle.pair_state.proofs.GrowthLemmas.{errs}
 use Rattle.pair_state.proofs.OwnLemmas.{own-ready, own-short, asked-over, bad-first, bad-manifest, bad-files, all-came}
 use Rattle.pair_state.proofs.revisions.add_changeset.Goals as goal
 
@@ -39,7 +39,7 @@ add_files-requires c =
 
 pub returns-clause-ok : goal.returns-clause-ok
 returns-clause-ok c =
-    on-ok c.add_files.result (λ done base k a.
+    on_ok_weaker c.add_files.result (λ done base k a.
     let came = c.in_ok-add_revision.ensures.ok in
     let over = asked-over base c.args.hg.now c.args.d.now c.args.node c.args.text.items k a c.add_revision.new.hg came in
     let came2 = c.in_ok-add_manifest.ensures.ok base k over in

@@ -1,6 +1,6 @@
 use Rattle.std.proofs.Common.{length, arith, sym, ap, subst, ◌∙◌}
+use Rattle.std.proofs.lemmas.Result.{on_ok_weaker}
 use Rattle.pair_state.specs.Came.{HaveCome, HasBad}
-use Rattle.pair_state.proofs.GrowthLemmas.{on-ok}
 use Rattle.pair_state.proofs.CameLemmas.{bad-one}
 use Rattle.pair_state.proofs.ManifestLemmas.{made-lines, manifest-is, manifest-ready}
 use Rattle.pair_state.proofs.revisions.add_manifest.Goals as goal
@@ -22,7 +22,7 @@ add_revision-requires-clause-short c =
 
 pub returns-in_ok-text-in-Over-clause-ok : goal.returns-in_ok-text-in-Over-clause-ok
 returns-in_ok-text-in-Over-clause-ok c =
-    on-ok c.add_revision.result (λ come base k a.
+    on_ok_weaker c.add_revision.result (λ come base k a.
     subst (HaveCome c.args.hg.now c.add_revision.new.hg)
     (sym (manifest-is base c.args.hg.now c.args.d.now c.args.link k a c.in-Over.p c.in-Over.q c.in-Over.is c.in_ok-text-in-Over.text.items
     (c.in_ok-text-in-Over.ensures ∙ made-lines base c.args.hg.now c.args.d.now c.args.link k a))) come) c.add_revision.ensures.ok

@@ -1,10 +1,10 @@
 use Rattle.std.proofs.Common.{◌≡◌, List, sym, ap, subst, ◌∙◌}
 use Rattle.std.specs.Prelude.{slice_get}
 use Rattle.text_model.specs.Id.{Id}
+use Rattle.text_model.proofs.Options.{none_some}
 use Rattle.git_model.specs.Commit.{Commit}
 use Rattle.commit_rule.specs.Parts.{IsTreeOf}
 use Rattle.pair_known.specs.declared.git_draft.GitDraft.{GitDraft}
-use Rattle.pair_known.proofs.HeldViews.{none_some}
 use Rattle.plain_rule.specs.CommitHead.{first_partner}
 use Rattle.plain_rule.proofs.PlainCommit.{no-first, first-stored, first-tree}
 use Rattle.plain_rule.proofs.commit.first_tree.Goals as goal

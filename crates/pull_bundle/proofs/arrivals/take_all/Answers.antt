@@ -2,9 +2,10 @@ use Rattle.std.proofs.Common.{◌++◌, ap, sym, subst, ◌∙◌, List, length,
 use Rattle.std.specs.Prelude.{slice_get}
 use Rattle.std.proofs.lemmas.List.{length-map}
 use Rattle.std.proofs.lemmas.Result.{err_from_is_err_and}
+use Rattle.hg_model.specs.Revision.{known_after_all}
 use Rattle.hg_bundle.specs.declared.arrival.Arrival.{Arrival}
 use Rattle.hg_bundle.specs.Arrivals.{arrival_of}
-use Rattle.history_model.specs.Pull.{all_known, revisions_among}
+use Rattle.history_model.specs.Pull.{revisions_among}
 use Rattle.pull_bundle.specs.Takes.{TakesArrivals}
 use Rattle.pull_bundle.proofs.ArrivalLemmas.{none-taken, entry-at, comes-next, taken-next, refused-next}
 use Rattle.pull_bundle.proofs.arrivals.take_all.Goals as goal
@@ -18,7 +19,7 @@ take_arrival-requires c =
     let i = c.loop-place.place in
     let t = c.loop-place.invariant.took x.0 x.1 x.2 x.3 in
     let e = entry-at x.2 i c.at.result.now (ap (λ (l : List Arrival). slice_get l i) (sym x.3.are) ∙ c.at.ensures) in
-    record { comes = (x.1 ++ (t.takes).new, all_known x.0 (revisions_among (take i x.2)), e.entry, e.is, comes-next c.args.state c.loop-place.next x.0 x.1 c.args.arrivals.now x.2 x.3 i e.entry e.at t) }
+    record { comes = (x.1 ++ (t.takes).new, known_after_all x.0 (revisions_among (take i x.2)), e.entry, e.is, comes-next c.args.state c.loop-place.next x.0 x.1 c.args.arrivals.now x.2 x.3 i e.entry e.at t) }
 
 pub returns-in_err-next-clause-refused : goal.returns-in_err-next-clause-refused
 returns-in_err-next-clause-refused c =

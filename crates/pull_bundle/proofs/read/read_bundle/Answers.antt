@@ -1,8 +1,8 @@
 use Rattle.std.proofs.Common.{List, Ok, Err, refl, subst, ap, ◌∙◌}
 use Rattle.std.specs.Prelude.{IfSome}
 use Rattle.std.proofs.lemmas.Result.{err_from_is_err_and}
-use Rattle.hg_model.specs.Revision.{Revision}
-use Rattle.hg_bundle.specs.Arrivals.{Reads, known_after_all, revisions_of}
+use Rattle.hg_model.specs.Revision.{Revision, known_after_all}
+use Rattle.hg_bundle.specs.Arrivals.{Reads, revisions_of}
 use Rattle.pull_bundle.proofs.ReadLemmas.{has-read, told, fault-refused, fault-cause, fault-names}
 use Rattle.pull_bundle.proofs.read.read_bundle.Goals as goal
 

@@ -5,7 +5,7 @@ use Rattle.text_model.specs.Text.{Bytes}
 use Rattle.text_model.specs.Fault.{Refusal}
 use Rattle.text_model.proofs.Options.{none_some, some_is}
 use Rattle.bridge_text.specs.Refusals.{refusal_value}
-use Rattle.git_batch.specs.Arrivals.{known_from, AddsAll, refused}
+use Rattle.git_batch.specs.Arrivals.{AddsAll, refused}
 use Rattle.git_batch.specs.StreamFaults as stream
 use Rattle.git_batch.specs.StreamFaults.{IsFault}
 use Rattle.git_batch.specs.declared.stream_fault.StreamFault.{StreamFault}
@@ -14,7 +14,7 @@ use Rattle.git_model.specs.Stream.{Placed, stream_reading}
 use Rattle.pull_outcome.specs.Refused.{IsRefusedBy, FaultCause, stream_refused}
 use Rattle.text_model.specs.Lists.{Each}
 use Rattle.text_model.proofs.EachLemmas.{Each-weaker}
-use Rattle.git_model.specs.Object.{Object}
+use Rattle.git_model.specs.Object.{Object, objects_after_all}
 use Rattle.git_model.specs.Unfold.{walk_fault}
 use Rattle.git_store.specs.Growth.{IsThere, IsWithin}
 use Rattle.git_store.specs.Known.{AreKnown}
@@ -24,8 +24,8 @@ use Rattle.pair_model.specs.Block.{Block, commits_in}
 use Rattle.pair_known.specs.Blocks.{IsHistoryHeld}
 use Rattle.pair_known.specs.declared.known.Known.{Known}
 use Rattle.pair_state.specs.Blocks.{IsAgreed, body_blob}
-use Rattle.history_model.specs.Pull.{all_objects, objects_among}
-use Rattle.pull_stream.proofs.Growth.{grown, known_from-is, each-placed}
+use Rattle.history_model.specs.Pull.{objects_among}
+use Rattle.pull_stream.proofs.Growth.{grown, each-placed}
 use Rattle.git_view.proofs.WalkGrowth.{walk-on, commits-on}
 use Rattle.pull_stream.proofs.Names.{stream-named}
 use Rattle.pull_stream.proofs.objects.read_objects.Goals as goal
@@ -73,7 +73,7 @@ returns-clause-ready g c = λ blocks state.
     let new = c.in_ok-git.git in
     let b = c.in_ok-git.ensures.brought in
     let same : c.replace-git.result ≡ k.git = c.replace-git.ensures.value in
-    let after : new ≡ all_objects k.git (objects_among b.objects) = b.holds ∙ ap (λ (os : List Object). known_from os b.objects) same ∙ known_from-is k.git b.objects in
+    let after : new ≡ objects_after_all k.git (objects_among b.objects) = b.holds ∙ ap (λ (os : List Object). objects_after_all os (objects_among b.objects)) same in
     let more = grown k.git b.objects (subst (λ (os : List Object). AddsAll os (objects_among b.objects)) same b.adds) in
     let within : IsWithin k.git new = subst (IsWithin k.git) (sym after) more.kept in (
       b.objects,

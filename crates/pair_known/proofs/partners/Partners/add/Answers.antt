@@ -34,3 +34,6 @@ invariant_of-self-2 c = table-push c.self.inside.git.entries c.self.inside.hg.en
 
 pub returns-clause-ok : goal.returns-clause-ok
 returns-clause-ok c = git_after c ∙ ap (λ (l : List (Id × Id)). l ++ (c.args.node, c.args.id) ∷ []) c.self.view_is
+
+pub returns-clause-partners : goal.returns-clause-partners
+returns-clause-partners c = (table-push c.self.inside.git.entries c.self.inside.hg.entries _ _ c.args.node c.args.id c.self.invariant (git_free c) (hg_free c) (git_after c) (hg_after c)).partners

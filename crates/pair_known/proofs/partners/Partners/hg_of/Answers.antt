@@ -5,8 +5,8 @@ use Rattle.pair_known.specs.Partners.{hg_at}
 use Rattle.pair_known.proofs.PairLemmas.{hg-lookup}
 use Rattle.pair_known.proofs.partners.Partners.hg_of.Goals as goal
 
-pub returns : goal.returns
-returns c =
+pub returns-clause-partner : goal.returns-clause-partner
+returns-clause-partner c =
     c.copied.ensures ∙ c.get.ensures.value
     ∙ ap (λ (l : List (Id × Id)). lookup (bytes_eq c.args.id.now) l) c.self.invariant.turned
     ∙ hg-lookup c.self.inside.git.entries c.args.id.now

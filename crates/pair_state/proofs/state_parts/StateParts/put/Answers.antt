@@ -2,12 +2,13 @@ use Rattle.std.proofs.Common.{List, ◌∷◌, [], ◌++◌, Err, sym, ap, subst
 use Rattle.std.specs.Prelude.{is_some}
 use Rattle.std.proofs.lemmas.Result.{err_from_is_err_and}
 use Rattle.text_model.specs.Id.{Id, commit, object_id}
+use Rattle.text_model.proofs.Options.{none_is}
 use Rattle.git_model.specs.Object.{Object, knows_object}
 use Rattle.pair_model.specs.Block.{block_of_id}
 use Rattle.pair_known.specs.Partners.{hg_at}
-use Rattle.pair_state.specs.Growth.{HasGrown, Clash}
+use Rattle.git_store.specs.Growth.{HasGrown, Clash}
 use Rattle.pair_state.specs.Step.{IsPushed}
-use Rattle.pair_state.proofs.BlockLemmas.{hg-some, none-is}
+use Rattle.pair_state.proofs.BlockLemmas.{hg-some}
 use Rattle.pair_state.proofs.GrowthLemmas.{errs}
 use Rattle.pair_state.proofs.MadeCommit.{right-blobs, right-trees, right-commit, id-is, own-is}
 use Rattle.pair_state.proofs.PushChangeset.{whole-parts, few-nodes, node-free}
@@ -21,7 +22,7 @@ returns-then-is_some-clause-collision c = λ _ blocks b p.
     let hash = c.object_id-id.ensures ∙ ap (object_id commit) c.deref.ensures.value in
     let id = id-is s.known.git c.args.commit b.commit p.made c.in_ok-text.text.items c.in_ok-text.ensures c.object_id-id.result hash in
     commit-saved s c.args.block.now c.args.commit blocks b p
-    (ap (λ (i : Id). is_some (block_of_id blocks i)) (sym id) ∙ sym (hg-some s.known blocks p.brings.state.held c.object_id-id.result) ∙ sym (ap is_some c.hg_of.ensures) ∙ sym c.is_some.ensures ∙ c.if-is_some.true)
+    (ap (λ (i : Id). is_some (block_of_id blocks i)) (sym id) ∙ sym (hg-some s.known blocks p.brings.state.held c.object_id-id.result) ∙ sym (ap is_some c.hg_of.ensures.partner) ∙ sym c.is_some.ensures ∙ c.if-is_some.true)
 
 pub add_parts-requires : goal.add_parts-requires
 add_parts-requires c =
@@ -120,7 +121,7 @@ returns-clause-ok c = λ blocks b p.
     let grown = subst (λ (o : Object). HasGrown s.known.git c.add_commit.new.git (c.args.commit.fresh ++ c.args.commit.trees ++ o ∷ [])) same c.in_ok-add_commit.ensures.ok in
     let of = whole-parts s c.args.block.now blocks b p.brings in
     let came = c.in_ok-nodes.ensures.came blocks b.links b.changeset of in
-    let free = none-is (block_of_id blocks _) (ap (λ (i : Id). is_some (block_of_id blocks i)) (sym id) ∙ sym (hg-some s.known blocks p.brings.state.held c.object_id-id.result) ∙ sym (ap is_some c.hg_of.ensures) ∙ sym c.is_some.ensures ∙ c.if-is_some.false) in
+    let free = none_is (block_of_id blocks _) (ap (λ (i : Id). is_some (block_of_id blocks i)) (sym id) ∙ sym (hg-some s.known blocks p.brings.state.held c.object_id-id.result) ∙ sym (ap is_some c.hg_of.ensures.partner) ∙ sym c.is_some.ensures ∙ c.if-is_some.false) in
     pushed s c.args.block.now c.args.commit blocks b p c.add_parts.new.hg came c.add_commit.new.git grown p.brings.state.sound c.in_ok-add_commit.ensures.sound
     c.have_bodies-agreed.result (λ e. c.have_bodies-agreed.ensures.yes e (b.changeset).rows (asked s c.args.block.now c.args.commit blocks b p c.add_parts.new.hg came c.add_commit.new.git grown))
     (known-of c.have_bodies-agreed.result s.known.git c.is_stored-stored.result c.object_id-id.result _ id c.is_stored-stored.ensures c.in_ok-check_bodies.ensures.ok)
@@ -132,4 +133,4 @@ pub add_commit-requires-clause-its_id : goal.add_commit-requires-clause-its_id
 add_commit-requires-clause-its_id c = sym (c.object_id-id.ensures ∙ ap (object_id commit) c.deref.ensures.value)
 
 pub insert-requires-clause-id_is_free : goal.insert-requires-clause-id_is_free
-insert-requires-clause-id_is_free c = none-is (hg_at c.args.self.now.known.partners c.object_id-id.result) (ap is_some (sym c.hg_of.ensures) ∙ sym c.is_some.ensures ∙ c.if-is_some.false)
+insert-requires-clause-id_is_free c = none_is (hg_at c.args.self.now.known.partners c.object_id-id.result) (ap is_some (sym c.hg_of.ensures.partner) ∙ sym c.is_some.ensures ∙ c.if-is_some.false)

@@ -2,9 +2,10 @@ use Rattle.std.proofs.Common.{List, Err, sym, ap, subst, ◌∙◌}
 use Rattle.std.specs.Prelude.{is_some}
 use Rattle.std.proofs.lemmas.Result.{err_from_is_err_and}
 use Rattle.text_model.specs.Id.{Id}
+use Rattle.text_model.proofs.Options.{none_is}
 use Rattle.pair_known.specs.Partners.{hg_at}
 use Rattle.pair_state.specs.Step.{AreItsTexts, IsPushed}
-use Rattle.pair_state.proofs.BlockLemmas.{hg-some, none-is}
+use Rattle.pair_state.proofs.BlockLemmas.{hg-some}
 use Rattle.pair_state.proofs.GrowthLemmas.{errs}
 use Rattle.pair_state.proofs.PushChangeset.{bare, parts, its-texts, collides, with_revisions, few-nodes, node-free, pushed}
 use Rattle.pair_state.proofs.state_parts.StateParts.put_changeset.Goals as goal
@@ -48,7 +49,7 @@ pub insert-requires-clause-id_is_free : goal.insert-requires-clause-id_is_free
 insert-requires-clause-id_is_free c =
     let s = c.args.self.now in
     let p = c.requires.block.2 in
-    none-is (hg_at s.known.partners c.args.id) (hg-some s.known c.requires.block.0 p.brings.state.held c.args.id ∙ ap is_some p.free)
+    none_is (hg_at s.known.partners c.args.id) (hg-some s.known c.requires.block.0 p.brings.state.held c.args.id ∙ ap is_some p.free)
 
 pub returns-clause-ok : goal.returns-clause-ok
 returns-clause-ok c = λ blocks b p.

@@ -3,12 +3,13 @@ use Rattle.std.specs.Prelude.{is_some}
 use Rattle.std.specs.List.{list_any}
 use Rattle.std.proofs.lemmas.Result.{err_from_is_err_and}
 use Rattle.text_model.specs.Id.{Id, commit, object_id, has_id}
+use Rattle.text_model.proofs.Options.{none_is}
 use Rattle.git_model.specs.Object.{Object}
 use Rattle.pair_model.specs.Block.{block_of_id}
 use Rattle.pair_known.specs.Partners.{git_at}
-use Rattle.pair_state.specs.Growth.{HasGrown, Clash}
+use Rattle.git_store.specs.Growth.{HasGrown, Clash}
 use Rattle.pair_state.specs.Step.{IsPushed}
-use Rattle.pair_state.proofs.BlockLemmas.{git-some, hg-some, none-is}
+use Rattle.pair_state.proofs.BlockLemmas.{git-some, hg-some}
 use Rattle.pair_state.proofs.GrowthLemmas.{errs}
 use Rattle.pair_state.proofs.KeptLemmas.{agreed-blobs}
 use Rattle.pair_state.proofs.MadeCommit.{inserted, with_objects, right-blobs, right-trees, right-commit, id-is, own-is}
@@ -26,7 +27,7 @@ returns-then-is_some-clause-collision c = λ _ blocks b p.
     let hash = c.object_id-id.ensures ∙ ap (object_id commit) c.deref.ensures.value in
     let id = id-is s.known.git c.args.commit b.commit p.ruled.made c.in_ok-text.text.items c.in_ok-text.ensures c.object_id-id.result hash in
     partner-collides s c.args.h.now c.args.links.now c.args.commit c.args.node blocks b p
-    (ap (λ (i : Id). is_some (block_of_id blocks i)) (sym id) ∙ sym (hg-some s.known blocks p.state.held c.object_id-id.result) ∙ sym (ap is_some c.hg_of.ensures) ∙ sym c.is_some.ensures ∙ c.if-is_some.true)
+    (ap (λ (i : Id). is_some (block_of_id blocks i)) (sym id) ∙ sym (hg-some s.known blocks p.state.held c.object_id-id.result) ∙ sym (ap is_some c.hg_of.ensures.partner) ∙ sym c.is_some.ensures ∙ c.if-is_some.true)
 
 pub add_commit-requires-clause-blobs : goal.add_commit-requires-clause-blobs
 add_commit-requires-clause-blobs c = right-blobs c.args.self.now.known.git c.args.commit (c.requires.block.1).commit (c.requires.block.2).ruled.made
@@ -74,7 +75,7 @@ pub insert-requires-2-clause-node_is_free : goal.insert-requires-2-clause-node_i
 insert-requires-2-clause-node_is_free c =
     let s = c.args.self.now in
     let p = c.requires.block.2 in
-    none-is (git_at s.known.partners c.args.node) (git-some s.known c.requires.block.0 p.state.held c.args.node ∙ ap is_some p.free)
+    none_is (git_at s.known.partners c.args.node) (git-some s.known c.requires.block.0 p.state.held c.args.node ∙ ap is_some p.free)
 
 pub returns-clause-ok : goal.returns-clause-ok
 returns-clause-ok c = λ blocks b p.
@@ -83,7 +84,7 @@ returns-clause-ok c = λ blocks b p.
     let same = own-is s.known.git c.args.commit b.commit p.ruled.made c.in_ok-text.text.items c.in_ok-text.ensures c.object_id-id.result hash in
     let grown = subst (λ (o : Object). HasGrown s.known.git c.add_commit.new.git (c.args.commit.fresh ++ c.args.commit.trees ++ o ∷ [])) same c.in_ok-add_commit.ensures.ok in
     let id = id-is s.known.git c.args.commit b.commit p.ruled.made c.in_ok-text.text.items c.in_ok-text.ensures c.object_id-id.result hash in
-    let free = none-is (block_of_id blocks _) (ap (λ (i : Id). is_some (block_of_id blocks i)) (sym id) ∙ sym (hg-some s.known blocks p.state.held c.object_id-id.result) ∙ sym (ap is_some c.hg_of.ensures) ∙ sym c.is_some.ensures ∙ c.if-is_some.false) in
+    let free = none_is (block_of_id blocks _) (ap (λ (i : Id). is_some (block_of_id blocks i)) (sym id) ∙ sym (hg-some s.known blocks p.state.held c.object_id-id.result) ∙ sym (ap is_some c.hg_of.ensures.partner) ∙ sym c.is_some.ensures ∙ c.if-is_some.false) in
     let apart = sym (ap (list_any (has_id s.changesets)) c.as_slice.ensures) ∙ sym c.contains_any.ensures ∙ c.if-contains_any.false in
     pushed s c.args.h.now c.args.links.now c.args.commit c.args.node blocks b p c.add_commit.new.git grown p.state.sound c.in_ok-add_commit.ensures.sound
     (c.have_bodies.ensures.yes c.if-not-have_bodies.false (b.changeset).rows (asked s c.args.h.now c.args.links.now c.args.commit c.args.node blocks b p c.add_commit.new.git grown))
