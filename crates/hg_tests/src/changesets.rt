@@ -333,18 +333,14 @@ fn date_lines(rt: HostRuntime) -> Result<(), Fail> {
     Ok(())
 }
 
-fn item_of(alloc: Global, key: &[u8], value: &[u8]) -> Result<ExtraItem, Fail> {
-    let key = Bytes::of(alloc, key)?;
-    let value = Bytes::of(alloc, value)?;
-    Ok(ExtraItem { key, value })
-}
-
 #[test]
 fn extras_pushed(rt: HostRuntime) -> Result<(), Fail> {
     let mut extras = Extras::new(rt.alloc());
     assert!(rt; extras.is_empty());
-    let item = item_of(rt.alloc(), b"branch", b"a\rb")?;
-    extras.push(item)?;
+    extras.push(ExtraItem {
+        key: Bytes::of(rt.alloc(), b"branch")?,
+        value: Bytes::of(rt.alloc(), b"a\rb")?,
+    })?;
     assert!(rt; extras.len() == 1);
     assert!(rt; extras.get(b"branch") == Some(b"a\rb".as_slice()));
     Ok(())
