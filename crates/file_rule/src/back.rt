@@ -38,8 +38,8 @@ pub fn are_ruled(store: &HgStore, rows: &HgRows, first: &Parent<'_>, second: &Pa
     true
 }
 
-// Whether a file comes back.
-fn is_ruled(store: &HgStore, row: &HgRow, first: Option<&Entry>, second: Option<&Entry>) -> bool
+/// Whether a file that is held comes back from its commit, where these are the entries of its path in the parents. Nothing is hashed.
+pub fn is_ruled(store: &HgStore, row: &HgRow, first: Option<&Entry>, second: Option<&Entry>) -> bool
     ensures { (r s : Option FileRevision) (w : Row) → IsHeldRow store.now row.now (option_map manifest_entry (option_copied first.entry)) (option_map manifest_entry (option_copied second.entry)) r s w
         → (IsTrue result ↔ SameRow (row_again r s w) w) }
 {

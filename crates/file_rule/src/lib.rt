@@ -7,7 +7,7 @@ mod parents;
 mod revision;
 mod rows;
 
-pub use back::are_ruled;
+pub use back::{are_ruled, is_ruled};
 pub use parents::{Parent, parent_of};
-pub use revision::parents_over;
+pub use revision::{RuledRow, has_parents, kept_node, make_row, node_or_null, parents_over};
 pub use rows::{RuledRows, make_rows};

@@ -1,0 +1,4 @@
+pub mod FirstParent
+pub mod Handed
+pub mod MarkLemmas
+pub mod MarkedLemmas

@@ -1,0 +1,89 @@
+ghost use Rattle.std.specs.Prelude.{◌≡◌, ◌≤◌, List, length, Some, Err, IfOk};
+ghost use Rattle.hg_model.specs.Revision.{Revision};
+ghost use Rattle.view_model.specs.View.{ChangesetView, CommitView, ChangesetFits};
+ghost use Rattle.pair_model.specs.Block.{Block};
+ghost use Rattle.pair_known.specs.Over.{IsCommitOver};
+ghost use Rattle.pair_known.specs.Ruled.{IsMadeChangeset, IsRuledChangeset};
+ghost use Rattle.pair_known.specs.declared.fault.PairFault.TheVariants.{PairLimit};
+ghost use Rattle.partner_model.specs.Mark as mark;
+ghost use Rattle.changeset_mark.specs.Marks.{HasDateOf};
+
+use crate::dated::{dated, text_of};
+use crate::marks::marks_of;
+use bridge_text::{Bytes, NoMemory};
+use changeset_rule::{changeset_fits, make_changeset};
+use hg_changeset::Extras;
+use name_rule::{UserDate, user_of_line};
+use pair_known::{DraftTexts, GitDraft, HgDraft, Known, PairFault};
+use std::alloc::Global;
+
+/// The marked changeset of a commit of two parents at most, each of which has a partner: the one that the rule gives, with an extra for
+/// each part of the commit that the rule would not give back from it. PairLimit comes exactly where a text of it passes its limit.
+pub fn mark_changeset(alloc: Global, known: &Known, c: &GitDraft) -> Result<HgDraft, PairFault>
+    requires over { (blocks : List Block) × (v : CommitView) × IsCommitOver known.now blocks c.now v }
+    requires few { length (c.now.commit).parents ≤ 2 }
+    ensures ok { IfOk result (λ d. (blocks : List Block) (v : CommitView) → IsCommitOver known.now blocks c.now v
+        → IsRuledChangeset known.now.hg d (mark.mark_changeset blocks v)) }
+    ensures limit { result ≡ Err PairLimit → (blocks : List Block) (v : CommitView) → IsCommitOver known.now blocks c.now v
+        → ChangesetFits (mark.mark_changeset blocks v) → ⊥ }
+{
+    known.hg.check();
+    known.partners.check();
+    let given = user_of_line(alloc, c.commit.author.as_slice())?;
+    let extras = marks_of(alloc, known, c, &given)?.to_extras(alloc)?;
+    extras.are_extras();
+    let plain = make_changeset(alloc, known, c)?;
+    let marked = with_extras(alloc, plain, &given, extras)?;
+    if !changeset_fits(alloc, known, &marked)? {
+        return Err(PairFault::PairLimit);
+    }
+    Ok(marked)
+}
+
+// The draft with these extras beside its date, which is the given one, and with the text that it then has.
+fn with_extras(
+    alloc: Global,
+    plain: HgDraft,
+    given: &UserDate,
+    extras: Extras,
+) -> Result<HgDraft, NoMemory>
+    ensures { IfOk result (λ d. (known : List Revision) (h : ChangesetView) → IsMadeChangeset known plain h → HasDateOf given.now h
+        → IsMadeChangeset known d (mark.with_extras h given.now extras)) }
+{
+    if extras.is_empty() {
+        return Ok(plain);
+    }
+    extras.are_extras();
+    let HgDraft {
+        p1,
+        p2,
+        changeset,
+        manifest,
+        rows,
+        fresh,
+        texts,
+    } = plain;
+    let changeset = dated(changeset, given, extras);
+    let text = text_of(alloc, &changeset)?;
+    let texts = with_text(texts, text);
+    Ok(HgDraft {
+        p1,
+        p2,
+        changeset,
+        manifest,
+        rows,
+        fresh,
+        texts,
+    })
+}
+
+// The texts with another one of the changeset.
+fn with_text(texts: DraftTexts, text: Bytes) -> DraftTexts
+    ensures changeset { result.changeset ≡ Some text }
+    ensures manifest { result.manifest ≡ texts.manifest }
+{
+    DraftTexts {
+        changeset: Some(text),
+        manifest: texts.manifest,
+    }
+}
