@@ -1,0 +1,10 @@
+pub mod Begun
+pub mod Commits
+pub mod Revisions
+pub mod Nodes
+pub mod Steps
+pub mod FieldMarks
+pub mod Whole
+pub mod Overs
+pub mod Brought
+pub mod FileMarks
