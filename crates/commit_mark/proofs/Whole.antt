@@ -1,6 +1,7 @@
 -- The marks of a changeset, part behind part.
-use Rattle.std.proofs.Common.{◌≡◌, List, ◌++◌, refl, subst}
+use Rattle.std.proofs.Common.{◌≡◌, List, ◌++◌, refl, sym, subst, ◌∙◌}
 use Rattle.std.specs.List.{flat_map}
+use Rattle.hg_model.specs.Changeset.{Changeset}
 use Rattle.view_model.specs.View.{ChangesetView, IsChangesetView}
 use Rattle.pair_model.specs.Block.{Parents}
 use Rattle.pair_model.specs.Rule.{author_by}
@@ -43,3 +44,18 @@ module _ (ps : Parents) (v : ChangesetView) where
 
     pub begin-entries : BeginList (flat_map (entry_marks ps) v.rows)
     begin-entries = begin-front (flat_map (entry_marks ps) v.rows) (manifest_marks ps v) begin-manifest
+
+-- what the line of the author gives back, by the fields of a draft
+module _ (ps : Parents) (v : ChangesetView) (x : Changeset) (fields : v.fields ≡ x) (back : UserDate) (is : back ≡ user_of_line (author_by x.user x.date)) where
+  back-is : back ≡ given ps v
+  back-is = is ∙ (λ i. user_of_line (author_by (sym fields i).user (sym fields i).date))
+
+  pub user-same : user_marks x.user back ≡ user_marks (v.fields).user (given ps v)
+  user-same = λ i. user_marks (sym fields i).user (back-is i)
+
+  pub date-same : date_marks x.date back ≡ date_marks (v.fields).date (given ps v)
+  date-same = λ i. date_marks (sym fields i).date (back-is i)
+
+-- one part more
+pub next-part : (ms before front next more : List Mark) → ms ≡ before ++ next → before ≡ front → next ≡ more → ms ≡ front ++ more
+next-part ms before front next more put a b = put ∙ (λ i. a i ++ b i)
