@@ -2,9 +2,11 @@ pub mod Begun
 pub mod Commits
 pub mod Revisions
 pub mod Nodes
+pub mod Sources
 pub mod Steps
 pub mod FieldMarks
 pub mod Whole
 pub mod Overs
+pub mod NewRevision
 pub mod Brought
 pub mod FileMarks

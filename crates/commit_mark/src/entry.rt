@@ -5,6 +5,7 @@ ghost use Rattle.hg_model.specs.FileText.{IsFile, plain_meta};
 ghost use Rattle.hg_model.specs.Revision.{Revision};
 ghost use Rattle.view_model.specs.View.{FileRevision, Row};
 ghost use Rattle.pair_model.specs.Block.{Parents};
+ghost use Rattle.pair_model.specs.MarkList.{File};
 ghost use Rattle.pair_model.specs.Rule.{new_revision, revision_at};
 ghost use Rattle.mark_code.specs.Values.{mark_value};
 ghost use Rattle.partner_model.specs.Mark as model;
@@ -90,15 +91,15 @@ fn is_new(parts: &FileParts<'_>, first: Option<&Entry>, second: Option<&Entry>) 
         → (IsTrue result ↔ new_revision (revision_at (ps.first).rows w.path) (revision_at (ps.second).rows w.path) (w.revision).body ≡ w.revision) }
 {
     let (p, q) = parents_over(node_or_null(first), node_or_null(second));
-    p == parts.p && q == parts.q && has_plain_metadata(parts)
+    p == parts.p && q == parts.q && is_plain(parts.meta, parts.body)
 }
 
-// Whether a revision has the metadata that the rule gives to its body: none, or empty ones where the body begins with a mark.
-fn has_plain_metadata(parts: &FileParts<'_>) -> bool
-    ensures { (r : FileRevision) → ArePartsOf parts.now r → IsFile r.meta r.body → (IsTrue result ↔ r.meta ≡ plain_meta r.body) }
+// Whether these are the metadata that the rule gives to the body: none, or empty ones where it begins with a mark.
+fn is_plain(meta: Option<&[u8]>, body: &[u8]) -> bool
+    ensures { IsFile (option_map (λ m. m.now) meta.entry) body.now → (IsTrue result ↔ option_map (λ m. m.now) meta.entry ≡ plain_meta body.now) }
 {
-    match parts.meta {
-        Some(meta) => meta.is_empty() && parts.body.starts_with(MARK),
+    match meta {
+        Some(meta) => meta.is_empty() && body.starts_with(MARK),
         None => true,
     }
 }
@@ -114,20 +115,34 @@ fn revision_mark(
         → mark_value mark ≡ model.revision_mark row.now.path r (model.rename_source ps r)) }
 {
     let path = Bytes::of(alloc, row.path.as_slice())?;
-    if let Some(from) = rename_source(over, parts) {
-        let from = Bytes::of(alloc, from)?;
-        return Ok(Mark::Rename { path, from });
+    match rename_source(over, parts) {
+        Some(from) => Ok(Mark::Rename {
+            path,
+            from: Bytes::of(alloc, from)?,
+        }),
+        None => file_mark(alloc, path, parts),
     }
-    let meta = match parts.meta {
-        Some(meta) => Some(Bytes::of(alloc, meta)?),
-        None => None,
-    };
+}
+
+// The mark that says all of a revision but its body.
+fn file_mark(alloc: Global, path: Bytes, parts: &FileParts<'_>) -> Result<Mark, NoMemory>
+    ensures { IfOk result (λ mark. mark_value mark ≡ File path parts.now.p parts.now.q (option_map (λ m. m.now) parts.now.meta)) }
+{
     Ok(Mark::File {
         path,
         p: parts.p,
         q: parts.q,
-        meta,
+        meta: copy_of_metadata(alloc, parts.meta)?,
     })
+}
+
+fn copy_of_metadata(alloc: Global, meta: Option<&[u8]>) -> Result<Option<Bytes>, NoMemory>
+    ensures { IfOk result (λ copy. copy ≡ option_map (λ m. m.now) meta) }
+{
+    match meta {
+        Some(meta) => Ok(Some(Bytes::of(alloc, meta)?)),
+        None => Ok(None),
+    }
 }
 
 // The path of which a revision is a copy, where it has no parents and names the node that a parent has there.
@@ -137,7 +152,14 @@ fn rename_source<'a>(over: &Over<'_>, parts: &FileParts<'a>) -> Option<&'a [u8]>
     if !parts.p.is_null() || !parts.q.is_null() {
         return None;
     }
-    let (source, node) = copy_of(parts.meta?)?;
+    named_source(over, parts.meta)
+}
+
+// The path that metadata name as the source of a copy, where they name the node that a parent has there.
+fn named_source<'a>(over: &Over<'_>, meta: Option<&'a [u8]>) -> Option<&'a [u8]>
+    ensures { (ps : Parents) → AreParents over.now ps → option_map (λ s. s.now) result ≡ model.named_source ps (model.copy_in (option_map (λ m. m.now) meta.entry)) }
+{
+    let (source, node) = copy_of(meta?)?;
     if node.is_null() || over.node_in_parents(source) != node {
         return None;
     }
