@@ -1,10 +1,7 @@
 -- Whether a revision is the new one that the rule gives over the entries of its path.
-use Rattle.std.proofs.Common.{◌≡◌, Bool, List, Option, refl, sym, ap, ◌∙◌, bytes_eq}
-use Rattle.std.proofs.lemmas.Slice.Eq.{bytes_eq-Decides}
-use Rattle.std.specs.Prelude.{◌↔◌, ◌&&◌, IsTrue}
+use Rattle.std.proofs.Common.{◌≡◌, Bool, true, false, true≢false, List, Option, sym, ap, ◌∙◌}
+use Rattle.std.specs.Prelude.{◌↔◌, IsTrue}
 use Rattle.text_model.specs.Id.{Id}
-use Rattle.text_model.specs.Text.{Bytes}
-use Rattle.text_model.proofs.TestLemmas.{both}
 use Rattle.hg_model.specs.FileText.{plain_meta}
 use Rattle.hg_model.specs.Manifest.{ManifestEntry}
 use Rattle.hg_model.specs.Revision.{Revision}
@@ -29,29 +26,34 @@ module _ (known : List Revision) (e f : Option ManifestEntry) (ps : Parents) (w 
       plain-order (w.revision).body (one_or_two (node_or_null r) (node_or_null s)).0 (one_or_two (node_or_null r) (node_or_null s)).1
       ∙ (λ i. ordered (sym (node-or_null known w.path e r entries.in_first) i) (sym (node-or_null known w.path f s entries.in_second) i))
 
-  -- the tests of both parents and of the metadata tell it
-  pub new-by : (parts : FileParts) → ArePartsOf parts w.revision → (pq : Id × Id) → pq ≡ ordered (entry_node e) (entry_node f) → (a b c : Bool) → a ≡ bytes_eq pq.0 parts.p → b ≡ bytes_eq pq.1 parts.q
-      → (IsTrue c ↔ meta_in parts ≡ plain_meta (parts.body).now) → (IsTrue (a && b && c) ↔ new ≡ w.revision)
-  new-by parts are pq pq_is a b c a_is b_is c_is = (there, back)
-    where
-      first-is : pq.0 ≡ new.p
-      first-is = ap (λ (x : Id × Id). x.0) (pq_is ∙ sym order-is)
+  module _ (parts : FileParts) (are : ArePartsOf parts w.revision) (pq : Id × Id) (pq_is : pq ≡ ordered (entry_node e) (entry_node f)) where
+    first-is : pq.0 ≡ new.p
+    first-is = ap (λ (x : Id × Id). x.0) (pq_is ∙ sym order-is)
 
-      second-is : pq.1 ≡ new.q
-      second-is = ap (λ (x : Id × Id). x.1) (pq_is ∙ sym order-is)
+    second-is : pq.1 ≡ new.q
+    second-is = ap (λ (x : Id × Id). x.1) (pq_is ∙ sym order-is)
 
-      there : IsTrue (a && b && c) → new ≡ w.revision
-      there h =
-          let x = both (a && b) c h in
-          let y = both a b x.0 in
-          let p = sym first-is ∙ (bytes_eq-Decides pq.0 parts.p).0 (sym a_is ∙ y.0) ∙ are.p in
-          let q = sym second-is ∙ (bytes_eq-Decides pq.1 parts.q).0 (sym b_is ∙ y.1) ∙ are.q in
-          let m = ap plain_meta (sym are.body) ∙ sym (c_is.0 x.1) ∙ are.meta in
-          λ i. record { p = p i; q = q i; meta = m i; body = (w.revision).body }
+    abbrev SameParents : Type 0
+    SameParents = (parts.p ≡ pq.0) × (parts.q ≡ pq.1)
 
-      back : new ≡ w.revision → IsTrue (a && b && c)
-      back same =
-          let p = a_is ∙ (bytes_eq-Decides pq.0 parts.p).1 (first-is ∙ ap (λ (r : FileRevision). r.p) same ∙ sym are.p) in
-          let q = b_is ∙ (bytes_eq-Decides pq.1 parts.q).1 (second-is ∙ ap (λ (r : FileRevision). r.q) same ∙ sym are.q) in
-          let m = c_is.1 (are.meta ∙ sym (ap (λ (r : FileRevision). r.meta) same) ∙ ap plain_meta (sym are.body)) in
-          λ i. p i && q i && m i
+    same-parents : new ≡ w.revision → SameParents
+    same-parents same = (are.p ∙ ap (λ (r : FileRevision). r.p) (sym same) ∙ sym first-is, are.q ∙ ap (λ (r : FileRevision). r.q) (sym same) ∙ sym second-is)
+
+    -- it has its parents: its metadata tell it
+    pub new-by : (a : Bool) → (IsTrue a ↔ SameParents) → a ≡ true → (t : Bool) → (IsTrue t ↔ meta_in parts ≡ plain_meta (parts.body).now) → (IsTrue t ↔ new ≡ w.revision)
+    new-by a parents has t plain = (there, back)
+      where
+        there : IsTrue t → new ≡ w.revision
+        there h =
+            let pair = parents.0 has in
+            let p = sym first-is ∙ sym pair.0 ∙ are.p in
+            let q = sym second-is ∙ sym pair.1 ∙ are.q in
+            let m = ap plain_meta (sym are.body) ∙ sym (plain.0 h) ∙ are.meta in
+            λ i. record { p = p i; q = q i; meta = m i; body = (w.revision).body }
+
+        back : new ≡ w.revision → IsTrue t
+        back same = plain.1 (are.meta ∙ sym (ap (λ (r : FileRevision). r.meta) same) ∙ ap plain_meta (sym are.body))
+
+    -- it has others
+    pub not-by : (a : Bool) → (IsTrue a ↔ SameParents) → a ≡ false → (IsTrue false ↔ new ≡ w.revision)
+    not-by a parents hasnt = ((λ h. absurd (true≢false (sym h))), (λ same. absurd (true≢false (sym (parents.1 (same-parents same)) ∙ hasnt))))

@@ -36,7 +36,7 @@ pub fn entry_mark(
     second: Option<&Entry>,
 ) -> Result<Option<Mark>, NoMemory>
     requires held { (ps : Parents) × (w : Row) × IsRowOf ((over.now.fresh).now ++ (over.now.store).now) row.now w
-        × AreEntriesAt (over.now.store).now (option_map manifest_entry (option_copied first.entry)) (option_map manifest_entry (option_copied second.entry)) ps w }
+        × AreEntriesAt (over.now.store).now (option_map manifest_entry (option_copied first)) (option_map manifest_entry (option_copied second)) ps w }
     ensures { IfOk result (λ mark. (ps : Parents) (w : Row) → AreParents over.now ps → IsRowOf ((over.now.fresh).now ++ (over.now.store).now) row.now w
         → AreEntriesAt (over.now.store).now (option_map manifest_entry (option_copied first.entry)) (option_map manifest_entry (option_copied second.entry)) ps w
         → marks_in mark ≡ model.entry_marks ps w) }
@@ -52,7 +52,7 @@ pub fn entry_mark(
 // Whether the rule gives a file the revision that it has.
 fn is_given(over: &Over<'_>, row: &HgRow, first: Option<&Entry>, second: Option<&Entry>) -> bool
     requires held { (ps : Parents) × (w : Row) × IsRowOf ((over.now.fresh).now ++ (over.now.store).now) row.now w
-        × AreEntriesAt (over.now.store).now (option_map manifest_entry (option_copied first.entry)) (option_map manifest_entry (option_copied second.entry)) ps w }
+        × AreEntriesAt (over.now.store).now (option_map manifest_entry (option_copied first)) (option_map manifest_entry (option_copied second)) ps w }
     ensures { (ps : Parents) (w : Row) → IsRowOf ((over.now.fresh).now ++ (over.now.store).now) row.now w
         → AreEntriesAt (over.now.store).now (option_map manifest_entry (option_copied first.entry)) (option_map manifest_entry (option_copied second.entry)) ps w
         → result ≡ model.is_ruled ps w }
@@ -72,7 +72,7 @@ fn is_brought_as_given(
     second: Option<&Entry>,
 ) -> bool
     requires held { (ps : Parents) × (w : Row) × IsRowOf ((over.now.fresh).now ++ (over.now.store).now) row.now w
-        × AreEntriesAt (over.now.store).now (option_map manifest_entry (option_copied first.entry)) (option_map manifest_entry (option_copied second.entry)) ps w }
+        × AreEntriesAt (over.now.store).now (option_map manifest_entry (option_copied first)) (option_map manifest_entry (option_copied second)) ps w }
     ensures { (ps : Parents) (w : Row) → IsRowOf ((over.now.fresh).now ++ (over.now.store).now) row.now w
         → AreEntriesAt (over.now.store).now (option_map manifest_entry (option_copied first.entry)) (option_map manifest_entry (option_copied second.entry)) ps w
         → result ≡ model.is_ruled ps w }
@@ -90,8 +90,8 @@ fn is_new(parts: &FileParts<'_>, first: Option<&Entry>, second: Option<&Entry>) 
         → ((known : List Revision) × AreEntriesAt known (option_map manifest_entry (option_copied first.entry)) (option_map manifest_entry (option_copied second.entry)) ps w)
         → (IsTrue result ↔ new_revision (revision_at (ps.first).rows w.path) (revision_at (ps.second).rows w.path) (w.revision).body ≡ w.revision) }
 {
-    let (p, q) = parents_over(node_or_null(first), node_or_null(second));
-    p == parts.p && q == parts.q && is_plain(parts.meta, parts.body)
+    let parents = parents_over(node_or_null(first), node_or_null(second));
+    parts.has_parents(parents) && is_plain(parts.meta, parts.body)
 }
 
 // Whether these are the metadata that the rule gives to the body: none, or empty ones where it begins with a mark.
@@ -137,7 +137,7 @@ fn file_mark(alloc: Global, path: Bytes, parts: &FileParts<'_>) -> Result<Mark, 
 }
 
 fn copy_of_metadata(alloc: Global, meta: Option<&[u8]>) -> Result<Option<Bytes>, NoMemory>
-    ensures { IfOk result (λ copy. copy ≡ option_map (λ m. m.now) meta) }
+    ensures { IfOk result (λ copy. copy ≡ option_map (λ m. m.now) meta.entry) }
 {
     match meta {
         Some(meta) => Ok(Some(Bytes::of(alloc, meta)?)),
@@ -159,7 +159,9 @@ fn rename_source<'a>(over: &Over<'_>, parts: &FileParts<'a>) -> Option<&'a [u8]>
 fn named_source<'a>(over: &Over<'_>, meta: Option<&'a [u8]>) -> Option<&'a [u8]>
     ensures { (ps : Parents) → AreParents over.now ps → option_map (λ s. s.now) result ≡ model.named_source ps (model.copy_in (option_map (λ m. m.now) meta.entry)) }
 {
-    let (source, node) = copy_of(meta?)?;
+    let Some((source, node)) = copy_of(meta?) else {
+        return None;
+    };
     if node.is_null() || over.node_in_parents(source) != node {
         return None;
     }

@@ -40,13 +40,18 @@ pub fn stored_parts<'a>(store: &'a HgStore, row: &HgRow) -> FileParts<'a>
     ensures { (w : Row) → IsRowOf store.entry.now row.now w → ArePartsOf result w.revision }
 {
     let path = row.path.as_slice();
-    let Some((p, q)) = store.file_parents(path, &row.node) else {
+    let Some(parents) = store.file_parents(path, &row.node) else {
         unreachable!()
     };
     match store.file_text(path, &row.node) {
         Some(text) => {
             let (meta, body) = split_text(text);
-            FileParts { p, q, meta, body }
+            FileParts {
+                p: parents.0,
+                q: parents.1,
+                meta,
+                body,
+            }
         }
         None => unreachable!(),
     }
@@ -75,6 +80,13 @@ fn split_text(text: &[u8]) -> (Option<&[u8]>, &[u8])
 }
 
 impl FileParts<'_> {
+    /// Whether these are the parents, in this order.
+    pub fn has_parents(&self, parents: (Id, Id)) -> bool
+        ensures { IsTrue result ↔ (self.now.p ≡ parents.0) × (self.now.q ≡ parents.1) }
+    {
+        self.p == parents.0 && self.q == parents.1
+    }
+
     /// Whether another revision has the same parents and the same metadata.
     pub fn says_the_same(&self, other: &FileParts<'_>) -> bool
         ensures { (r s : FileRevision) → ArePartsOf self.now r → ArePartsOf other.now s → (IsTrue result ↔ SaysTheSame r s) }

@@ -35,9 +35,8 @@ returns c = λ w is.
     let known = c.args.store.now in
     let row = c.args.row.now in
     let at = c.in-Some-file_text.ensures.value ∙ ap (λ (p : Bytes). text_of known (FilesAt p) c.row.inside.node) c.as_slice-path.ensures ∙ ap (λ (v : RowValue). text_of known (FilesAt v.path) v.node) c.row.view_is in
-    let p = c.in-Some.p in
-    let q = c.in-Some.q in
-    let found = subst (λ (v : RowValue). AreFileParents known v.path v.node (p, q)) c.row.view_is (subst (λ (x : Bytes). AreFileParents known x c.row.inside.node (p, q)) c.as_slice-path.ensures c.in-Some.ensures.value) in
+    let pq = c.in-Some.parents in
+    let found = subst (λ (v : RowValue). AreFileParents known v.path v.node pq) c.row.view_is (subst (λ (x : Bytes). AreFileParents known x c.row.inside.node pq) c.as_slice-path.ensures c.in-Some.ensures.value) in
     let meta = c.split_text.result.0 in
     let body = c.split_text.result.1 in
-    stored-parts known row w is c.in-Some-file_text.text.now (record { p = p; q = q; meta = meta; body = body }) found at c.split_text.ensures
+    stored-parts known row w is c.in-Some-file_text.text.now (record { p = pq.0; q = pq.1; meta = meta; body = body }) found at c.split_text.ensures
