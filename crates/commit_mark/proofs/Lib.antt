@@ -2,7 +2,6 @@ pub mod Begun
 pub mod Commits
 pub mod Revisions
 pub mod Nodes
-pub mod Sources
 pub mod Steps
 pub mod FieldMarks
 pub mod Whole

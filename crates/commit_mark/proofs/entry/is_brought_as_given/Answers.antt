@@ -39,7 +39,7 @@ returns-else-eq c = λ ps w is entries.
     let node = c.in-Some.node in
     let at = c.in-Some.ensures.node w.path (revision_at (ps.first).rows w.path) (revision_at (ps.second).rows w.path) entries.in_first entries.in_second ∙ ap (λ (x : RowValue). option_map file_node (kept_of ps w x.blob)) c.row.view_is in
     let differs = λ (e : node ≡ row.node). true≢false (sym ((bytes_eq-Decides node c.row.inside.node).1 (e ∙ ap (λ (x : RowValue). x.node) (sym c.row.view_is))) ∙ sym c.eq.ensures ∙ c.if-eq.false) in
-    by-kept ps w row is.0 known c.in-Some.ensures.known _ _ entries node at false false ((λ e. absurd (true≢false (sym e))), (λ e. absurd (differs e))) (λ e. absurd (true≢false (sym e)))
+    c.if-eq.false ∙ by-kept ps w row is.0 known c.in-Some.ensures.known _ _ entries node at false false ((λ e. absurd (true≢false (sym e))), (λ e. absurd (differs e))) (λ e. absurd (true≢false (sym e)))
 
 pub returns-in-None : goal.returns-in-None
 returns-in-None c = λ ps w is entries.

@@ -16,4 +16,4 @@ returns-then-has_parents c = λ ps w are file entries.
 pub returns-else-has_parents : goal.returns-else-has_parents
 returns-else-has_parents c = λ ps w are file entries.
     let pq_is = c.parents_over-parents.ensures ∙ (λ i. ordered (c.node_or_null.ensures i) (c.node_or_null-2.ensures i)) in
-    not-by entries.0 _ _ ps w entries.1 c.args.parts.now are c.parents_over-parents.result pq_is c.has_parents.result c.has_parents.ensures c.if-has_parents.false
+    rw c.if-has_parents.false (not-by entries.0 _ _ ps w entries.1 c.args.parts.now are c.parents_over-parents.result pq_is c.has_parents.result c.has_parents.ensures c.if-has_parents.false)
