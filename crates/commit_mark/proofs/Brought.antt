@@ -1,5 +1,5 @@
 -- Whether the rule gives a file, whose revision a draft brings, the revision that it has.
-use Rattle.std.proofs.Common.{◌≡◌, Bool, true, List, ◌++◌, Option, Some, None, refl, sym, ap, subst, ◌∙◌}
+use Rattle.std.proofs.Common.{◌≡◌, Bool, true, List, Option, Some, None, refl, sym, ap, ◌∙◌}
 use Rattle.std.proofs.lemmas.Option.{same_Some, none-some}
 use Rattle.std.specs.Prelude.{option_map, unwrap_or, ◌↔◌, ◌&&◌, IsTrue}
 use Rattle.std.specs.Option.{option_or}
@@ -13,7 +13,7 @@ use Rattle.view_model.specs.Held.{IsFileHeld}
 use Rattle.pair_model.specs.Block.{Parents}
 use Rattle.pair_model.specs.Rule.{with_body, new_revision, ruled_revision, ruled_row, revision_at, tree_row_of}
 use Rattle.pair_known.specs.Rows.{RowValue, row_value}
-use Rattle.file_rule.specs.Parents.{IsRevisionAt, row_with}
+use Rattle.file_rule.specs.Parents.{row_with}
 use Rattle.file_rule.proofs.BackLemmas.{flag-back}
 use Rattle.file_rule.proofs.RowLemmas.{kept-one}
 use Rattle.commit_rule.specs.Parts.{IsRowOf}

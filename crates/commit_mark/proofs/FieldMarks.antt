@@ -11,7 +11,7 @@ use Rattle.hg_model.specs.FileText.{file_text}
 use Rattle.hg_model.specs.Manifest.{ManifestEntry, IsManifest}
 use Rattle.hg_changeset.specs.Values.{changeset_value}
 use Rattle.view_model.specs.View.{ChangesetView, IsChangesetView, Row, IsRevision, ManifestParents, entry_of_row}
-use Rattle.pair_model.specs.Block.{Parents, no_changeset}
+use Rattle.pair_model.specs.Block.{Parents}
 use Rattle.pair_model.specs.Rule.{ruled_manifest, ruled_files}
 use Rattle.pair_model.specs.MarkList.{Manifest, Files}
 use Rattle.pair_known.specs.declared.hg_draft.HgDraft.{HgDraft}

@@ -1,7 +1,6 @@
 -- The mark of one file.
 use Rattle.std.proofs.Common.{◌≡◌, Bool, true, false, List, [], ◌∷◌, sym, ap, ◌∙◌}
 use Rattle.std.specs.Prelude.{if◌then◌else◌}
-use Rattle.text_model.specs.Text.{Bytes}
 use Rattle.view_model.specs.View.{Row}
 use Rattle.pair_model.specs.Block.{Parents}
 use Rattle.pair_model.specs.MarkList.{Mark}

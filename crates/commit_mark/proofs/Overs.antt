@@ -1,5 +1,5 @@
 -- What is lent for the marks of a changeset stands for the changeset over its parents.
-use Rattle.std.proofs.Common.{◌≡◌, true, List, refl, sym, ap, subst, ◌∙◌}
+use Rattle.std.proofs.Common.{◌≡◌, List, refl, sym, ap, subst, ◌∙◌}
 use Rattle.std.specs.Prelude.{not}
 use Rattle.text_model.specs.Id.{Id, is_null}
 use Rattle.hg_model.specs.Revision.{Revision}

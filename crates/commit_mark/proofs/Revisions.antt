@@ -49,13 +49,15 @@ module _ (fresh known : List Revision) (value : RowValue) (w : Row) (is : IsRowO
   -- a row whose revision isn't brought is held
   pub stored-row : None ≡ revision_of fresh (FilesAt value.path) value.node → IsRowOf known value w
   stored-row none =
-      let held : revision_of known (FilesAt value.path) value.node ≡ Some (is.1).revision = ap (λ (o : Option Revision). option_or o (revision_of known (FilesAt value.path) value.node)) none ∙ sym split-at ∙ place in
-      (is.0, record {
-        revision = (is.1).revision;
-        is_held = (λ i. revision_of known (FilesAt (is.0 i).path) (is.0 i).node) ∙ held;
-        parents = (is.1).parents;
-        text = (is.1).text;
-      })
+      let held : revision_of known (FilesAt value.path) value.node ≡ Some (is.1).revision = ap (λ (o : Option Revision). option_or o (revision_of known (FilesAt value.path) value.node)) none ∙ sym split-at ∙ place in (
+        is.0,
+        record {
+          revision = (is.1).revision;
+          is_held = (λ i. revision_of known (FilesAt (is.0 i).path) (is.0 i).node) ∙ held;
+          parents = (is.1).parents;
+          text = (is.1).text;
+        },
+      )
 
 module _ (known : List Revision) (value : RowValue) (w : Row) (is : IsRowOf known value w) where
   pub held-at : revision_of known (FilesAt value.path) value.node ≡ Some (is.1).revision

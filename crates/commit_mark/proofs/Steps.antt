@@ -1,5 +1,5 @@
 -- One file more of a changeset that is marked.
-use Rattle.std.proofs.Common.{◌≡◌, ◌+◌, ℕ, List, ◌++◌, map, take, drop, Option, Some, None, Bor, refl, sym, ap, subst, ◌∙◌, bytes_eq, append_assoc, take-append-drop}
+use Rattle.std.proofs.Common.{◌≡◌, ◌+◌, ℕ, List, ◌++◌, take, drop, Option, Some, None, Bor, refl, sym, ap, subst, ◌∙◌, bytes_eq, append_assoc, take-append-drop}
 use Rattle.std.specs.Prelude.{option_map, slice_get}
 use Rattle.std.specs.List.{find, flat_map}
 use Rattle.std.specs.Option.{option_copied}

@@ -1,7 +1,6 @@
 -- A changeset over its parents, and what is lent for its marks.
-use Rattle.std.specs.Prelude.{◌≡◌, ◌++◌, true, not, List}
+use Rattle.std.specs.Prelude.{◌≡◌, true, not}
 use Rattle.text_model.specs.Id.{is_null}
-use Rattle.hg_model.specs.Revision.{Revision}
 use Rattle.view_model.specs.View.{ChangesetView, IsChangesetView}
 use Rattle.pair_model.specs.Block.{Parents, no_changeset}
 use Rattle.pair_known.specs.declared.hg_draft.HgDraft.{HgDraft}

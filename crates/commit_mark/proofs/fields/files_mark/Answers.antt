@@ -1,7 +1,7 @@
 use Rattle.std.proofs.Common.{Bool, List, [], ◌∷◌, sym, ap, ◌∙◌}
 use Rattle.std.specs.Prelude.{if◌then◌else◌, option_map}
 use Rattle.text_model.specs.Text.{Bytes}
-use Rattle.pair_model.specs.MarkList.{Mark, Files}
+use Rattle.pair_model.specs.MarkList.{Files}
 use Rattle.hg_changeset.specs.Values.{changeset_value}
 use Rattle.commit_mark.proofs.FieldMarks.{listed-by, files-mark}
 use Rattle.commit_mark.proofs.fields.files_mark.Goals as goal

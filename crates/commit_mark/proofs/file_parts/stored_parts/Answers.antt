@@ -1,8 +1,8 @@
-use Rattle.std.proofs.Common.{Some, None, true≢false, sym, ap, subst, ◌∙◌}
+use Rattle.std.proofs.Common.{true≢false, sym, ap, subst, ◌∙◌}
 use Rattle.std.specs.Prelude.{is_some}
 use Rattle.text_model.specs.Text.{Bytes}
 use Rattle.text_model.proofs.Options.{none_some}
-use Rattle.hg_model.specs.Revision.{FilesAt, Revision, revision_of, knows}
+use Rattle.hg_model.specs.Revision.{FilesAt, knows}
 use Rattle.hg_store.specs.Known.{text_of, AreFileParents}
 use Rattle.pair_known.specs.Rows.{RowValue}
 use Rattle.commit_mark.proofs.Revisions.{held-at, held-text, text-spells, stored-parts}

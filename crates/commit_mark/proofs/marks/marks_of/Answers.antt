@@ -1,8 +1,7 @@
-use Rattle.std.proofs.Common.{◌≡◌, List, ◌++◌, [], refl, sym, ap, subst, ◌∙◌}
+use Rattle.std.proofs.Common.{List, ◌++◌, refl, sym, ap, subst, ◌∙◌}
 use Rattle.std.specs.List.{flat_map}
 use Rattle.hg_changeset.specs.Values.{changeset_value}
-use Rattle.view_model.specs.View.{ChangesetView}
-use Rattle.pair_model.specs.Block.{Block, changesets_in, view_or_none}
+use Rattle.pair_model.specs.Block.{changesets_in, view_or_none}
 use Rattle.pair_model.specs.MarkList.{Mark}
 use Rattle.plain_rule.proofs.OverLemmas.{first-view, second-view}
 use Rattle.partner_model.specs.Mark.{entry_marks, manifest_marks, files_marks, user_marks, date_marks, parents_of_changeset}

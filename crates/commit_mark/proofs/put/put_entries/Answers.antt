@@ -1,10 +1,7 @@
-use Rattle.std.proofs.Common.{◌≡◌, ◌<◌, ◌++◌, ℕ, List, Some, length, get_or, refl, sym, ap, subst, ◌∙◌, arith, take_all}
-use Rattle.std.specs.Prelude.{slice_get}
+use Rattle.std.proofs.Common.{◌≡◌, ◌++◌, List, length, refl, sym, ap, ◌∙◌, arith, take_all}
 use Rattle.std.specs.List.{flat_map}
 use Rattle.std.proofs.lemmas.List.{length-map}
-use Rattle.view_model.specs.View.{ChangesetView, Row}
-use Rattle.pair_model.specs.Block.{Parents}
-use Rattle.pair_model.specs.MarkList.{Mark}
+use Rattle.view_model.specs.View.{Row}
 use Rattle.pair_known.specs.Rows.{RowValue, row_value}
 use Rattle.file_rule.proofs.RowsLoop.{seen}
 use Rattle.commit_rule.proofs.ListLemmas.{get-at}

@@ -1,7 +1,5 @@
-use Rattle.std.proofs.Common.{◌≡◌, ◌++◌, ◌∷◌, [], List, map, take, sym, ap, subst, ◌∙◌}
-use Rattle.hg_model.specs.Changeset.{Extra}
-use Rattle.pair_model.specs.MarkList.{Mark, OneExtra}
-use Rattle.commit_mark.specs.Parts.{BeginList}
+use Rattle.std.proofs.Common.{◌++◌, ◌∷◌, [], map, take, sym, ◌∙◌}
+use Rattle.pair_model.specs.MarkList.{OneExtra}
 use Rattle.commit_mark.proofs.Begun.{begin-same, extras-more, extras-begin}
 use Rattle.commit_mark.proofs.put.put_extras.Goals as goal
 
