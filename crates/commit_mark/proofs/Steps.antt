@@ -20,8 +20,8 @@ use Rattle.commit_rule.proofs.BlobLemmas.{row-there}
 use Rattle.mark_code.specs.declared.mark.Mark.{Mark}
 use Rattle.partner_model.specs.Mark.{entry_marks}
 use Rattle.mark_law.proofs.Entries.{entries-more}
-use Rattle.commit_mark.specs.Over.{IsOver}
-use Rattle.commit_mark.specs.Parts.{marks_in, BeginList, AreEntriesAt}
+use Rattle.commit_mark.specs.Over.{IsOver, IsRowOver}
+use Rattle.commit_mark.specs.Parts.{marks_in, BeginList}
 use Rattle.commit_mark.specs.declared.over.Over.{Over}
 use Rattle.commit_mark.proofs.Begun.{begin-front, begin-same}
 
@@ -38,17 +38,20 @@ module _ (over : Over) (d : HgDraft) (ps : Parents) (v : ChangesetView) (is : Is
   path-here : item.path ≡ (row-here.0).path
   path-here = ap (λ (x : RowValue). x.path) (sym (row-here.2).0)
 
-  pub entries-here : (p q : Bytes) → p ≡ item.path → q ≡ item.path → (e f : Option (Bor Entry)) → option_map (λ x. manifest_entry x.now) e ≡ find (λ x. bytes_eq x.path p) ((over.first).manifest).now
+  pub over-here : (p q : Bytes) → p ≡ item.path → q ≡ item.path → (e f : Option (Bor Entry)) → option_map (λ x. manifest_entry x.now) e ≡ find (λ x. bytes_eq x.path p) ((over.first).manifest).now
       → option_map (λ x. manifest_entry x.now) f ≡ find (λ x. bytes_eq x.path q) ((over.second).manifest).now
-      → AreEntriesAt (over.store).now (option_map manifest_entry (option_copied e)) (option_map manifest_entry (option_copied f)) ps row-here.0
-  entries-here p q p_is q_is e f e_is f_is =
+      → IsRowOver over item e f ps row-here.0
+  over-here p q p_is q_is e f e_is f_is =
       let first = (over.first).manifest in
       let second = (over.second).manifest in
       record {
-        in_first = entry-in (over.store).now first.now (ps.first).rows (row-here.0).path (option_map manifest_entry (option_copied e)) ((is.parents).first).entries ((is.parents).first).files
-            (copied e ∙ e_is ∙ ap (λ (x : Bytes). find (λ (y : ManifestEntry). bytes_eq y.path x) first.now) (p_is ∙ path-here));
-        in_second = entry-in (over.store).now second.now (ps.second).rows (row-here.0).path (option_map manifest_entry (option_copied f)) ((is.parents).second).entries ((is.parents).second).files
-            (copied f ∙ f_is ∙ ap (λ (x : Bytes). find (λ (y : ManifestEntry). bytes_eq y.path x) second.now) (q_is ∙ path-here));
+        of_row = row-here.2;
+        entries = record {
+          in_first = entry-in (over.store).now first.now (ps.first).rows (row-here.0).path (option_map manifest_entry (option_copied e)) ((is.parents).first).entries ((is.parents).first).files
+              (copied e ∙ e_is ∙ ap (λ (x : Bytes). find (λ (y : ManifestEntry). bytes_eq y.path x) first.now) (p_is ∙ path-here));
+          in_second = entry-in (over.store).now second.now (ps.second).rows (row-here.0).path (option_map manifest_entry (option_copied f)) ((is.parents).second).entries ((is.parents).second).files
+              (copied f ∙ f_is ∙ ap (λ (x : Bytes). find (λ (y : ManifestEntry). bytes_eq y.path x) second.now) (q_is ∙ path-here));
+        };
       }
 
   module _ (old marks : List model.Mark) (so_far : marks ≡ old ++ flat_map (entry_marks ps) (take i v.rows)) (mark : Option Mark) (mark-is : marks_in mark ≡ entry_marks ps row-here.0) where

@@ -1,8 +1,12 @@
 -- The marks of the parts of a changeset, one after the other.
 use Rattle.std.specs.Prelude.{◌≡◌, ◌++◌, List, [], ◌∷◌, Option, Some, None, option_map, unwrap_or, bytes_eq}
+use Rattle.std.specs.Borrow.{Bor}
 use Rattle.std.specs.List.{find}
+use Rattle.std.specs.Option.{option_copied}
 use Rattle.text_model.specs.Text.{Bytes}
 use Rattle.text_model.specs.Id.{Id, null}
+use Rattle.hg_manifest.specs.Values.{manifest_entry}
+use Rattle.hg_manifest.specs.declared.entry.Entry.{Entry}
 use Rattle.hg_model.specs.Manifest.{ManifestEntry}
 use Rattle.hg_model.specs.Revision.{Revision}
 use Rattle.view_model.specs.View.{FileRevision, Row}
@@ -45,3 +49,7 @@ pub record SaysTheSame (r s : FileRevision) : Type 0 where
 pub record AreEntriesAt (known : List Revision) (first second : Option ManifestEntry) (ps : Parents) (w : Row) : Type 0 where
   pub in_first : IsRevisionAt known w.path first (revision_at (ps.first).rows w.path)
   pub in_second : IsRevisionAt known w.path second (revision_at (ps.second).rows w.path)
+
+-- the entries that are lent are these
+abbrev pub AreLentAt : List Revision → Option (Bor Entry) → Option (Bor Entry) → Parents → Row → Type 0
+AreLentAt known first second ps w = AreEntriesAt known (option_map manifest_entry (option_copied first)) (option_map manifest_entry (option_copied second)) ps w

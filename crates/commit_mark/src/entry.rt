@@ -1,6 +1,4 @@
-ghost use Rattle.std.specs.Prelude.{◌≡◌, ◌++◌, ◌↔◌, List, Some, option_map, IfOk, IsTrue};
-ghost use Rattle.std.specs.Option.{option_copied};
-ghost use Rattle.hg_manifest.specs.Values.{manifest_entry};
+ghost use Rattle.std.specs.Prelude.{◌≡◌, ◌↔◌, List, option_map, IfOk, IsTrue};
 ghost use Rattle.hg_model.specs.FileText.{IsFile, plain_meta};
 ghost use Rattle.hg_model.specs.Revision.{Revision};
 ghost use Rattle.view_model.specs.View.{FileRevision, Row};
@@ -9,9 +7,8 @@ ghost use Rattle.pair_model.specs.MarkList.{File};
 ghost use Rattle.pair_model.specs.Rule.{new_revision, revision_at};
 ghost use Rattle.mark_code.specs.Values.{mark_value};
 ghost use Rattle.partner_model.specs.Mark as model;
-ghost use Rattle.commit_mark.specs.Over.{AreParents};
-ghost use Rattle.commit_rule.specs.Parts.{IsRowOf};
-ghost use Rattle.commit_mark.specs.Parts.{marks_in, ArePartsOf, AreEntriesAt};
+ghost use Rattle.commit_mark.specs.Over.{AreParents, IsRowOver};
+ghost use Rattle.commit_mark.specs.Parts.{marks_in, ArePartsOf, AreLentAt};
 
 use crate::file_parts::{FileParts, parts_of, stored_parts};
 use crate::over::Over;
@@ -35,10 +32,8 @@ pub fn entry_mark(
     first: Option<&Entry>,
     second: Option<&Entry>,
 ) -> Result<Option<Mark>, NoMemory>
-    requires held { (ps : Parents) × (w : Row) × IsRowOf ((over.now.fresh).now ++ (over.now.store).now) row.now w
-        × AreEntriesAt (over.now.store).now (option_map manifest_entry (option_copied first)) (option_map manifest_entry (option_copied second)) ps w }
-    ensures { IfOk result (λ mark. (ps : Parents) (w : Row) → AreParents over.now ps → IsRowOf ((over.now.fresh).now ++ (over.now.store).now) row.now w
-        → AreEntriesAt (over.now.store).now (option_map manifest_entry (option_copied first.entry)) (option_map manifest_entry (option_copied second.entry)) ps w
+    requires held { (ps : Parents) × (w : Row) × IsRowOver over.now row.now first second ps w }
+    ensures { IfOk result (λ mark. (ps : Parents) (w : Row) → AreParents over.now ps → IsRowOver over.now row.now first.entry second.entry ps w
         → marks_in mark ≡ model.entry_marks ps w) }
 {
     if is_given(over, row, first, second) {
@@ -51,11 +46,8 @@ pub fn entry_mark(
 
 // Whether the rule gives a file the revision that it has.
 fn is_given(over: &Over<'_>, row: &HgRow, first: Option<&Entry>, second: Option<&Entry>) -> bool
-    requires held { (ps : Parents) × (w : Row) × IsRowOf ((over.now.fresh).now ++ (over.now.store).now) row.now w
-        × AreEntriesAt (over.now.store).now (option_map manifest_entry (option_copied first)) (option_map manifest_entry (option_copied second)) ps w }
-    ensures { (ps : Parents) (w : Row) → IsRowOf ((over.now.fresh).now ++ (over.now.store).now) row.now w
-        → AreEntriesAt (over.now.store).now (option_map manifest_entry (option_copied first.entry)) (option_map manifest_entry (option_copied second.entry)) ps w
-        → result ≡ model.is_ruled ps w }
+    requires held { (ps : Parents) × (w : Row) × IsRowOver over.now row.now first second ps w }
+    ensures { (ps : Parents) (w : Row) → IsRowOver over.now row.now first.entry second.entry ps w → result ≡ model.is_ruled ps w }
 {
     match over.fresh.get(row.path.as_slice(), &row.node) {
         Some(_) => is_brought_as_given(over, row, first, second),
@@ -71,11 +63,8 @@ fn is_brought_as_given(
     first: Option<&Entry>,
     second: Option<&Entry>,
 ) -> bool
-    requires held { (ps : Parents) × (w : Row) × IsRowOf ((over.now.fresh).now ++ (over.now.store).now) row.now w
-        × AreEntriesAt (over.now.store).now (option_map manifest_entry (option_copied first)) (option_map manifest_entry (option_copied second)) ps w }
-    ensures { (ps : Parents) (w : Row) → IsRowOf ((over.now.fresh).now ++ (over.now.store).now) row.now w
-        → AreEntriesAt (over.now.store).now (option_map manifest_entry (option_copied first.entry)) (option_map manifest_entry (option_copied second.entry)) ps w
-        → result ≡ model.is_ruled ps w }
+    requires held { (ps : Parents) × (w : Row) × IsRowOver over.now row.now first second ps w }
+    ensures { (ps : Parents) (w : Row) → IsRowOver over.now row.now first.entry second.entry ps w → result ≡ model.is_ruled ps w }
 {
     let parts = parts_of(over.store, over.fresh, row);
     match kept_node(over.store, first, second, &row.blob) {
@@ -87,7 +76,7 @@ fn is_brought_as_given(
 // Whether a revision has the parents and the metadata of the new one that the rule gives over these entries.
 fn is_new(parts: &FileParts<'_>, first: Option<&Entry>, second: Option<&Entry>) -> bool
     ensures { (ps : Parents) (w : Row) → ArePartsOf parts.now w.revision → IsFile (w.revision).meta (w.revision).body
-        → ((known : List Revision) × AreEntriesAt known (option_map manifest_entry (option_copied first.entry)) (option_map manifest_entry (option_copied second.entry)) ps w)
+        → ((known : List Revision) × AreLentAt known first.entry second.entry ps w)
         → (IsTrue result ↔ new_revision (revision_at (ps.first).rows w.path) (revision_at (ps.second).rows w.path) (w.revision).body ≡ w.revision) }
 {
     let parents = parents_over(node_or_null(first), node_or_null(second));
@@ -147,7 +136,8 @@ fn copy_of_metadata(alloc: Global, meta: Option<&[u8]>) -> Result<Option<Bytes>,
 
 // The path of which a revision is a copy, where it has no parents and names the node that a parent has there.
 fn rename_source<'a>(over: &Over<'_>, parts: &FileParts<'a>) -> Option<&'a [u8]>
-    ensures { (ps : Parents) (r : FileRevision) → AreParents over.now ps → ArePartsOf parts.now r → option_map (λ s. s.now) result ≡ model.rename_source ps r }
+    ensures { (ps : Parents) (r : FileRevision) → AreParents over.now ps → ArePartsOf parts.now r
+        → option_map (λ s. s.now) result ≡ model.rename_source ps r }
 {
     if !parts.p.is_null() || !parts.q.is_null() {
         return None;
@@ -157,7 +147,8 @@ fn rename_source<'a>(over: &Over<'_>, parts: &FileParts<'a>) -> Option<&'a [u8]>
 
 // The path that metadata name as the source of a copy, where they name the node that a parent has there.
 fn named_source<'a>(over: &Over<'_>, meta: Option<&'a [u8]>) -> Option<&'a [u8]>
-    ensures { (ps : Parents) → AreParents over.now ps → option_map (λ s. s.now) result ≡ model.named_source ps (model.copy_in (option_map (λ m. m.now) meta.entry)) }
+    ensures { (ps : Parents) → AreParents over.now ps
+        → option_map (λ s. s.now) result ≡ model.named_source ps (model.copy_in (option_map (λ m. m.now) meta.entry)) }
 {
     let Some((source, node)) = copy_of(meta?) else {
         return None;

@@ -14,15 +14,17 @@ stored_parts-requires c =
     let row = c.args.row.now in
     let ps = c.requires.held.0 in
     let w = c.requires.held.1 in
-    let is = c.requires.held.2 in
-    let entries = c.requires.held.3 in
+    let is = (c.requires.held.2).of_row in
+    let entries = (c.requires.held.2).entries in
     let node = c.in-Some.node in
     let at = c.in-Some.ensures.node w.path (revision_at (ps.first).rows w.path) (revision_at (ps.second).rows w.path) entries.in_first entries.in_second ∙ ap (λ (x : RowValue). option_map file_node (kept_of ps w x.blob)) c.row.view_is in
     let same = (bytes_eq-Decides node c.row.inside.node).0 (sym c.eq.ensures ∙ c.if-eq.true) ∙ ap (λ (x : RowValue). x.node) c.row.view_is in
     record { held = (row_with w.path w.flag (kept ps w row is.0 known c.in-Some.ensures.known _ _ entries node at).rev, kept-row ps w row is.0 known c.in-Some.ensures.known _ _ entries node at same) }
 
 pub returns-then-eq : goal.returns-then-eq
-returns-then-eq c = λ ps w is entries.
+returns-then-eq c = λ ps w over.
+    let is = over.of_row in
+    let entries = over.entries in
     let known = (c.args.over.now.store).now in
     let row = c.args.row.now in
     let node = c.in-Some.node in
@@ -33,7 +35,9 @@ returns-then-eq c = λ ps w is entries.
     by-kept ps w row is.0 known c.in-Some.ensures.known _ _ entries node at true c.says_the_same.result ((λ _. same), (λ _. refl)) (λ _. c.says_the_same.ensures rev w.revision stored (c.parts_of-parts.ensures w is))
 
 pub returns-else-eq : goal.returns-else-eq
-returns-else-eq c = λ ps w is entries.
+returns-else-eq c = λ ps w over.
+    let is = over.of_row in
+    let entries = over.entries in
     let known = (c.args.over.now.store).now in
     let row = c.args.row.now in
     let node = c.in-Some.node in
@@ -42,7 +46,9 @@ returns-else-eq c = λ ps w is entries.
     c.if-eq.false ∙ by-kept ps w row is.0 known c.in-Some.ensures.known _ _ entries node at false false ((λ e. absurd (true≢false (sym e))), (λ e. absurd (differs e))) (λ e. absurd (true≢false (sym e)))
 
 pub returns-in-None : goal.returns-in-None
-returns-in-None c = λ ps w is entries.
+returns-in-None c = λ ps w over.
+    let is = over.of_row in
+    let entries = over.entries in
     let row = c.args.row.now in
     let none = c.in-None.ensures.node w.path (revision_at (ps.first).rows w.path) (revision_at (ps.second).rows w.path) entries.in_first entries.in_second ∙ ap (λ (x : RowValue). option_map file_node (kept_of ps w x.blob)) c.row.view_is in
     by-new ps w row is.0 none c.is_new.result (c.is_new.ensures ps w (c.parts_of-parts.ensures w is) (is.1).text.0 ((c.args.over.now.store).now, entries))

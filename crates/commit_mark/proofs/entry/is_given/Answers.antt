@@ -8,7 +8,9 @@ use Rattle.commit_mark.proofs.Brought.{by-same}
 use Rattle.commit_mark.proofs.entry.is_given.Goals as goal
 
 pub returns-in-None : goal.returns-in-None
-returns-in-None c = λ ps w is entries.
+returns-in-None c = λ ps w at.
+    let is = at.of_row in
+    let entries = at.entries in
     let fresh = (c.args.over.now.fresh).now in
     let known = (c.args.over.now.store).now in
     let row = c.args.row.now in

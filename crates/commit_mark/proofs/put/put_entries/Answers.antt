@@ -6,7 +6,7 @@ use Rattle.pair_known.specs.Rows.{RowValue, row_value}
 use Rattle.file_rule.proofs.RowsLoop.{seen}
 use Rattle.commit_rule.proofs.ListLemmas.{get-at}
 use Rattle.partner_model.specs.Mark.{entry_marks}
-use Rattle.commit_mark.proofs.Steps.{row-here, entries-here, marks-more, marks-begin}
+use Rattle.commit_mark.proofs.Steps.{row-here, over-here, marks-more, marks-begin}
 use Rattle.commit_mark.proofs.put.put_entries.Goals as goal
 
 pub entry_mark-requires : goal.entry_mark-requires
@@ -21,9 +21,9 @@ entry_mark-requires c =
     let here = row-here over c.args.h.now ps v is i item at in
     let first = seen (over.first.manifest).now c.loop-row.first_walk _ _ _ c.loop-row.invariant.first_seen refl c.get-in_first.ensures.entry in
     let second = seen (over.second.manifest).now c.loop-row.second_walk _ _ _ c.loop-row.invariant.second_seen refl c.get-in_second.ensures.entry in
-    let entries = entries-here over c.args.h.now ps v is i item at c.as_slice.result.now c.as_slice-in-loop-row.result.now (c.as_slice.ensures ∙ ap (λ (x : RowValue). x.path) c.row.view_is)
+    let row-over = over-here over c.args.h.now ps v is i item at c.as_slice.result.now c.as_slice-in-loop-row.result.now (c.as_slice.ensures ∙ ap (λ (x : RowValue). x.path) c.row.view_is)
     (c.as_slice-in-loop-row.ensures ∙ ap (λ (x : RowValue). x.path) c.row.view_is) c.get-in_first.result c.get-in_second.result first second in
-    record { held = (ps, here.0, here.2, entries) }
+    record { held = (ps, here.0, row-over) }
 
 pub put-requires : goal.put-requires
 put-requires c =
@@ -37,9 +37,9 @@ put-requires c =
     let here = row-here over c.args.h.now ps v is i item at in
     let first = seen (over.first.manifest).now c.loop-row.first_walk _ _ _ c.loop-row.invariant.first_seen refl c.get-in_first.ensures.entry in
     let second = seen (over.second.manifest).now c.loop-row.second_walk _ _ _ c.loop-row.invariant.second_seen refl c.get-in_second.ensures.entry in
-    let entries = entries-here over c.args.h.now ps v is i item at c.as_slice.result.now c.as_slice-in-loop-row.result.now (c.as_slice.ensures ∙ ap (λ (x : RowValue). x.path) c.row.view_is)
+    let row-over = over-here over c.args.h.now ps v is i item at c.as_slice.result.now c.as_slice-in-loop-row.result.now (c.as_slice.ensures ∙ ap (λ (x : RowValue). x.path) c.row.view_is)
     (c.as_slice-in-loop-row.ensures ∙ ap (λ (x : RowValue). x.path) c.row.view_is) c.get-in_first.result c.get-in_second.result first second in
-    let mark = c.in_ok-mark.ensures ps here.0 is.parents here.2 entries in
+    let mark = c.in_ok-mark.ensures ps here.0 is.parents row-over in
     marks-begin over c.args.h.now ps v is i item at c.args.marks.now c.loop-row.marks (c.loop-row.invariant.put ps v is) c.in_ok-mark.mark mark c.requires.over.3
 
 pub loop-row-preserved : goal.loop-row-preserved
@@ -54,9 +54,9 @@ loop-row-preserved c = record {
       let here = row-here over c.args.h.now ps v is i item at in
       let first = seen (over.first.manifest).now c.loop-row.first_walk _ _ _ c.loop-row.invariant.first_seen refl c.get-in_first.ensures.entry in
       let second = seen (over.second.manifest).now c.loop-row.second_walk _ _ _ c.loop-row.invariant.second_seen refl c.get-in_second.ensures.entry in
-      let entries = entries-here over c.args.h.now ps v is i item at c.as_slice.result.now c.as_slice-in-loop-row.result.now (c.as_slice.ensures ∙ ap (λ (x : RowValue). x.path) c.row.view_is)
+      let row-over = over-here over c.args.h.now ps v is i item at c.as_slice.result.now c.as_slice-in-loop-row.result.now (c.as_slice.ensures ∙ ap (λ (x : RowValue). x.path) c.row.view_is)
       (c.as_slice-in-loop-row.ensures ∙ ap (λ (x : RowValue). x.path) c.row.view_is) c.get-in_first.result c.get-in_second.result first second in
-      let mark = c.in_ok-mark.ensures ps here.0 is.parents here.2 entries in
+      let mark = c.in_ok-mark.ensures ps here.0 is.parents row-over in
       c.in_ok-put.ensures ∙ marks-more over c.args.h.now ps v is i item at c.args.marks.now c.loop-row.marks (c.loop-row.invariant.put ps v is) c.in_ok-mark.mark mark;
 }
 
