@@ -38,7 +38,7 @@ pub fn files_mark(alloc: Global, over: &Over<'_>, h: &HgDraft) -> Result<Option<
     if are_same(&h.changeset.files, &files) {
         return Ok(None);
     }
-    let copy = copy_of(alloc, &h.changeset.files)?;
+    let copy = copy_of_paths(alloc, &h.changeset.files)?;
     Ok(Some(Mark::Files(copy)))
 }
 
@@ -64,7 +64,7 @@ fn is_same(a: &Bytes, b: &Bytes) -> bool
 }
 
 // The paths, as a list of its own.
-fn copy_of(alloc: Global, paths: &Paths) -> Result<Paths, NoMemory>
+fn copy_of_paths(alloc: Global, paths: &Paths) -> Result<Paths, NoMemory>
     ensures { IfOk result (λ copy. copy ≡ paths.now) }
 {
     let mut copy = Paths::new(alloc);

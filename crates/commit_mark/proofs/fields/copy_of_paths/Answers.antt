@@ -1,6 +1,6 @@
 use Rattle.std.proofs.Common.{◌++◌, ◌∷◌, [], sym, ◌∙◌}
 use Rattle.text_model.proofs.Elements.{take_push}
-use Rattle.commit_mark.proofs.fields.copy_of.Goals as goal
+use Rattle.commit_mark.proofs.fields.copy_of_paths.Goals as goal
 
 pub loop-place-preserved : goal.loop-place-preserved
 loop-place-preserved c =
