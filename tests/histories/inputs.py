@@ -43,6 +43,8 @@ def read_bundle(data):
         raise Refused('Truncated', NO_ID, 0)
     arrivals, base, end = {}, b'', 0
     for entry in bundles.entries_of(data):
+        if entry.group == CHANGESETS and entry.q != NULL and entry.p in (NULL, entry.q):
+            raise Refused('ParentOrder', entry.node.hex().encode(), entry.at)
         if any(parent != NULL and (entry.group, parent) not in arrivals for parent in (entry.p, entry.q)):
             raise Refused('ParentUnknown', entry.node.hex().encode(), entry.at)
         if entry.at != end:

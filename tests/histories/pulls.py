@@ -43,14 +43,17 @@ def add_changeset(history, arrivals, arrival, plain):
         raise arrival.refused('ManifestUnknown')
     if any((group_of_path(path), file) not in arrivals for path, file, _ in manifest_lines(arrivals, node)):
         raise arrival.refused('FileUnknown')
-    changeset = changeset_of(arrivals, arrival)
+    choose = plain_block_of_changeset if plain else block_of_changeset
+    add_block(history, choose(history, changeset_of(arrivals, arrival), arrival), arrival)
+
+
+def refuse_clash(changeset, arrival):
     if has_clash(set(changeset.paths())):
         raise arrival.refused('PathClash')
-    choose = plain_block_of_changeset if plain else block_of_changeset
-    add_block(history, choose(history, changeset, arrival), arrival)
 
 
 def block_of_changeset(history, changeset, arrival):
+    refuse_clash(changeset, arrival)
     has_link = any(p in history.links for p in changeset.parents)
     if has_link and unmark_changeset(history, changeset) is None:
         raise arrival.refused('ParentIsLink')
@@ -62,6 +65,7 @@ def block_of_changeset(history, changeset, arrival):
 
 
 def plain_block_of_changeset(history, changeset, arrival):
+    refuse_clash(changeset, arrival)
     if is_link(changeset.parents, changeset.text()):
         raise arrival.refused('NotPlain')
     commit = rule_commit(history, changeset)
