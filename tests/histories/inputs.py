@@ -5,7 +5,7 @@ from typing import NamedTuple
 from formats import git as streams
 from formats import hg as bundles
 from formats.hg import NULL
-from members import Changeset, FileRow, Object, Revision
+from members import Changeset, FileRow, Revision
 from texts import in_order, read_changeset, read_file
 
 NO_ID = b'0' * 40

@@ -2,16 +2,17 @@
 from formats.hg import NULL, node_id
 from inputs import NO_ID, Refused
 from marks import NULL_MANIFEST, ChangesetMarks, CommitMarks, File, Rename, extras_of, headers_of
-from members import (EMPTY_TREE, EXECUTABLE, FILE, GITLINK, GROUP, MODE_OF_FLAG, SYMLINK, TREE, Changeset, Commit, FileRow, Item, Plain, Raw,
-                     Revision, TreeRow, file_of_tree, has_clash)
+from members import (EMPTY_TREE, EXECUTABLE, FILE, GITLINK, GROUP, MODE_OF_FLAG, SYMLINK, TREE, Changeset, Commit, FileRow, Item, Revision,
+                     TreeRow, file_of_tree, has_clash)
 from partners import History
 from rules import files_given, manifest_given, mark_changeset, mark_commit, parent_at, revision_given
-from texts import MARKER, copy_metadata, in_order
+from texts import MARKER, Plain, Raw, copy_metadata, in_order
 
 PATHS = [b'a', b'b', b'a.b', b'a0', b'd/c', b'd/e/f', b'd.x', b'd0', b'lib/x', b'x y', b'100%', b'caf\xc3\xa9', b'd', b'lib', b'd/e']
 BODIES = [b'hello\n', b'1\n', b'2\n', b'3\n', b'no end', b'', MARKER + b'x', MARKER + MARKER + b'y', b'\x01']
 USERS = [b'Ann <ann@x>', b'bob', b'carl@x', b'Zo\xc3\xab <zoe@x>', b'two words']
-ODD_USERS = [b'd<e>f', b'<>', b'<e@x>', b'Ann <none@none>', b'A@b <none@none>', b'none@none', b'Ann <ann@x', b' <a>', b'x@y <x@y>', b'x ', b'N  <e>']
+ODD_USERS = [b'd<e>f', b'<>', b'<e@x>', b'Ann <none@none>', b'A@b <none@none>', b'none@none', b'Ann <ann@x', b' <a>', b'x@y <x@y>', b'x ',
+             b'N  <e>', b' ']
 ZONES = [0, 3600, -19800, 43200]
 ODD_ZONES = [90, -1, 359940, 360000, 1 << 31, -(1 << 31)]
 ODD_TIMES = [-1, 1 << 62, -(1 << 62)]
@@ -27,6 +28,7 @@ MESSAGES = [b'one\n', b'two\n\nlines\n', b'\n', b'end\n\n']
 ODD_MESSAGES = [b'', b'one', b'\xff\0']
 ODD_METADATA = [b'', b'x: y\n', b'copy: a\n', b'copy: a\ncopyrev: ' + b'1' * 40 + b'\n', b'\x01', b'no end', b'x: y\ncopy: b\n']
 OTHER_NODE = b'\x11' * 20
+MOST_MEMBERS = 8
 MOST_SPECIAL = 0.6
 ODD = 0.3
 
@@ -39,13 +41,16 @@ class Asked:
 
 
 class Members:
-    """Members over a history. Each choice is odd with the same probability, where 0 makes plain members alone."""
+    """Members that come in an input, over a history. Each choice is odd with the same probability, where 0 makes plain members alone."""
 
     def __init__(self, random, oddness):
         self.random = random
         self.oddness = oddness
         self.history = History()
+        self.came = []
         self.revisions, self.manifests = {}, {NULL: None}
+        for _ in range(random.randint(1, MOST_MEMBERS)):
+            self.add_next()
 
     def is_odd(self):
         return self.random.random() < self.oddness
@@ -251,7 +256,8 @@ class Members:
             self.revision_marks(commit),
             *[self.random.choice([None, None, None, value]) for value in (
                 self.random.choice([NULL_MANIFEST, (self.manifest_parent(), NULL), (self.manifest_parent(), self.manifest_parent())]),
-                self.other_files(()), self.random.choice(USERS + ODD_USERS + [b'', b'a\nb']), self.numbers(), self.random.choice(RAW_LINES + [b'0 0', b'a\nb']))],
+                self.other_files(()), self.random.choice(USERS + ODD_USERS + [b'', b'a\nb']), self.numbers(),
+                self.random.choice(RAW_LINES + [b'0 0', b'a\nb']))],
             self.extras())
         headers = headers_of(marks)
         return commit._replace(headers=headers if self.random.randrange(4) else self.spoilt(headers))

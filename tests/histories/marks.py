@@ -6,6 +6,7 @@ from members import Item
 from texts import TIME_LIMIT, ZONE_LIMIT, decimal, is_rising, node_of_hex, signed, unescape
 
 LEAST_OCTOPUS, MOST_PARENTS = 3, 64
+NULL_MANIFEST = b'null'
 
 
 # ---- a commit's headers
@@ -23,7 +24,7 @@ class File(NamedTuple):
 
 
 class CommitMarks(NamedTuple):
-    """What headers say of a changeset; None, or no items, where they say nothing. A manifest is `null` or two parents, and so is a date two numbers."""
+    """What headers say of a changeset; None, or no items, where they say nothing. A manifest is `null` or two parents."""
     revisions: Tuple[Tuple[bytes, object], ...] = ()
     manifest: object = None
     files: Optional[Tuple[bytes, ...]] = None
@@ -33,13 +34,10 @@ class CommitMarks(NamedTuple):
     extras: Tuple[Tuple[bytes, bytes], ...] = ()
 
 
-NULL_MANIFEST = b'null'
-
-
 def headers_of(marks):
     lines = [revision_line(path, mark) for path, mark in marks.revisions]
     if marks.manifest is not None:
-        lines.append(line_of(b'manifest', *([b'null'] if marks.manifest == NULL_MANIFEST else map(hex_of, marks.manifest))))
+        lines.append(line_of(b'manifest', *([NULL_MANIFEST] if marks.manifest == NULL_MANIFEST else map(hex_of, marks.manifest))))
     if marks.files is not None:
         lines.append(line_of(b'files', b'%d' % len(marks.files), *map(escape, marks.files)))
     if marks.user is not None:
@@ -97,7 +95,7 @@ def read_mark(kind, tokens):
     if kind == b'HG:file' and len(tokens) == 4:
         return read_file_mark(tokens)
     if kind == b'HG:manifest':
-        return NULL_MANIFEST if tokens == [b'null'] else all_or_none(map(node_of_hex, tokens), 2)
+        return NULL_MANIFEST if tokens == [NULL_MANIFEST] else all_or_none(map(node_of_hex, tokens), 2)
     if kind == b'HG:files' and tokens and decimal(tokens[0]) == len(tokens) - 1:
         return all_or_none(map(unescape, tokens[1:]), len(tokens) - 1)
     if kind in (b'HG:user', b'HG:raw') and len(tokens) == 1:

@@ -4,7 +4,7 @@ from typing import NamedTuple, Optional, Tuple
 from formats import git as streams
 from formats import hg as bundles
 from formats.hg import NULL
-from texts import Fields, Plain, Raw, changeset_text, file_text, in_order, is_below, is_fit, read_changeset, read_file
+from texts import Fields, Plain, changeset_text, file_text, in_order, is_below, is_fit, read_changeset, read_file
 
 FILE, GROUP, EXECUTABLE, SYMLINK, TREE, GITLINK = b'100644', b'100664', b'100755', b'120000', b'40000', b'160000'
 FLAG_OF_MODE = {FILE: b'', GROUP: b'', EXECUTABLE: b'x', SYMLINK: b'l'}
@@ -50,8 +50,11 @@ class Changeset(NamedTuple):
     def manifest_node(self):
         return NULL if self.manifest is None else bundles.node_id(*self.manifest, self.manifest_text())
 
+    def fields(self):
+        return Fields(self.manifest_node(), self.user, self.date, self.files, self.description)
+
     def text(self):
-        return changeset_text(Fields(self.manifest_node(), self.user, self.date, self.files, self.description))
+        return changeset_text(self.fields())
 
     def node(self):
         return bundles.node_id(*self.parents, self.text())
@@ -65,10 +68,10 @@ class Changeset(NamedTuple):
 
 def is_changeset(changeset):
     """These parts are those of a changeset: its texts say them and nothing else."""
-    fields = read_changeset(changeset.text())
-    return (fields is not None and fields[1:] == changeset[1:5]
-            and (bool(changeset.manifest) or changeset.manifest is None and not changeset.rows)
-            and (changeset.manifest is None or in_order(*changeset.manifest) == changeset.manifest)
+    manifest = changeset.manifest
+    return (read_changeset(changeset.text()) == changeset.fields()
+            and (manifest is not None or not changeset.rows)
+            and (manifest is None or in_order(*manifest) == manifest)
             and all(is_revision(row.revision) for row in changeset.rows))
 
 

@@ -1,7 +1,6 @@
 """What is written of blocks: a bundle of their changesets, or a stream of their commits."""
 from formats import git as streams
 from formats import hg as bundles
-from formats.hg import NULL
 from members import tree_objects
 
 

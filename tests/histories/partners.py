@@ -4,10 +4,10 @@ from typing import NamedTuple, Tuple
 
 from formats.hg import NULL
 from marks import LEAST_OCTOPUS, MOST_PARENTS, NULL_MANIFEST, Rename, read_extras, read_headers
-from members import Changeset, Commit, FileRow, Plain, Raw, Revision, handed_on, is_changeset, is_commit, item_fits, rows_of_tree
+from members import Changeset, Commit, FileRow, Revision, handed_on, is_changeset, is_commit, item_fits, rows_of_tree
 from rules import (LINK_DESCRIPTION, LINK_KEY, LINK_USER, files_given, first_commit, links_of, manifest_given, mark_changeset, mark_commit,
                    node_of_source, parents_of_commit, rule_changeset)
-from texts import Author, copy_metadata, line_of_author, message_of, read_changeset
+from texts import Author, Plain, Raw, copy_metadata, line_of_author, message_of, read_changeset
 
 
 class Block(NamedTuple):
@@ -187,6 +187,3 @@ def partner_of_commit(history, commit):
         return unmark_commit(history, commit)
     return mark_changeset(history, commit)
 
-
-def block_of(history, changeset, commit):
-    return Block(tuple(links_of(history, commit)), changeset, commit)

@@ -2,12 +2,12 @@
 from typing import List, NamedTuple
 
 from formats.hg import NULL
-from inputs import (CHANGESETS, MANIFESTS, NO_ID, Refused, changeset_of, group_of_path, manifest_lines, read_bundle, read_commit,
+from inputs import (CHANGESETS, MANIFESTS, Refused, changeset_of, group_of_path, manifest_lines, read_bundle, read_commit,
                     read_stream, tree_entries)
 from members import EMPTY_TREE, GITLINK, TREE, Commit, TreeRow, has_clash, tree_objects
 from partners import (Block, History, Link, depth_of_changeset, depth_of_commit, is_link, is_plain_changeset, is_plain_commit,
                       partner_of_changeset, partner_of_commit, unmark_changeset)
-from rules import links_of, mark_commit, rule_changeset, rule_commit
+from rules import links_of, rule_changeset, rule_commit
 from texts import is_fit, read_changeset
 
 DEPTH_LIMIT = 16

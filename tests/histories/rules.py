@@ -3,8 +3,8 @@ from typing import NamedTuple, Optional, Tuple
 
 from formats.hg import NULL
 from marks import NULL_MANIFEST, ChangesetMarks, CommitMarks, File, Rename, extras_of, headers_of
-from members import FLAG_OF_MODE, Changeset, Commit, FileRow, Plain, Raw, Revision, handed_on, has_clash, residue_of, rows_of_tree
-from texts import MARKER, Author, author_of_line, copy_of, description_of, in_order, line_of_author, message_of
+from members import FLAG_OF_MODE, Changeset, Commit, FileRow, Revision, handed_on, has_clash, residue_of, rows_of_tree
+from texts import MARKER, Author, Plain, author_of_line, copy_of, description_of, in_order, line_of_author, message_of
 
 LINK_KEY = b'hg-git-link'
 LINK_USER = b'hg-git'
@@ -165,7 +165,7 @@ def mark_changeset(history, commit):
 # ---- links
 
 def links_of(history, commit):
-    """The changesets between the parents of an octopus commit and its own: each has the one before it and the partner of one more parent as parents."""
+    """The changesets between the parents of an octopus commit and its own: each joins the one before it with the partner of one more parent."""
     if len(commit.parents) <= 2:
         return []
     partners = [history.changeset_of[parent] for parent in commit.parents]
@@ -173,6 +173,7 @@ def links_of(history, commit):
     links, before = [], partners[0]
     for number in range(1, len(partners) - 1):
         name = b'%s:%d:%d' % (commit.id(), number, len(partners))
-        links.append(Changeset((before, partners[number]), LINK_USER, Plain(0, 0, ((LINK_KEY, name),)), (), LINK_DESCRIPTION, first.manifest, first.rows))
+        date = Plain(0, 0, ((LINK_KEY, name),))
+        links.append(Changeset((before, partners[number]), LINK_USER, date, (), LINK_DESCRIPTION, first.manifest, first.rows))
         before = links[-1].node()
     return links
