@@ -5,7 +5,7 @@ from marks import NULL_MANIFEST, ChangesetMarks, CommitMarks, File, Rename, extr
 from members import (EMPTY_TREE, EXECUTABLE, FILE, GITLINK, GROUP, MODE_OF_FLAG, SYMLINK, TREE, Changeset, Commit, FileRow, Item, Revision,
                      TreeRow, file_of_tree, has_clash)
 from partners import History
-from rules import files_given, manifest_given, mark_changeset, mark_commit, parent_at, revision_given
+from rules import files_given, links_of, manifest_given, mark_changeset, mark_commit, parent_at, revision_given
 from texts import MARKER, Plain, Raw, copy_metadata, in_order
 
 PATHS = [b'a', b'b', b'a.b', b'a0', b'd/c', b'd/e/f', b'd.x', b'd0', b'lib/x', b'x y', b'100%', b'caf\xc3\xa9', b'd', b'lib', b'd/e']
@@ -23,7 +23,8 @@ NAMES = [b'Ann <ann@x>', b'bob <none@none>', b'carl@x <carl@x>', b'Z <>']
 ODD_LINES = [b' <ann@x> 0 +0000', b'Ann <ann@x> 0 -0000', b'Ann <ann@x> 0 +0060', b'Ann <ann@x> 7 +9999', b'Ann', b'', b'a<b>c 0 +0000',
              b'Ann <none@none> 1 +0000', b'A@b <none@none> 0 +0000', b' <> 0 +0000', b'Ann <ann@x> 00 +0000', b'Ann <ann@x> %d +0000' % (1 << 62),
              b'Ann <ann@x> %d +0000' % ((1 << 62) + 1), b'A <a> <b> 0 +0000', b'none@none <none@none> 0 +0100']
-ODD_HEADERS = [b'gpgsig -----BEGIN\n \n iQ\n -----END\n', b'encoding latin1\n', b'HG:x\n', b'HG:user Ann%2a\n', b'HG:files 1\n', b'parent x\n', b' \n']
+ODD_HEADERS = [b'gpgsig -----BEGIN\n \n iQ\n -----END\n', b'encoding latin1\n', b'HG:x\n', b'HG:user Ann%2a\n', b'HG:files 1\n', b'parent x\n',
+               b' \n']
 MESSAGES = [b'one\n', b'two\n\nlines\n', b'\n', b'end\n\n']
 ODD_MESSAGES = [b'', b'one', b'\xff\0']
 ODD_METADATA = [b'', b'x: y\n', b'copy: a\n', b'copy: a\ncopyrev: ' + b'1' * 40 + b'\n', b'\x01', b'no end', b'x: y\ncopy: b\n']
@@ -183,7 +184,7 @@ class Members:
             files.update({row.path: (row.mode, row.content) for row in parent.files() if not self.random.randrange(8) == 0})
         if parents:
             rest = {row.path: row for row in parents[0].rows if row.content is None and not self.is_odd()}
-        modes = [FILE, EXECUTABLE, SYMLINK] + ([GROUP] if self.is_odd() else [])
+        modes = [FILE, EXECUTABLE, SYMLINK] + ([GROUP, GROUP] if self.is_odd() else [])
         self.edit(files, modes)
         for path in self.some_of(PATHS, 2) if self.is_odd() else []:
             rest[path] = self.random.choice([TreeRow(path, GITLINK, b'2' * 40), TreeRow(path, TREE, EMPTY_TREE)])
@@ -195,16 +196,16 @@ class Members:
 
     # ---- marks
 
-    def odd_member(self):
-        """A changeset or a commit that is likely not plain."""
-        oddness, self.oddness = self.oddness, ODD
-        member = self.random.choice([self.changeset, self.commit])()
-        self.oddness = oddness
+    def made_with(self, oddness, make):
+        """What is made where each choice is odd with this probability."""
+        kept, self.oddness = self.oddness, oddness
+        member = make()
+        self.oddness = kept
         return member
 
     def nested(self, side):
         """A member of that side that is the marked one of a marked one and so on of another, and seldom not quite."""
-        member = self.odd_member()
+        member = self.made_with(ODD, self.random.choice([self.changeset, self.commit]))
         times = self.random.choice([1, 1, 1, 2, 3, 4, self.random.randint(5, 14), self.random.randint(14, 18)])
         while member is not None and (times > 0 or not isinstance(member, side)):
             member = mark_commit(self.history, member) if isinstance(member, Changeset) else mark_changeset(self.history, member)
@@ -212,6 +213,10 @@ class Members:
         if member is None or self.random.randrange(4):
             return member
         return self.changed_changeset(member) if side == Changeset else self.changed_commit(member)
+
+    def commit_of_link(self):
+        """A commit that says of itself that it is the marked one of a link."""
+        return mark_commit(self.history, links_of(self.history, self.commit(least=3))[0])
 
     def changed_changeset(self, changeset):
         other = self.changeset()
@@ -228,14 +233,19 @@ class Members:
 
     def forged_changeset(self):
         """A changeset with extras that say something of a commit, true or not."""
-        changeset = self.changeset()
-        line = self.random.choice([*ODD_LINES, self.plain_line(), b'a\nb'])
-        marks = ChangesetMarks(*[self.random.choice([None, None, None, text]) for text in (
-            line, self.plain_line(), self.random.choice([*ODD_HEADERS, b'x', b'\n', b'']), self.random.choice(MESSAGES + ODD_MESSAGES),
-            self.random.choice([2, 3, 64, 65]), self.items(changeset))])
+        changeset = self.made_with(self.random.choice([0, self.oddness]), self.changeset)
+        marks = ChangesetMarks(*self.few_of([
+            self.random.choice([*ODD_LINES, self.plain_line(), b'a\nb']), self.random.choice([*ODD_LINES, self.plain_line(), b'a\nb']),
+            self.random.choice([*ODD_HEADERS, b'x', b'\n', b'']), self.random.choice(MESSAGES + ODD_MESSAGES),
+            self.random.choice([2, 3, 64, 65]), self.items(changeset)]))
         number, tz = changeset.date[:2] if isinstance(changeset.date, Plain) else (0, 0)
         extras = extras_of(marks) + (self.extras() if self.random.randrange(4) == 0 else ())
         return changeset._replace(date=Plain(number, tz, tuple(sorted(extras if self.random.randrange(4) else self.spoilt_extras(extras)))))
+
+    def few_of(self, parts):
+        """The same with None in place of most."""
+        kept = self.random.sample(range(len(parts)), self.random.choice([1, 1, 1, 2, 3]))
+        return [part if place in kept else None for place, part in enumerate(parts)]
 
     def spoilt_extras(self, extras):
         extras = list(extras)
@@ -251,15 +261,13 @@ class Members:
 
     def forged_commit(self):
         """A commit with headers that say something of a changeset, true or not."""
-        commit = self.commit()
-        marks = CommitMarks(
-            self.revision_marks(commit),
-            *[self.random.choice([None, None, None, value]) for value in (
-                self.random.choice([NULL_MANIFEST, (self.manifest_parent(), NULL), (self.manifest_parent(), self.manifest_parent())]),
-                self.other_files(()), self.random.choice(USERS + ODD_USERS + [b'', b'a\nb']), self.numbers(),
-                self.random.choice(RAW_LINES + [b'0 0', b'a\nb']))],
-            self.extras())
-        headers = headers_of(marks)
+        commit = self.made_with(self.random.choice([0, self.oddness]), self.commit)
+        p, q = self.manifest_parent(), self.manifest_parent()
+        revisions, *others, extras = self.few_of([
+            self.revision_marks(commit), self.random.choice([NULL_MANIFEST, (p, NULL), (p, q), in_order(p, q), in_order(OTHER_NODE, q)]),
+            self.other_files(()), self.random.choice(USERS + ODD_USERS + [b'', b'a\nb']), self.numbers(),
+            self.random.choice(RAW_LINES + [b'0 0', b'a\nb']), tuple(sorted(self.some_of(EXTRAS + [(b'', b'x'), (b'a:b', b'')], 2)))])
+        headers = headers_of(CommitMarks(revisions or (), *others, extras or ()))
         return commit._replace(headers=headers if self.random.randrange(4) else self.spoilt(headers))
 
     def revision_marks(self, commit):

@@ -21,7 +21,9 @@ class Stream(Members):
             self.add(self.nested(Commit))
         elif what < 5:
             self.add(self.forged_commit())
-        elif what < 7 or not merges:
+        elif what == 5:
+            self.add(self.commit_of_link())
+        elif what == 6 or not merges:
             self.add(self.commit(least=3))
         else:
             merge = self.random.choice(merges)
