@@ -161,7 +161,8 @@ def objects_of_leaf(row):
 
 def has_clash(paths):
     """A path lies below another."""
-    return any(path[:end] in paths for path in paths for end in range(len(path)) if path[end:end + 1] == b'/')
+    components = [path.split(b'/') for path in paths]
+    return any(b'/'.join(names[:count]) in paths for names in components for count in range(1, len(names)))
 
 
 # ---- what a tree has beside the files that a changeset can have
