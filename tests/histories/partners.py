@@ -5,7 +5,7 @@ from typing import NamedTuple, Tuple
 from formats.hg import NULL
 from marks import LEAST_OCTOPUS, MOST_PARENTS, NULL_MANIFEST, Rename, read_extras, read_headers
 from members import Changeset, Commit, FileRow, Revision, handed_on, is_changeset, is_commit, item_fits, rows_of_tree
-from rules import (LINK_DESCRIPTION, LINK_KEY, LINK_USER, files_given, first_commit, links_of, manifest_given, mark_changeset, mark_commit,
+from rules import (LINK_DESCRIPTION, LINK_KEY, LINK_USER, files_given, first_parent, links_of, manifest_given, mark_changeset, mark_commit,
                    node_of_source, parents_of_commit, rule_changeset)
 from texts import Author, Plain, Raw, copy_metadata, line_of_author, message_of, read_changeset
 
@@ -140,7 +140,7 @@ def commit_read(history, changeset, marks, parents):
     """What marks say of a commit, and the rule where they say nothing; None where the residue doesn't fit the files."""
     rows, residue = changeset.rows, marks.residue
     if residue is None:
-        residue = handed_on(first_commit(history, parents), rows)
+        residue = handed_on(first_parent(history, parents), rows)
     if not all(item_fits(item, rows) for item in residue):
         return None
     line = line_of_author(Author(changeset.user, *changeset.date[:2]))
@@ -186,4 +186,3 @@ def partner_of_commit(history, commit):
     if depth_of_commit(history, commit) % 2:
         return unmark_commit(history, commit)
     return mark_changeset(history, commit)
-

@@ -37,11 +37,12 @@ def rule_commit(history, changeset):
     parents = tuple(history.commit_of[p] for p in changeset.parents if p != NULL)
     time, tz = changeset.date[:2] if isinstance(changeset.date, Plain) else (0, 0)
     line = line_of_author(Author(changeset.user, time, tz))
-    residue = handed_on(first_commit(history, parents), changeset.rows)
+    residue = handed_on(first_parent(history, parents), changeset.rows)
     return Commit(parents, line, line, b'', message_of(changeset.description), rows_of_tree(changeset.rows, residue))
 
 
-def first_commit(history, parents):
+def first_parent(history, parents):
+    """The commit that hands on its residue, or None."""
     return history.commits[parents[0]] if parents else None
 
 
@@ -158,7 +159,7 @@ def mark_changeset(history, commit):
         headers=commit.headers or None,
         message=commit.message if commit.message != message_of(changeset.description) else None,
         parents=len(commit.parents) if len(commit.parents) > 2 else None,
-        residue=residue if residue != handed_on(first_commit(history, commit.parents), changeset.rows) else None)
+        residue=residue if residue != handed_on(first_parent(history, commit.parents), changeset.rows) else None)
     return changeset._replace(date=changeset.date._replace(extras=extras_of(marks)))
 
 
