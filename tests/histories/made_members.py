@@ -1,4 +1,5 @@
-"""Random changesets and commits over a history: plain ones, ones of which the plain rules would lose something, and forged ones."""
+"""Random changesets and commits over a history: plain ones, ones of which the plain rules would lose something, and forged ones. The rules
+themselves help to make them."""
 from formats.hg import NULL, node_id
 from inputs import NO_ID, Refused
 from marks import NULL_MANIFEST, ChangesetMarks, CommitMarks, File, Rename, extras_of, headers_of
@@ -57,7 +58,7 @@ class Members:
         return self.random.random() < self.oddness
 
     def is_special(self):
-        """A member is none that the plain rules or these choices alone give."""
+        """The next member has marks, or has the form of a link or links."""
         return self.random.random() < min(MOST_SPECIAL, 3 * self.oddness)
 
     def one_of(self, usual, odd):
@@ -69,7 +70,7 @@ class Members:
     # ---- changesets
 
     def changeset(self):
-        parents = self.parents_among(list(self.history.changesets), 2)
+        parents = self.parents_among(list(self.history.changesets))
         views = [parent_at(self.history, node) for node in parents]
         rows = self.file_rows(views)
         date = Plain(*self.numbers(), self.extras()) if not self.is_odd() else Raw(self.random.choice(RAW_LINES))
@@ -85,10 +86,10 @@ class Members:
         if changeset.manifest is not None:
             self.manifests[changeset.manifest_node()] = (*changeset.manifest, changeset.manifest_text())
 
-    def parents_among(self, members, most):
-        """Mostly of the last members."""
+    def parents_among(self, members):
+        """Two at most, of the last members."""
         count = self.random.choice([0] + [1] * 8 + [2] * 4)
-        return self.random.sample(members[-4:], min(count, most, len(members[-4:])))
+        return self.random.sample(members[-4:], min(count, len(members[-4:])))
 
     def file_rows(self, parents):
         files = {}
@@ -167,7 +168,7 @@ class Members:
     def commit(self, least=0):
         """A commit, where a least number of parents is wanted with so many."""
         commits = list(self.history.commits)
-        parents = self.random.sample(commits, self.random.randint(least, min(least + 2, len(commits)))) if least else self.parents_among(commits, 2)
+        parents = self.random.sample(commits, self.random.randint(least, min(least + 2, len(commits)))) if least else self.parents_among(commits)
         rows = self.tree_rows([self.history.commits[parent] for parent in parents])
         author = self.one_of([self.plain_line()], ODD_LINES)
         committer = self.one_of([author], [self.plain_line(), *ODD_LINES])

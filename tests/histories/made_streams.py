@@ -13,9 +13,12 @@ class Stream(Members):
     """The commits that come."""
 
     def add_next(self):
-        what = self.random.randrange(8) if self.is_special() else None
+        what = self.random.randrange(7) if self.is_special() else None
         merges = [commit for commit in self.came if len(commit.parents) == 2]
-        if what is None or what >= 5 and len(self.history.commits) < 3:
+        if merges and self.random.randrange(40) == 0:
+            merge = self.random.choice(merges)
+            self.add(merge._replace(parents=merge.parents[::-1]))
+        elif what is None or what >= 5 and len(self.history.commits) < 3:
             self.add(self.commit())
         elif what < 3:
             self.add(self.nested(Commit))
@@ -23,11 +26,8 @@ class Stream(Members):
             self.add(self.forged_commit())
         elif what == 5:
             self.add(self.commit_of_link())
-        elif what == 6 or not merges:
-            self.add(self.commit(least=3))
         else:
-            merge = self.random.choice(merges)
-            self.add(merge._replace(parents=merge.parents[::-1]))
+            self.add(self.commit(least=3))
 
     def add(self, commit):
         """The commit comes where it has a block, and seldom where it has none."""
