@@ -89,7 +89,7 @@ class Bundle(Members):
             self.take_manifest(manifests, changeset.manifest_node())
             for row in changeset.rows:
                 self.take_file(files, row.path, row.revision.node())
-        if self.revisions and self.is_odd() and self.is_odd():
+        if self.came and self.revisions and self.is_odd() and self.is_odd():
             self.take_manifest(manifests, self.random.choice(list(self.manifests)))
             self.take_file(files, *self.random.choice(list(self.revisions)))
         if self.is_odd() and self.is_odd():
