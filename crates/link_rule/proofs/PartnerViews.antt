@@ -81,7 +81,7 @@ module _ (k : Known) (blocks : List Block) (held : IsHistoryHeld k blocks) (adde
   pub null-parent : IsParentView k.hg null (view_or_none (changesets_in blocks) null)
   null-parent = record { of_null = λ e. null-view null e; held = λ e. absurd (true≢false (sym ((bytes_eq-Decides null null).1 refl) ∙ e)) }
 
-  partner-parent : (id : Id) → IsTrue (is_some (block_of_id blocks id)) → IsParentView k.hg (hg_partner blocks id) (view_or_none (changesets_in blocks) (hg_partner blocks id))
+  pub partner-parent : (id : Id) → IsTrue (is_some (block_of_id blocks id)) → IsParentView k.hg (hg_partner blocks id) (view_or_none (changesets_in blocks) (hg_partner blocks id))
   partner-parent id h = record { of_null = λ e. null-view (hg_partner blocks id) e; held = λ e. partner-held id h }
 
   pub first-parent : (ps : List Id) → Each (λ p. IsTrue (is_some (block_of_id blocks p))) ps → IsParentView k.hg (first_of (map (hg_partner blocks) ps)) (view_or_none (changesets_in blocks) (first_of (map (hg_partner blocks) ps)))
