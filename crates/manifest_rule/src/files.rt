@@ -67,7 +67,8 @@ fn files_listed(
     second: Option<&Manifest>,
     there: AreThere,
 ) -> Result<Paths, NoMemory>
-    ensures { IfOk result (λ paths. (ps : Parents) (hs : List Row) → AreListedBy rows.now there.first there.second (option_map (λ m. m.now) first.entry) (option_map (λ m. m.now) second.entry) ps hs
+    ensures { IfOk result (λ paths. (ps : Parents) (hs : List Row)
+        → AreListedBy rows.now there.first there.second (option_map (λ m. m.now) first.entry) (option_map (λ m. m.now) second.entry) ps hs
         → paths ≡ rule.ruled_files ps hs) }
 {
     let mut paths = Paths::new(alloc);
