@@ -1,5 +1,5 @@
 -- What the tree of a commit's first parent has beside its files.
-use Rattle.std.proofs.Common.{◌≡◌, List, [], ◌∷◌, map, Option, Some, None, refl, sym, ap, subst, ◌∙◌, inl, inr}
+use Rattle.std.proofs.Common.{◌≡◌, List, [], ◌∷◌, map, Option, Some, None, sym, ap, subst, ◌∙◌, inl, inr}
 use Rattle.std.specs.Prelude.{IsTrue, is_some, option_map, unwrap_or, slice_get}
 use Rattle.text_model.specs.Lists.{In}
 use Rattle.text_model.specs.Text.{Bytes}

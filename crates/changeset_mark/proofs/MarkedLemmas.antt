@@ -1,11 +1,11 @@
 -- The marked changeset of a commit, put together of the one that the rule gives and of extras.
-use Rattle.std.proofs.Common.{◌≡◌, ◌≤◌, ◌+◌, ◌++◌, List, [], ◌∷◌, length, length-append, refl, sym, ap, subst, ◌∙◌, arith}
+use Rattle.std.proofs.Common.{◌≡◌, ◌≤◌, ◌++◌, List, [], ◌∷◌, length, length-append, refl, sym, ap, subst, ◌∙◌, arith}
 use Rattle.std.specs.List.{flat_map}
+use Rattle.text_model.specs.Lists.{Each}
 use Rattle.text_model.specs.Text.{Bytes, line, lf, sp, signed_decimal}
 use Rattle.text_model.specs.Id.{hex}
 use Rattle.hg_model.specs.Changeset.{Extra, IsChangeset, AreExtras, date_text, plain_date_text, extras_text, changeset_text}
 use Rattle.hg_model.specs.Revision.{Revision}
-use Rattle.hg_store.specs.Known.{AreAdded}
 use Rattle.git_model.specs.Commit.{Commit}
 use Rattle.view_model.specs.View.{ChangesetView, CommitView, ChangesetFits}
 use Rattle.pair_model.specs.Block.{Block}
@@ -13,13 +13,12 @@ use Rattle.pair_model.specs.MarkList.{ChangesetMarks, extras_of, AreExtrasOf}
 use Rattle.pair_model.specs.Plain.{changeset_by_rule}
 use Rattle.pair_model.specs.Rule.{rule_changeset}
 use Rattle.pair_model.specs.User.{UserDate, user_of_line}
-use Rattle.pair_known.specs.Ruled.{IsMadeChangeset, IsRuledChangeset}
+use Rattle.pair_known.specs.Ruled.{IsMadeChangeset, IsRuledChangeset, HasFileParents, HasManifestParents}
 use Rattle.pair_known.specs.declared.known.Known.{Known}
 use Rattle.pair_known.specs.declared.git_draft.GitDraft.{GitDraft}
 use Rattle.pair_known.specs.declared.hg_draft.HgDraft.{HgDraft}
 use Rattle.pair_known.specs.Over.{IsCommitOver}
-use Rattle.pair_known.specs.Partners.{ArePartners}
-use Rattle.changeset_rule.proofs.RuledLemmas.{few-of, ruled}
+use Rattle.changeset_rule.proofs.RuledLemmas.{has-parents, ruled}
 use Rattle.changeset_rule.proofs.ViewLemmas.{date-plain}
 use Rattle.partner_model.specs.Mark.{with_extras, mark_changeset}
 use Rattle.changeset_mark.specs.Marks.{marks_over, HasDateOf}
@@ -121,11 +120,15 @@ module _ (k : Known) (blocks : List Block) (d : GitDraft) (v : CommitView) (over
   pub marked-made : IsMadeChangeset k.hg marked (mark_changeset blocks v)
   marked-made = subst (IsMadeChangeset k.hg marked) same dated-made
 
-  -- within its limits it is right in all
-  pub marked-ruled : length (d.commit).parents ≤ 2 → AreAdded k.hg → ArePartners k.partners → AreExtras extras → ChangesetFits (mark_changeset blocks v) → IsRuledChangeset k.hg marked (mark_changeset blocks v)
-  marked-ruled few added partners items fits =
+  -- the parents of its revisions are known
+  pub marked-parents : Each (HasFileParents k.hg) (mark_changeset blocks v).rows × HasManifestParents k.hg (mark_changeset blocks v).manifest
+  marked-parents = subst (λ (h : ChangesetView). Each (HasFileParents k.hg) h.rows × HasManifestParents k.hg h.manifest) same (has-parents k blocks d v over)
+
+  -- within its limits it is right in all, where the commit has two parents at most
+  pub marked-ruled : length (v.value).parents ≤ 2 → AreExtras extras → ChangesetFits (mark_changeset blocks v) → IsRuledChangeset k.hg marked (mark_changeset blocks v)
+  marked-ruled few items fits =
       let h = changeset_by_rule blocks v in
       let has = date-of blocks v given line-is in
       let within = subst ChangesetFits (sym same) fits in
-      let right = ruled k blocks d v over (few-of k blocks d v over few) added partners plain made (fits-without h given has extras items within) in
+      let right = ruled k blocks d v over few plain made (fits-without h given has extras items within) in
       subst (IsRuledChangeset k.hg marked) same (ruled-with h given has extras items k.hg plain marked right dated-made within)

@@ -1,9 +1,10 @@
-ghost use Rattle.std.specs.Prelude.{◌≡◌, ◌≤◌, List, length, Some, Err, IfOk};
+ghost use Rattle.std.specs.Prelude.{◌≡◌, ◌≤◌, List, length, Some, Err, IfOk, OnOk};
+ghost use Rattle.text_model.specs.Lists.{Each};
 ghost use Rattle.hg_model.specs.Revision.{Revision};
 ghost use Rattle.view_model.specs.View.{ChangesetView, CommitView, ChangesetFits};
 ghost use Rattle.pair_model.specs.Block.{Block};
 ghost use Rattle.pair_known.specs.Over.{IsCommitOver};
-ghost use Rattle.pair_known.specs.Ruled.{IsMadeChangeset, IsRuledChangeset};
+ghost use Rattle.pair_known.specs.Ruled.{IsMadeChangeset, IsRuledChangeset, HasFileParents, HasManifestParents};
 ghost use Rattle.pair_known.specs.declared.fault.PairFault.TheVariants.{PairLimit};
 ghost use Rattle.partner_model.specs.Mark as mark;
 ghost use Rattle.changeset_mark.specs.Marks.{HasDateOf};
@@ -17,13 +18,17 @@ use name_rule::{UserDate, user_of_line};
 use pair_known::{DraftTexts, GitDraft, HgDraft, Known, PairFault};
 use std::alloc::Global;
 
-/// The marked changeset of a commit of two parents at most, each of which has a partner: the one that the rule gives, with an extra for
-/// each part of the commit that the rule would not give back from it. PairLimit comes exactly where a text of it passes its limit.
+/// The marked changeset of a commit whose parents have partners: the one that the rule gives, with an extra for each part of the commit that the
+/// rule would not give back from it. PairLimit comes exactly where a text of it passes its limit. Of a commit of three and more parents nothing
+/// is said of both parents together: the node of a link is a hash, which may be null or that of another parent.
 pub fn mark_changeset(alloc: Global, known: &Known, c: &GitDraft) -> Result<HgDraft, PairFault>
     requires over { (blocks : List Block) × (v : CommitView) × IsCommitOver known.now blocks c.now v }
-    requires few { length (c.now.commit).parents ≤ 2 }
     ensures ok { IfOk result (λ d. (blocks : List Block) (v : CommitView) → IsCommitOver known.now blocks c.now v
-        → IsRuledChangeset known.now.hg d (mark.mark_changeset blocks v)) }
+        → IsMadeChangeset known.now.hg d (mark.mark_changeset blocks v) × ChangesetFits (mark.mark_changeset blocks v)) }
+    ensures known_parents { OnOk result ((blocks : List Block) (v : CommitView) → IsCommitOver known.now blocks c.now v
+        → Each (HasFileParents known.now.hg) (mark.mark_changeset blocks v).rows × HasManifestParents known.now.hg (mark.mark_changeset blocks v).manifest) }
+    ensures strict { IfOk result (λ d. (blocks : List Block) (v : CommitView) → IsCommitOver known.now blocks c.now v
+        → length (v.value).parents ≤ 2 → IsRuledChangeset known.now.hg d (mark.mark_changeset blocks v)) }
     ensures limit { result ≡ Err PairLimit → (blocks : List Block) (v : CommitView) → IsCommitOver known.now blocks c.now v
         → ChangesetFits (mark.mark_changeset blocks v) → ⊥ }
 {

@@ -1,5 +1,5 @@
 -- The changeset that the rule gives, put together of its parts.
-use Rattle.std.proofs.Common.{◌≡◌, ◌≤◌, ◌++◌, Bool, true, false, true≢false, not, List, [], ◌∷◌, length, map, Option, Some, None, refl, sym, ap, subst, ◌∙◌, arith}
+use Rattle.std.proofs.Common.{◌≡◌, ◌≤◌, ◌++◌, Bool, true, false, true≢false, not, List, [], ◌∷◌, length, map, Option, refl, sym, ap, subst, ◌∙◌, arith}
 use Rattle.std.specs.Prelude.{bytes_eq, is_some, if◌then◌else◌, IfSome, IsTrue}
 use Rattle.std.specs.List.{list_any}
 use Rattle.std.proofs.lemmas.Slice.Eq.{bytes_eq-Decides}
@@ -10,7 +10,6 @@ use Rattle.text_model.specs.Id.{Id, null, is_null, blob_id}
 use Rattle.text_model.proofs.TestLemmas.{both}
 use Rattle.hg_model.specs.Changeset.{Plain, changeset_text}
 use Rattle.hg_model.specs.Changeset as model
-use Rattle.hg_model.specs.Manifest.{ManifestEntry}
 use Rattle.git_model.specs.Tree.{Mode, File, GroupFile, Exec, Link, Directory, Gitlink, is_blob_mode, has_distinct}
 use Rattle.git_model.proofs.SortLemmas.{Ascends, rises-ascends, ascends-rises}
 use Rattle.git_model.specs.Commit as git
@@ -25,6 +24,7 @@ use Rattle.pair_model.proofs.UserLemmas.{user-some, user-one_line}
 use Rattle.pair_model.specs.Octopus.{parents_of_commit, first_of, second_of}
 use Rattle.pair_model.specs.Plain.{changeset_by_rule}
 use Rattle.pair_known.specs.Partners.{ArePartners}
+use Rattle.pair_known.specs.Blocks.{IsHistoryHeld}
 use Rattle.pair_known.specs.Over.{IsCommitOver}
 use Rattle.pair_known.specs.Ruled.{IsMadeChangeset, IsRuledChangeset, IsLooseView, HasFileParents, HasManifestParents}
 use Rattle.pair_known.specs.declared.known.Known.{Known}
@@ -32,16 +32,19 @@ use Rattle.pair_known.specs.declared.git_draft.GitDraft.{GitDraft}
 use Rattle.pair_known.specs.declared.hg_draft.HgDraft.{HgDraft}
 use Rattle.pair_known.specs.declared.draft_texts.DraftTexts.{DraftTexts}
 use Rattle.pair_known.proofs.PartnerLemmas.{pairs_of, back-partner}
-use Rattle.file_rule.specs.Parents.{IsParent, IsParentView}
+use Rattle.file_rule.specs.Parents.{IsParent}
 use Rattle.file_rule.specs.Rows.{AreRows, AreMadeRows}
 use Rattle.file_rule.specs.declared.parents.Parent.{Parent}
 use Rattle.file_rule.specs.declared.rows.RuledRows.{RuledRows}
-use Rattle.manifest_rule.specs.Listed.{AreListed, AreParentEntries}
+use Rattle.manifest_rule.specs.Listed.{AreListedOver}
 use Rattle.manifest_rule.specs.Over.{IsMadeManifest}
 use Rattle.manifest_rule.specs.declared.manifest.RuledManifest.{RuledManifest}
-use Rattle.changeset_rule.proofs.ParentLemmas.{parents-are, first-parent, second-parent, partner-held, no-null}
+use Rattle.link_rule.proofs.PartnerViews.{partner-held, no-null}
+use Rattle.changeset_rule.specs.Parents.{HasFilesAt, AreParentNodes}
+use Rattle.changeset_rule.specs.declared.parents.ParentNodes.{ParentNodes}
+use Rattle.changeset_rule.proofs.ParentLemmas.{parents-are, nodes, first-at, second-node, second-at, ids}
 use Rattle.changeset_rule.proofs.RowViews.{IsRightRow, row-revision, rows-parents}
-use Rattle.changeset_rule.proofs.ViewLemmas.{IsListed, fit-listed, files-listed, rows-listed, date-plain, parent-rows, parent-id, manifest-right, IsId-manifest_node}
+use Rattle.changeset_rule.proofs.ViewLemmas.{IsListed, fit-listed, files-listed, rows-listed, date-plain, rows-at, manifest-right, IsId-manifest_node}
 
 -- the id of a row that is a file
 row-blob : (m : Mode) (id : Id) (content : Bytes) → IsRowId m id content → is_blob_mode m ≡ true → id ≡ blob_id content
@@ -84,23 +87,14 @@ each-mapped g P Q (x ∷ xs) f h = (f x h.0, each-mapped g P Q xs f h.1)
 apart : (a b : Id) → not (list_any (bytes_eq a) (b ∷ [])) ≡ true → bytes_eq a b ≡ true → ⊥
 apart a b h e = true≢false (sym (rw e at h))
 
--- ---- the parents
+-- ---- a commit of two parents at most
 
 pub few-of : (k : Known) (blocks : List Block) (d : GitDraft) (v : CommitView) → IsCommitOver k blocks d v → length (d.commit).parents ≤ 2 → length (v.value).parents ≤ 2
 few-of k blocks d v over few = subst (λ (x : git.Commit). length x.parents ≤ 2) (sym (over.draft).value) few
 
-module _ (k : Known) (blocks : List Block) (d : GitDraft) (v : CommitView) (over : IsCommitOver k blocks d v) (few : length (v.value).parents ≤ 2) (added : AreAdded k.hg) where
-  abbrev pub ps : Parents
-  ps = parents_of_commit blocks v
-
-  pub first-view : IsParentView k.hg ps.p ps.first
-  first-view = subst (λ (x : Parents). IsParentView k.hg x.p x.first) (sym (parents-are blocks v few)) (first-parent k blocks over.history added (v.value).parents over.parents)
-
-  pub second-view : IsParentView k.hg ps.q ps.second
-  second-view = subst (λ (x : Parents). IsParentView k.hg x.q x.second) (sym (parents-are blocks v few)) (second-parent k blocks over.history added (v.value).parents few over.parents)
-
+module _ (k : Known) (blocks : List Block) (v : CommitView) (history : IsHistoryHeld k blocks) where
   not-null : (a : Id) → IsTrue (is_some (block_of_id blocks a)) → hg_partner blocks a ≡ null → ⊥
-  not-null a h e = no-null k blocks over.history added _ (hg_partner blocks a) ((bytes_eq-Decides (hg_partner blocks a) null).1 e) (partner-held k blocks over.history added a h)
+  not-null a h e = no-null k blocks history history.added _ (hg_partner blocks a) ((bytes_eq-Decides (hg_partner blocks a) null).1 e) (partner-held k blocks history history.added a h)
 
   null-first : (ids : List Id) → length ids ≤ 2 → Each (λ p. IsTrue (is_some (block_of_id blocks p))) ids → first_of (map (hg_partner blocks) ids) ≡ null → second_of (map (hg_partner blocks) ids) ≡ null
   null-first [] few all e = refl
@@ -116,6 +110,19 @@ module _ (k : Known) (blocks : List Block) (d : GitDraft) (v : CommitView) (over
       let same : a ≡ b = sym (back-partner blocks are a all.0) ∙ ap (git_partner blocks) e ∙ back-partner blocks are b all.1.0 in
       absurd (apart a b (both _ _ distinct).0 ((bytes_eq-Decides a b).1 same))
   one-parent are (a ∷ b ∷ c ∷ ids) few all distinct e = absurd (grind (arith, few))
+
+module _ (k : Known) (blocks : List Block) (d : GitDraft) (v : CommitView) (over : IsCommitOver k blocks d v) where
+  abbrev pub ps : Parents
+  ps = parents_of_commit blocks v
+
+  added : AreAdded k.hg
+  added = (over.history).added
+
+  in-first : HasFilesAt k.hg (first_of (nodes k blocks d v over)) ps.first
+  in-first = first-at k blocks d v over
+
+  in-second : HasFilesAt k.hg (second-node k blocks d v over) ps.second
+  in-second = second-at k blocks d v over
 
   -- ---- the changeset with its parts
 
@@ -160,41 +167,25 @@ module _ (k : Known) (blocks : List Block) (d : GitDraft) (v : CommitView) (over
   pub rising : IsTrue (rises is_below (paths_of rows))
   rising = subst (λ (paths : List Bytes). IsTrue (rises is_below paths)) (same-paths (files_among v.rows)) (rises-among v.rows (over.view).in_order)
 
-  pub first-there : (p1 : Id) → p1 ≡ ps.p → IsParentView k.hg p1 ps.first
-  first-there p1 e = subst (λ (n : Id). IsParentView k.hg n ps.first) (sym e) first-view
-
-  pub second-there : (p2 : Id) → p2 ≡ ps.q → IsParentView k.hg p2 ps.second
-  second-there p2 e = subst (λ (n : Id). IsParentView k.hg n ps.second) (sym e) second-view
-
-  -- the entries of a parent that may be there
-  parent-entries : (node : Id) (x : ChangesetView) (parent : Parent) (null-is there : Bool) → is_null node ≡ null-is → there ≡ not null-is → IsParentView k.hg node x → IsParent k.hg parent x
-      → AreParentEntries (if there then Some (parent.manifest).now else None) node x.rows
-  parent-entries node x parent true true e there view is = absurd (true≢false there)
-  parent-entries node x parent true false e there view is = (e, ap (λ (y : ChangesetView). y.rows) (view.of_null e))
-  parent-entries node x parent false true e there view is = (e, is.entries)
-  parent-entries node x parent false false e there view is = absurd (true≢false (sym there))
-
-  entries-at : (node p : Id) (x : ChangesetView) (parent : Parent) (o : Option (List ManifestEntry)) → node ≡ p → parent.is_there ≡ not (is_null node) → o ≡ (if parent.is_there then Some (parent.manifest).now else None)
-      → IsParentView k.hg node x → IsParent k.hg parent x → AreParentEntries o p x.rows
-  entries-at node p x parent o same there is view parent-is =
-      subst (λ (n : Id). AreParentEntries o n x.rows) same
-      (subst (λ (y : Option (List ManifestEntry)). AreParentEntries y node x.rows) (sym is) (parent-entries node x parent (is_null node) parent.is_there refl there view parent-is))
-
-  pub are-listed : (made : RuledRows) → AreMadeRows k.hg made ps v.rows → (p1 p2 : Id) → p1 ≡ ps.p → p2 ≡ ps.q → (first second : Parent) → IsParent k.hg first ps.first → IsParent k.hg second ps.second
-      → first.is_there ≡ not (is_null p1) → second.is_there ≡ not (is_null p2)
-      → (o1 o2 : Option (List ManifestEntry)) → o1 ≡ (if first.is_there then Some (first.manifest).now else None) → o2 ≡ (if second.is_there then Some (second.manifest).now else None) → AreListed made.rows o1 o2 ps rows
-  are-listed made rows-are p1 p2 p-is q-is first second a b there1 there2 o1 o2 e1 e2 = record {
+  pub are-listed : (made : RuledRows) → AreMadeRows k.hg made ps v.rows → (first second : Parent) → IsParent k.hg first ps.first → IsParent k.hg second ps.second
+      → first.is_there ≡ not (is_null ps.p) → second.is_there ≡ not (is_null ps.q) → AreListedOver made.rows first second ps rows
+  are-listed made rows-are first second a b there1 there2 = record {
     of_rows = rows-are.rows;
     rising = rising;
-    in_first = entries-at p1 ps.p ps.first first o1 p-is there1 e1 (first-there p1 p-is) a;
-    in_second = entries-at p2 ps.q ps.second second o2 q-is there2 e2 (second-there p2 q-is) b;
+    there = (flipped (is_null ps.p) first.is_there there1, flipped (is_null ps.q) second.is_there there2);
+    in_first = sym a.entries;
+    in_second = sym b.entries;
   }
+    where
+      flipped : (a b : Bool) → b ≡ not a → a ≡ not b
+      flipped true b e = ap not (sym e)
+      flipped false b e = ap not (sym e)
 
   right-first : Each (IsRightRow k.hg) (ps.first).rows
-  right-first = parent-rows k.hg added ps.p ps.first first-view
+  right-first = rows-at k.hg added _ ps.first in-first
 
   right-second : Each (IsRightRow k.hg) (ps.second).rows
-  right-second = parent-rows k.hg added ps.q ps.second second-view
+  right-second = rows-at k.hg added _ ps.second in-second
 
   abbrev IsRow : Row → Type 0
   IsRow row = IsTrue (is_fit_path row.path) × IsBytes row.path × IsRevision row.revision
@@ -205,7 +196,7 @@ module _ (k : Known) (blocks : List Block) (d : GitDraft) (v : CommitView) (over
   loose : IsBytes (user_of_line (v.value).author).user → IsBytes (description_of (v.value).message) → IsLooseView (with-rows rows)
   loose user desc =
       record {
-        parents = (parent-id k.hg added ps.p ps.first first-view, parent-id k.hg added ps.q ps.second second-view);
+        parents = ids k blocks d v over;
         fields = record {
           manifest = IsId-manifest_node (ruled_manifest ps rows) rows;
           user = (user-some (v.value).author, user-one_line (v.value).author (((over.view).value).author).1, user);
@@ -213,22 +204,22 @@ module _ (k : Known) (blocks : List Block) (d : GitDraft) (v : CommitView) (over
           files = files-listed ps rows (each-mapped (λ (row : Row). row.path) IsRow IsListed rows (λ row h. fit-listed row.path h.0 h.1) rows-right) (rows-listed k.hg (ps.first).rows right-first) (rows-listed k.hg (ps.second).rows right-second);
           description = desc;
         };
-        manifest = (manifest-right k.hg ps rows added ps.p ps.q first-view second-view).0;
+        manifest = (manifest-right k.hg ps rows added _ _ in-first in-second).0;
         rows = rows-right;
         in_order = rising;
         agrees = refl;
       }
 
   -- the parents of the commit differ, so the changeset's do
-  whole : ArePartners (pairs_of blocks) → IsLooseView (changeset_by_rule blocks v) → IsChangesetView (changeset_by_rule blocks v)
+  whole : length (v.value).parents ≤ 2 → ArePartners (pairs_of blocks) → IsLooseView (changeset_by_rule blocks v) → IsChangesetView (changeset_by_rule blocks v)
   unfolding rule_changeset
-  whole are view =
+  whole few are view =
       let p-is : ps.p ≡ first_of (map (hg_partner blocks) (v.value).parents) = ap (λ (x : Parents). x.p) (parents-are blocks v few) in
       let q-is : ps.q ≡ second_of (map (hg_partner blocks) (v.value).parents) = ap (λ (x : Parents). x.q) (parents-are blocks v few) in
       record {
         parents = view.parents;
-        first = λ e. q-is ∙ null-first (v.value).parents few over.parents (sym p-is ∙ e);
-        distinct = λ e. p-is ∙ one-parent are (v.value).parents few over.parents (over.view).distinct (sym p-is ∙ e ∙ q-is);
+        first = λ e. q-is ∙ null-first k blocks v over.history (v.value).parents few over.parents (sym p-is ∙ e);
+        distinct = λ e. p-is ∙ one-parent k blocks v over.history are (v.value).parents few over.parents (over.view).distinct (sym p-is ∙ e ∙ q-is);
         fields = view.fields;
         manifest = view.manifest;
         rows = view.rows;
@@ -240,17 +231,17 @@ module _ (k : Known) (blocks : List Block) (d : GitDraft) (v : CommitView) (over
       → changeset_value x ≡ (with-rows rows).fields
   fields-are m m-is files files-are x x-is = x-is ∙ (λ i. fields-with (m-is.node i) (files-are i) (sym (over.draft).value i))
 
-  pub draft-made : (p1 p2 : Id) → p1 ≡ ps.p → p2 ≡ ps.q → (made : RuledRows) → AreMadeRows k.hg made ps v.rows → Each (λ r. knows_same k.hg r ≡ false) made.fresh
+  pub draft-made : (ns : ParentNodes) → AreParentNodes k.hg ns ps → (made : RuledRows) → AreMadeRows k.hg made ps v.rows → Each (λ r. knows_same k.hg r ≡ false) made.fresh
       → (m : RuledManifest) → IsMadeManifest m ps rows → (files : List Bytes) → files ≡ ruled_files ps rows
       → (x : Changeset) → changeset_value x ≡ fields-with m.node files d.commit → IsBytes x.user → IsBytes x.desc
       → (t : DraftTexts) → IfSome t.changeset (λ text. text ≡ changeset_text (changeset_value x)) → t.manifest ≡ m.text
-      → IsMadeChangeset k.hg (record { p1 = p1; p2 = p2; changeset = x; manifest = m.manifest; rows = made.rows; fresh = made.fresh; texts = t }) (changeset_by_rule blocks v)
-  draft-made p1 p2 p-is q-is made rows-are new m m-is files files-are x x-is user desc t text t-is =
+      → IsMadeChangeset k.hg (record { p1 = ns.p1; p2 = ns.p2; changeset = x; manifest = m.manifest; rows = made.rows; fresh = made.fresh; texts = t }) (changeset_by_rule blocks v)
+  draft-made ns are made rows-are new m m-is files files-are x x-is user desc t text t-is =
       let fields = fields-are m m-is files files-are x x-is in
-      let D : HgDraft = record { p1 = p1; p2 = p2; changeset = x; manifest = m.manifest; rows = made.rows; fresh = made.fresh; texts = t } in
+      let D : HgDraft = record { p1 = ns.p1; p2 = ns.p2; changeset = x; manifest = m.manifest; rows = made.rows; fresh = made.fresh; texts = t } in
       subst (λ (h : ChangesetView). IsMadeChangeset k.hg D h) (sym rule-is) (record {
         draft = record {
-          parents = (sym p-is, sym q-is);
+          parents = (sym (are.parents).0, sym (are.parents).1);
           fields = sym fields;
           manifest = sym m-is.manifest;
           rows = rows-are.rows;
@@ -265,13 +256,20 @@ module _ (k : Known) (blocks : List Block) (d : GitDraft) (v : CommitView) (over
         view = loose (subst IsBytes (ap (λ (f : model.Changeset). f.user) fields) user) (subst IsBytes (ap (λ (f : model.Changeset). f.description) fields) desc);
       })
 
-  pub ruled : ArePartners k.partners → (D : HgDraft) → IsMadeChangeset k.hg D (changeset_by_rule blocks v) → ChangesetFits (changeset_by_rule blocks v) → IsRuledChangeset k.hg D (changeset_by_rule blocks v)
-  ruled partners D made fits =
-      let are : ArePartners (pairs_of blocks) = subst ArePartners ((over.history).held).partners partners in
+  -- the parents of its revisions are known
+  pub has-parents : Each (HasFileParents k.hg) (changeset_by_rule blocks v).rows × HasManifestParents k.hg (changeset_by_rule blocks v).manifest
+  has-parents = (
+    subst (λ (h : ChangesetView). Each (HasFileParents k.hg) h.rows) (sym rule-is) (rows-parents k.hg added ps right-first right-second (files_among v.rows)),
+    subst (λ (h : ChangesetView). HasManifestParents k.hg h.manifest) (sym rule-is) (manifest-right k.hg ps rows added _ _ in-first in-second).1,
+  )
+
+  pub ruled : length (v.value).parents ≤ 2 → (D : HgDraft) → IsMadeChangeset k.hg D (changeset_by_rule blocks v) → ChangesetFits (changeset_by_rule blocks v) → IsRuledChangeset k.hg D (changeset_by_rule blocks v)
+  ruled few D made fits =
+      let are : ArePartners (pairs_of blocks) = subst ArePartners ((over.history).held).partners (over.history).partners in
       record {
         made = made;
-        file_parents = subst (λ (h : ChangesetView). Each (HasFileParents k.hg) h.rows) (sym rule-is) (rows-parents k.hg added ps right-first right-second (files_among v.rows));
-        manifest_parents = subst (λ (h : ChangesetView). HasManifestParents k.hg h.manifest) (sym rule-is) (manifest-right k.hg ps rows added ps.p ps.q first-view second-view).1;
+        file_parents = has-parents.0;
+        manifest_parents = has-parents.1;
         fits = fits;
-        view = whole are made.view;
+        view = whole few are made.view;
       }

@@ -1,9 +1,9 @@
 -- The changeset that the rule gives is right: its ids agree, its parents and its fields are those of a changeset.
 use Rattle.std.proofs.Common.{◌≡◌, ◌≢◌, ◌≤◌, ◌++◌, Bool, true, false, true≢false, not, List, [], ◌∷◌, length, map, refl, sym, ap, subst, ◌∙◌, arith}
-use Rattle.std.specs.Prelude.{bytes_eq, filter, ◌==◌, if◌then◌else◌, IsTrue, ℤ, pos, negsuc, neg_ℤ, unsigned_abs, ◌≤ℤ◌, ◌^◌}
+use Rattle.std.specs.Prelude.{bytes_eq, ◌==◌, if◌then◌else◌, IsTrue, ℤ, pos, negsuc, neg_ℤ, unsigned_abs, ◌≤ℤ◌, ◌^◌}
 use Rattle.std.proofs.lemmas.Slice.Eq.{bytes_eq-Decides}
 use Rattle.std.proofs.lemmas.Int.{ints}
-use Rattle.text_model.specs.Lists.{Each, first_of_each, in_order, with_inserted}
+use Rattle.text_model.specs.Lists.{Each, first_of_each}
 use Rattle.text_model.specs.Text.{Bytes, IsBytes, has_byte, is_below, lf, nul}
 use Rattle.text_model.specs.Path.{is_fit_path}
 use Rattle.text_model.specs.Id.{Id, IsId, null, is_null, hex}
@@ -16,10 +16,10 @@ use Rattle.hg_model.specs.Changeset.{IsPlainDate}
 use Rattle.hg_model.specs.Manifest.{entry_text, manifest_text, flag_text}
 use Rattle.hg_model.specs.Revision.{Revision, Manifests, is_known_parent}
 use Rattle.hg_model.proofs.ManifestLemmas.{manifest_text-none, manifest_text-cons}
-use Rattle.git_model.proofs.RowOrder.{behind_filter, each_inserted, each_ordered}
+use Rattle.git_model.proofs.RowOrder.{behind_filter, each_ordered}
 use Rattle.hg_store.specs.Known.{AreAdded}
-use Rattle.hg_view.proofs.Right.{held-is_view, held-node}
-use Rattle.view_model.specs.View.{ChangesetView, changeset_node, IsRevision, ManifestParents, NoManifest, Over, AreManifestParents, manifest_node, Row, rows_text, entry_of_row, file_node}
+use Rattle.hg_view.proofs.Right.{held-is_view}
+use Rattle.view_model.specs.View.{ChangesetView, IsRevision, ManifestParents, NoManifest, Over, AreManifestParents, manifest_node, Row, rows_text, entry_of_row, file_node}
 use Rattle.view_model.specs.Held.{IsFileHeld, IsManifestHeld}
 use Rattle.pair_model.specs.Block.{Parents, no_changeset}
 use Rattle.pair_model.specs.Rule.{one_or_two, over_pair, ruled_manifest, ruled_files}
@@ -29,6 +29,7 @@ use Rattle.pair_known.specs.Ruled.{HasManifestParents}
 use Rattle.file_rule.specs.Parents.{IsParentView}
 use Rattle.changeset_rule.proofs.KnownParents.{manifest-parents, manifest-known}
 use Rattle.changeset_rule.proofs.RowViews.{IsRightRow}
+use Rattle.changeset_rule.specs.Parents.{HasFilesAt}
 
 -- ---- lists
 
@@ -96,12 +97,8 @@ unfolding manifest_node
 IsId-manifest_node NoManifest rows = IsId-null
 IsId-manifest_node (Over p q) rows = IsId-node_id p q (rows_text rows)
 
-IsId-changeset_node : (x : ChangesetView) → IsId (changeset_node x)
-unfolding changeset_node
-IsId-changeset_node x = IsId-node_id _ _ _
-
 module _ (known : List Revision) (added : AreAdded known) where
-  pub parent-rows : (node : Id) (x : ChangesetView) → IsParentView known node x → Each (IsRightRow known) x.rows
+  parent-rows : (node : Id) (x : ChangesetView) → IsParentView known node x → Each (IsRightRow known) x.rows
   parent-rows node x is = by (is_null node) refl
     where
       joined : (rows : List Row) → Each (IsFileHeld known) rows → Each (λ row. IsTrue (is_fit_path row.path) × IsBytes row.path × IsRevision row.revision) rows → Each (IsRightRow known) rows
@@ -112,28 +109,30 @@ module _ (known : List Revision) (added : AreAdded known) where
       by true e = subst (λ (y : ChangesetView). Each (IsRightRow known) y.rows) (sym (is.of_null e)) tt
       by false e = let h = is.held e in joined x.rows h.files (held-is_view known added node x h).rows
 
-  pub parent-manifest : (node : Id) (x : ChangesetView) → IsParentView known node x → AreManifestParents x.manifest x.rows × IsId (x.fields).manifest × HasManifestParents known x.manifest × IsManifestHeld known (x.fields).manifest x.manifest x.rows
+  abbrev pub Facts : Id → ManifestParents → List Row → Type 0
+  Facts node m rows = AreManifestParents m rows × IsId node × HasManifestParents known m × IsManifestHeld known node m rows
+
+  parent-manifest : (node : Id) (x : ChangesetView) → IsParentView known node x → Facts (x.fields).manifest x.manifest x.rows
   parent-manifest node x is = by (is_null node) refl
     where
-      Facts : ChangesetView → Type 0
-      Facts y = AreManifestParents y.manifest y.rows × IsId (y.fields).manifest × HasManifestParents known y.manifest × IsManifestHeld known (y.fields).manifest y.manifest y.rows
-
-      none : Facts no_changeset
+      none : Facts (no_changeset.fields).manifest no_changeset.manifest no_changeset.rows
       none = (refl, IsId-null, tt, (refl, refl))
 
-      by : (t : Bool) → is_null node ≡ t → Facts x
-      by true e = subst Facts (sym (is.of_null e)) none
+      by : (t : Bool) → is_null node ≡ t → Facts (x.fields).manifest x.manifest x.rows
+      by true e = subst (λ (y : ChangesetView). Facts (y.fields).manifest y.manifest y.rows) (sym (is.of_null e)) none
       by false e =
           let h = is.held e in
           let view = held-is_view known added node x h in
           (view.manifest, (view.fields).manifest, manifest-parents known added (x.fields).manifest x.manifest x.rows h.manifest, h.manifest)
 
-  pub parent-id : (node : Id) (x : ChangesetView) → IsParentView known node x → IsId node
-  parent-id node x is = by (is_null node) refl
-    where
-      by : (t : Bool) → is_null node ≡ t → IsId node
-      by true e = subst IsId (sym ((bytes_eq-Decides node null).0 e)) IsId-null
-      by false e = subst IsId (held-node known added node x (is.held e)) (IsId-changeset_node x)
+  -- the same of one with its files, as a link has them of its base
+  pub rows-at : (node : Id) (x : ChangesetView) → HasFilesAt known node x → Each (IsRightRow known) x.rows
+  rows-at node x is = subst (Each (IsRightRow known)) (sym is.rows) (parent-rows node is.base is.view)
+
+  pub manifest-at : (node : Id) (x : ChangesetView) → HasFilesAt known node x → Facts (x.fields).manifest x.manifest x.rows
+  manifest-at node x is =
+      let P : Id × ManifestParents × List Row → Type 0 = λ t. Facts t.0 t.1 t.2 in
+      subst P (λ i. (sym is.manifest_node i, sym is.manifest i, sym is.rows i)) (parent-manifest node is.base is.view)
 
 -- ---- the manifest
 
@@ -165,7 +164,7 @@ module _ (known : List Revision) (ps : Parents) (rows : List Row) where
       let P : Id × Id → Type 0 = λ o. IsTrue (is_known_parent known Manifests o.0) × IsTrue (is_known_parent known Manifests o.1) in
       ((ids.0, ids.1, manifest_order-again x y), manifest_order-either P x y (a, b) (b, a))
 
-  pub manifest-right : AreAdded known → (p q : Id) → IsParentView known p ps.first → IsParentView known q ps.second → Right (ruled_manifest ps rows)
+  pub manifest-right : AreAdded known → (p q : Id) → HasFilesAt known p ps.first → HasFilesAt known q ps.second → Right (ruled_manifest ps rows)
   unfolding ruled_manifest
   manifest-right added p q a b = by (bytes_eq (rows_text rows) (rows_text (ps.first).rows)) refl
     where
@@ -176,15 +175,15 @@ module _ (known : List Revision) (ps : Parents) (rows : List Row) where
       m2 = ((ps.second).fields).manifest
 
       first-known : is_known_parent known Manifests m1 ≡ true
-      first-known = manifest-known known added m1 (ps.first).manifest (ps.first).rows (parent-manifest known added p ps.first a).3
+      first-known = manifest-known known added m1 (ps.first).manifest (ps.first).rows (manifest-at known added p ps.first a).3
 
       second-known : is_known_parent known Manifests m2 ≡ true
-      second-known = manifest-known known added m2 (ps.second).manifest (ps.second).rows (parent-manifest known added q ps.second b).3
+      second-known = manifest-known known added m2 (ps.second).manifest (ps.second).rows (manifest-at known added q ps.second b).3
 
       new : (t : Bool) → Right (over_pair (if t then (m1, null) else (m1, m2)))
-      new true = ordered-right m1 null (parent-manifest known added p ps.first a).1 IsId-null first-known refl
-      new false = ordered-right m1 m2 (parent-manifest known added p ps.first a).1 (parent-manifest known added q ps.second b).1 first-known second-known
+      new true = ordered-right m1 null (manifest-at known added p ps.first a).1 IsId-null first-known refl
+      new false = ordered-right m1 m2 (manifest-at known added p ps.first a).1 (manifest-at known added q ps.second b).1 first-known second-known
 
       by : (t : Bool) → bytes_eq (rows_text rows) (rows_text (ps.first).rows) ≡ t → Right (if t then (ps.first).manifest else over_pair (one_or_two m1 m2))
-      by true e = same-lines (ps.first).manifest ((bytes_eq-Decides (rows_text rows) (rows_text (ps.first).rows)).0 e) (parent-manifest known added p ps.first a).0 (parent-manifest known added p ps.first a).2
+      by true e = same-lines (ps.first).manifest ((bytes_eq-Decides (rows_text rows) (rows_text (ps.first).rows)).0 e) (manifest-at known added p ps.first a).0 (manifest-at known added p ps.first a).2
       by false e = new (bytes_eq m1 m2)

@@ -1,39 +1,39 @@
-ghost use Rattle.std.specs.Prelude.{◌≡◌, ◌≤◌, List, length, Err, IfOk};
+ghost use Rattle.std.specs.Prelude.{◌≡◌, ◌≤◌, List, length, Err, IfOk, OnOk};
+ghost use Rattle.text_model.specs.Lists.{Each};
 ghost use Rattle.view_model.specs.View.{CommitView, ChangesetFits};
 ghost use Rattle.pair_model.specs.Block.{Block};
 ghost use Rattle.pair_model.specs.Plain.{changeset_by_rule};
 ghost use Rattle.pair_known.specs.Over.{IsCommitOver};
-ghost use Rattle.pair_known.specs.Ruled.{IsMadeChangeset, IsRuledChangeset};
+ghost use Rattle.pair_known.specs.Ruled.{IsMadeChangeset, IsRuledChangeset, HasFileParents, HasManifestParents};
 ghost use Rattle.pair_known.specs.declared.fault.PairFault.TheVariants.{PairLimit};
 
 use crate::fields::{fields_of, text_of};
 use crate::fits::changeset_fits;
-use crate::parents::parents_of;
+use crate::parents::{parent_nodes, parent_with};
 use bridge_text::NoMemory;
-use file_rule::{make_rows, parent_of};
-use manifest_rule::{make_manifest, ruled_files};
+use file_rule::make_rows;
+use manifest_rule::{files_over, make_manifest};
 use pair_known::{DraftTexts, GitDraft, HgDraft, Known, PairFault};
 use std::alloc::Global;
 
-/// The changeset that the rule gives for a commit of two parents at most, each of which has a partner, whatever the sizes of its texts.
-/// It brings its text, and that of its manifest where this is new.
+/// The changeset that the rule gives for a commit whose parents have partners, whatever the sizes of its texts. Its parents are the last link
+/// and the last partner where the commit has three parents and more. It brings its text, and that of its manifest where this is new.
 pub fn make_changeset(alloc: Global, known: &Known, c: &GitDraft) -> Result<HgDraft, NoMemory>
     requires over { (blocks : List Block) × (v : CommitView) × IsCommitOver known.now blocks c.now v }
-    requires few { length (c.now.commit).parents ≤ 2 }
     ensures { IfOk result (λ d. (blocks : List Block) (v : CommitView) → IsCommitOver known.now blocks c.now v
         → IsMadeChangeset known.now.hg d (changeset_by_rule blocks v)) }
 {
-    let (p1, p2) = parents_of(known, c);
-    let first = parent_of(&known.hg, &p1);
-    let second = parent_of(&known.hg, &p2);
+    let nodes = parent_nodes(alloc, known, c)?;
+    let first = parent_with(&known.hg, &nodes.p1, &nodes.first);
+    let second = parent_with(&known.hg, &nodes.p2, &nodes.second);
     let made = make_rows(alloc, known, c, &first, &second)?;
     let manifest = make_manifest(alloc, &known.hg, &made.rows, &first, &second)?;
-    let files = ruled_files(alloc, &made.rows, first.entries(), second.entries())?;
+    let files = files_over(alloc, &made.rows, &first, &second)?;
     let changeset = fields_of(alloc, &c.commit, manifest.node, files)?;
     let text = text_of(alloc, &changeset)?;
     Ok(HgDraft {
-        p1,
-        p2,
+        p1: nodes.p1,
+        p2: nodes.p2,
         changeset,
         manifest: manifest.manifest,
         rows: made.rows,
@@ -45,13 +45,17 @@ pub fn make_changeset(alloc: Global, known: &Known, c: &GitDraft) -> Result<HgDr
     })
 }
 
-/// The changeset that the rule gives for a commit of two parents at most, each of which has a partner.
-/// PairLimit comes exactly where a text of it passes its limit.
+/// The changeset that the rule gives for a commit whose parents have partners. PairLimit comes exactly where a text of it passes its limit.
+/// Of a commit of three and more parents nothing is said of both parents together: the node of a link is a hash, which may be null or that of
+/// another parent.
 pub fn rule_changeset(alloc: Global, known: &Known, c: &GitDraft) -> Result<HgDraft, PairFault>
     requires over { (blocks : List Block) × (v : CommitView) × IsCommitOver known.now blocks c.now v }
-    requires few { length (c.now.commit).parents ≤ 2 }
     ensures ok { IfOk result (λ d. (blocks : List Block) (v : CommitView) → IsCommitOver known.now blocks c.now v
-        → IsRuledChangeset known.now.hg d (changeset_by_rule blocks v)) }
+        → IsMadeChangeset known.now.hg d (changeset_by_rule blocks v) × ChangesetFits (changeset_by_rule blocks v)) }
+    ensures known_parents { OnOk result ((blocks : List Block) (v : CommitView) → IsCommitOver known.now blocks c.now v
+        → Each (HasFileParents known.now.hg) (changeset_by_rule blocks v).rows × HasManifestParents known.now.hg (changeset_by_rule blocks v).manifest) }
+    ensures strict { IfOk result (λ d. (blocks : List Block) (v : CommitView) → IsCommitOver known.now blocks c.now v
+        → length (v.value).parents ≤ 2 → IsRuledChangeset known.now.hg d (changeset_by_rule blocks v)) }
     ensures limit { result ≡ Err PairLimit → (blocks : List Block) (v : CommitView) → IsCommitOver known.now blocks c.now v
         → ChangesetFits (changeset_by_rule blocks v) → ⊥ }
 {

@@ -1,6 +1,6 @@
 -- What is listed among entries is what the rule lists.
 use Rattle.std.proofs.Common.{◌≡◌, ◌++◌, Bool, true, false, List, [], ◌∷◌, map, Option, Some, None, refl, sym, ap, subst, ◌∙◌}
-use Rattle.std.specs.Prelude.{option_map, not, ◌&&◌, filter, is_some, bytes_eq}
+use Rattle.std.specs.Prelude.{IsTrue, option_map, not, ◌&&◌, filter, is_some, bytes_eq}
 use Rattle.std.specs.List.{find, list_all}
 use Rattle.std.proofs.lemmas.Bool.{and_parts}
 use Rattle.text_model.specs.Lists.{first_of_each, in_order, rises}
@@ -15,7 +15,7 @@ use Rattle.pair_model.specs.Rule.{entry_at, same_entry, parents_rows, ruled_file
 use Rattle.pair_known.specs.Rows.{RowValue, row_value}
 use Rattle.text_model.proofs.Search.{find-map}
 use Rattle.hg_dump.proofs.PathLemmas.{IsUp}
-use Rattle.manifest_rule.specs.Listed.{entry_of_value, entries_or_none, AreParentEntries, AreListed}
+use Rattle.manifest_rule.specs.Listed.{entry_of_value, entries_or_none, AreParentEntries, AreListed, AreListedBy}
 use Rattle.manifest_rule.specs.Merged.{said, differs}
 use Rattle.manifest_rule.proofs.MergeLemmas.{entry_paths, at_path, all_paths, is_listed_at, listed_among}
 
@@ -42,13 +42,16 @@ up-of_rises (x ∷ y ∷ ys) h =
     let others = up-of_rises (y ∷ ys) parts.1 in
     ((parts.0, Each-weaker (λ z. is_below y z ≡ true) (λ z. is_below x z ≡ true) (λ z below. is_below-chain x y z parts.0 below) ys others.0), others)
 
-record IsThere (there : Bool) (entries : List ManifestEntry) (id : Id) (rows : List Row) : Type 0 where
-  null_is : is_null id ≡ not there
-  entries_are : entries ≡ map entry_of_row rows
+there-are : (m : Option (List ManifestEntry)) (id : Id) (rows : List Row) → AreParentEntries m id rows → (is_null id ≡ not (is_some m)) × (entries_or_none m ≡ map entry_of_row rows)
+there-are None id rows h = (h.0, ap (map entry_of_row) (sym h.1))
+there-are (Some es) id rows h = (h.0, sym h.1)
 
-is-there : (m : Option (List ManifestEntry)) (id : Id) (rows : List Row) → AreParentEntries m id rows → IsThere (is_some m) (entries_or_none m) id rows
-is-there None id rows h = record { null_is = h.0; entries_are = ap (map entry_of_row) (sym h.1) }
-is-there (Some es) id rows h = record { null_is = h.0; entries_are = sym h.1 }
+-- where a parent has entries exactly if it is there
+pub by-entries : (rows : List RowValue) (first second : Option (List ManifestEntry)) (ps : Parents) (hs : List Row) → AreListed rows first second ps hs → AreListedBy rows (is_some first) (is_some second) first second ps hs
+by-entries rows first second ps hs are =
+    let f = there-are first ps.p (ps.first).rows are.in_first in
+    let g = there-are second ps.q (ps.second).rows are.in_second in
+    record { of_rows = are.of_rows; rising = are.rising; there = (f.0, g.0); in_first = f.1; in_second = g.1 }
 
 apart-at : (hs gs : List Row) (p : Bytes) → differs (at_path (map entry_of_row hs) p) (at_path (map entry_of_row gs) p) ≡ not (same_entry (entry_at hs p) (entry_at gs p))
 apart-at hs gs p = λ i. not (same_entry (said-at hs p i) (said-at gs p i))
@@ -73,24 +76,22 @@ filter-same s t (x ∷ xs) h = by (t x) refl (filter-same s t xs h)
     by true e rest = rw (e, h x ∙ e) (ap (λ (l : List Bytes). x ∷ l) rest)
     by false e rest = rw (e, h x ∙ e) rest
 
-pub listed-is : (rows : List RowValue) (first second : Option (List ManifestEntry)) (ps : Parents) (hs : List Row) → AreListed rows first second ps hs
-    → listed_among (is_some first) (is_some second) (map entry_of_value rows) (entries_or_none first) (entries_or_none second) ≡ ruled_files ps hs
+pub listed-is : (rows : List RowValue) (a b : Bool) (first second : Option (List ManifestEntry)) (ps : Parents) (hs : List Row) → AreListedBy rows a b first second ps hs
+    → listed_among a b (map entry_of_value rows) (entries_or_none first) (entries_or_none second) ≡ ruled_files ps hs
 unfolding ruled_files
-listed-is rows first second ps hs are =
+listed-is rows a b first second ps hs are =
     let es : map entry_of_value rows ≡ map entry_of_row hs = ap (map entry_of_value) are.of_rows ∙ values-are hs in
-    let f = is-there first ps.p (ps.first).rows are.in_first in
-    let g = is-there second ps.q (ps.second).rows are.in_second in
-    (λ i. listed_among (is_some first) (is_some second) (es i) (f.entries_are i) (g.entries_are i))
-    ∙ filter-same (is_listed_at (is_some first) (is_some second) (map entry_of_row hs) (map entry_of_row (ps.first).rows) (map entry_of_row (ps.second).rows))
+    (λ i. listed_among a b (es i) (are.in_first i) (are.in_second i))
+    ∙ filter-same (is_listed_at a b (map entry_of_row hs) (map entry_of_row (ps.first).rows) (map entry_of_row (ps.second).rows))
     (λ path. list_all (λ other. not (same_entry (entry_at hs path) (entry_at other path))) (parents_rows ps))
     (all_paths (map entry_of_row hs) (map entry_of_row (ps.first).rows) (map entry_of_row (ps.second).rows))
-    (listed-rule ps hs (is_some first) (is_some second) f.null_is g.null_is)
+    (listed-rule ps hs a b are.there.0 are.there.1)
     ∙ (λ i. filter (λ path. list_all (λ other. not (same_entry (entry_at hs path) (entry_at other path))) (parents_rows ps))
     (in_order is_below (first_of_each bytes_eq (paths-are hs i ++ paths-are (ps.first).rows i ++ paths-are (ps.second).rows i))))
 
-pub up-rows : (rows : List RowValue) (first second : Option (List ManifestEntry)) (ps : Parents) (hs : List Row) → AreListed rows first second ps hs → IsUp (entry_paths (map entry_of_value rows))
-up-rows rows first second ps hs are =
-    subst IsUp (sym (ap (λ (l : List RowValue). entry_paths (map entry_of_value l)) are.of_rows ∙ ap entry_paths (values-are hs) ∙ paths-are hs)) (up-of_rises (paths_of hs) are.rising)
+pub up-rows : (rows : List RowValue) (hs : List Row) → rows ≡ map row_value hs → IsTrue (rises is_below (paths_of hs)) → IsUp (entry_paths (map entry_of_value rows))
+up-rows rows hs of_rows rising =
+    subst IsUp (sym (ap (λ (l : List RowValue). entry_paths (map entry_of_value l)) of_rows ∙ ap entry_paths (values-are hs) ∙ paths-are hs)) (up-of_rises (paths_of hs) rising)
 
 pub some-map : {X Y : Type 0} (f : X → Y) (o : Option X) → is_some o ≡ is_some (option_map f o)
 some-map f None = refl

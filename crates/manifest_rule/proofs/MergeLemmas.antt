@@ -7,7 +7,7 @@ use Rattle.std.proofs.lemmas.Slice.Eq.{bytes_eq-Decides}
 use Rattle.text_model.specs.Lists.{Each, first_of_each, in_order}
 use Rattle.text_model.specs.Text.{Bytes, is_below}
 use Rattle.text_model.proofs.EachLemmas.{Each-weaker}
-use Rattle.text_model.proofs.OrderLemmas.{is_below-irreflexive, is_below-same, is_below-chain, below-other as other, above-other}
+use Rattle.text_model.proofs.OrderLemmas.{is_below-same, is_below-chain, below-other as other, above-other}
 use Rattle.text_model.proofs.TestLemmas.{bytes_eq-is, bytes_eq-self as same}
 use Rattle.hg_model.specs.Manifest.{ManifestEntry}
 use Rattle.hg_dump.proofs.PathLemmas.{has, IsUp, same-rising, up-in_order, has-in_order, apart-first, has-first}

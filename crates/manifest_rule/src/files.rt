@@ -2,10 +2,11 @@ ghost use Rattle.std.specs.Prelude.{◌≡◌, ℕ, ◌+◌, ◌++◌, ◌<◌, 
 ghost use Rattle.view_model.specs.View.{Row};
 ghost use Rattle.pair_model.specs.Block.{Parents};
 ghost use Rattle.pair_model.specs.Rule as rule;
-ghost use Rattle.manifest_rule.specs.Listed.{AreListed, entries_or_none};
+ghost use Rattle.manifest_rule.specs.Listed.{AreListed, AreListedBy, AreListedOver, entries_or_none};
 
 use crate::merge::{entry_at, next, row_at};
 use bridge_text::{Bytes, NoMemory, Paths};
+use file_rule::Parent;
 use hg_manifest::Manifest;
 use pair_known::HgRows;
 use std::alloc::Global;
@@ -21,6 +22,55 @@ pub fn ruled_files(
     ensures { IfOk result (λ paths. (ps : Parents) (hs : List Row) → AreListed rows.now (option_map (λ m. m.now) first.entry) (option_map (λ m. m.now) second.entry) ps hs
         → paths ≡ rule.ruled_files ps hs) }
 {
+    let there = AreThere {
+        first: first.is_some(),
+        second: second.is_some(),
+    };
+    files_listed(alloc, rows, first, second, there)
+}
+
+/// The paths that a changeset lists by the rule over these parents. One that isn't there may have entries, as a link would whose node is the
+/// null id: their paths are listed too.
+pub fn files_over(
+    alloc: Global,
+    rows: &HgRows,
+    first: &Parent<'_>,
+    second: &Parent<'_>,
+) -> Result<Paths, NoMemory>
+    ensures { IfOk result (λ paths. (ps : Parents) (hs : List Row) → AreListedOver rows.now first.now second.now ps hs → paths ≡ rule.ruled_files ps hs) }
+{
+    let there = AreThere {
+        first: first.is_there,
+        second: second.is_there,
+    };
+    files_listed(
+        alloc,
+        rows,
+        Some(first.manifest),
+        Some(second.manifest),
+        there,
+    )
+}
+
+// Which parents are there.
+#[derive(Clone, Copy)]
+struct AreThere {
+    first: bool,
+    second: bool,
+}
+
+// The paths that are listed among those of three lists.
+fn files_listed(
+    alloc: Global,
+    rows: &HgRows,
+    first: Option<&Manifest>,
+    second: Option<&Manifest>,
+    there: AreThere,
+) -> Result<Paths, NoMemory>
+    ensures { IfOk result (λ paths. (ps : Parents) (hs : List Row)
+        → AreListedBy rows.now there.first there.second (option_map (λ m. m.now) first.entry) (option_map (λ m. m.now) second.entry) ps hs
+        → paths ≡ rule.ruled_files ps hs) }
+{
     let mut paths = Paths::new(alloc);
     let mut place = 0;
     let mut in_first = 0;
@@ -30,7 +80,7 @@ pub fn ruled_files(
         entry_at(first, in_first),
         entry_at(second, in_second),
     ) {
-        let listed = found.is_listed(first.is_some(), second.is_some());
+        let listed = found.is_listed(there.first, there.second);
         push_if(alloc, &mut paths, found.path, listed)?;
         place = after(place, found.row.is_some(), rows.len());
         in_first = after(in_first, found.first.is_some(), len_of(first));

@@ -5,5 +5,5 @@ mod files;
 mod manifest;
 mod merge;
 
-pub use files::ruled_files;
+pub use files::{files_over, ruled_files};
 pub use manifest::{RuledManifest, is_ruled_manifest, lines_fit, make_manifest};

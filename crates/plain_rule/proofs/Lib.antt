@@ -1,7 +1,6 @@
 pub mod HandedRows
 pub mod BackLemmas
 pub mod BlockLemmas
-pub mod LinkLemmas
 pub mod OverLemmas
 pub mod PlainRows
 pub mod PlainCommit

@@ -9,11 +9,11 @@ ghost use Rattle.pair_model.specs.Rule.{ruled_files};
 ghost use Rattle.pair_known.specs.Over.{IsChangesetOver};
 ghost use Rattle.plain_rule.specs.Back.{LineComesBack, ComesBack, IsDraftOver};
 
-use crate::link::is_link;
 use bridge_text::{Bytes, NoMemory, Paths};
 use file_rule::{Parent, are_ruled, parent_of};
 use hg_changeset::DateLine;
 use hg_store::HgStore;
+use link_rule::is_link;
 use manifest_rule::{is_ruled_manifest, ruled_files};
 use name_rule::{line_of_user, user_of_line};
 use pair_known::{HgDraft, Known};

@@ -3,8 +3,7 @@
 
 mod changeset;
 mod commit;
-mod link;
 
 pub use changeset::is_plain_changeset;
 pub use commit::is_plain_commit;
-pub use link::is_link;
+pub use link_rule::is_link;

@@ -21,7 +21,8 @@ use Rattle.pair_known.specs.Blocks.{IsHistoryHeld}
 use Rattle.pair_known.specs.declared.known.Known.{Known}
 use Rattle.pair_known.specs.declared.hg_draft.HgDraft.{HgDraft}
 use Rattle.pair_known.specs.declared.git_draft.GitDraft.{GitDraft}
-use Rattle.changeset_rule.proofs.ParentLemmas.{parents-are, partner-held}
+use Rattle.changeset_rule.proofs.ParentLemmas.{parents-are}
+use Rattle.link_rule.proofs.PartnerViews.{partner-held}
 use Rattle.pair_state.specs.declared.state_parts.StateParts.{StateParts}
 use Rattle.pair_state.specs.declared.fault.PushFault.{PushFault}
 use Rattle.pair_state.specs.declared.fault.PushFault.TheVariants as push

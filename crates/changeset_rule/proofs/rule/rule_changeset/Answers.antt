@@ -1,5 +1,5 @@
 use Rattle.std.proofs.Common.{true≢false, sym, ◌∙◌}
-use Rattle.changeset_rule.proofs.RuledLemmas.{few-of, ruled}
+use Rattle.changeset_rule.proofs.RuledLemmas.{has-parents, ruled}
 use Rattle.changeset_rule.proofs.rule.rule_changeset.Goals as goal
 
 pub returns-then-not-branch-clause-limit : goal.returns-then-not-branch-clause-limit
@@ -8,7 +8,13 @@ returns-then-not-branch-clause-limit c = λ e blocks v over fits.
 
 pub returns-clause-ok : goal.returns-clause-ok
 returns-clause-ok c = λ blocks v over.
-    let k = c.args.known.now in
-    let few = few-of k blocks c.args.c.now v over c.requires.few in
     let made = c.in_ok-changeset.ensures blocks v over in
-    ruled k blocks c.args.c.now v over few over.history.added over.history.partners _ made ((c.in_ok-changeset_fits.ensures _ made).0 c.if-not-branch.false)
+    (made, (c.in_ok-changeset_fits.ensures _ made).0 c.if-not-branch.false)
+
+pub returns-clause-known_parents : goal.returns-clause-known_parents
+returns-clause-known_parents c = λ blocks v over. has-parents c.args.known.now blocks c.args.c.now v over
+
+pub returns-clause-strict : goal.returns-clause-strict
+returns-clause-strict c = λ blocks v over few.
+    let made = c.in_ok-changeset.ensures blocks v over in
+    ruled c.args.known.now blocks c.args.c.now v over few _ made ((c.in_ok-changeset_fits.ensures _ made).0 c.if-not-branch.false)

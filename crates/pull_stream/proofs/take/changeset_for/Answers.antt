@@ -5,6 +5,7 @@ use Rattle.pair_model.specs.Block.{Block}
 use Rattle.pair_model.specs.Plain.{changeset_by_rule}
 use Rattle.pair_known.specs.declared.fault.PairFault.{PairFault}
 use Rattle.pair_known.specs.declared.fault.PairFault.TheVariants.{PairLimit, Memory}
+use Rattle.changeset_rule.proofs.RuledLemmas.{few-of}
 use Rattle.pull_stream.specs.Faults.{IsNameDue, pair_refused}
 use Rattle.pull_stream.specs.Taken.{RuleRefused}
 use Rattle.pull_stream.proofs.Names.{pair-named}
@@ -13,6 +14,12 @@ use Rattle.pull_stream.proofs.take.changeset_for.Goals as goal
 rule_refused : (blocks : List Block) (v : CommitView) (e : PairFault) → (e ≡ PairLimit → ChangesetFits (changeset_by_rule blocks v) → ⊥) → IsNameDue (RuleRefused blocks v) (pair_refused e)
 rule_refused blocks v PairLimit limit = inl (limit refl, refl)
 rule_refused blocks v Memory limit = tt
+
+pub returns-clause-ok : goal.returns-clause-ok
+returns-clause-ok c = λ blocks v over. record {
+  ruled = c.in_ok-changeset.ensures.strict blocks v over (few-of c.args.known.now blocks c.args.draft.now v over c.requires.few);
+  plain = (c.in_ok-plain.ensures blocks v over).0 c.if-not-plain.false;
+}
 
 pub returns-in_err-changeset-clause-refused : goal.returns-in_err-changeset-clause-refused
 returns-in_err-changeset-clause-refused c =
