@@ -6,5 +6,5 @@ mod commit;
 mod link;
 
 pub use changeset::is_plain_changeset;
-pub use commit::is_plain_commit;
+pub use commit::{has_what_is_handed_on, is_plain_commit};
 pub use link::is_link;
