@@ -92,6 +92,22 @@ named-body ps m t row e = by (revision_of_mark ps t.content m) refl e
     by None f h = absurd (none_some h)
     by (Some r) f h = ap (λ (x : Row). (x.revision).body) (sym (some_is h)) ∙ mark-body ps t.content m r f
 
+-- the row and the rows that were put together
+pub put-parts : (o : Option Row) (more : Option (List Row)) (row : Row) (rows : List Row) → put o more ≡ Some (row ∷ rows) → (o ≡ Some row) × (more ≡ Some rows)
+put-parts None more row rows e = absurd (none_some e)
+put-parts (Some r) None row rows e = absurd (none_some e)
+put-parts (Some r) (Some rs) row rows e =
+    let s : r ∷ rs ≡ row ∷ rows = some_is e in
+    let a : r ≡ row = cc in
+    let b : rs ≡ rows = cc in
+    (ap Some a, ap Some b)
+
+pub put-some : (o : Option Row) (more : Option (List Row)) → put o more ≡ Some [] → ⊥
+put-some None more e = none_some e
+put-some (Some r) None e = none_some e
+put-some (Some r) (Some rs) e =
+    let s : r ∷ rs ≡ [] = some_is e in cc
+
 -- ---- the marks of a changeset's files, one after the other
 
 pub no_marks : (ps : Parents) (row : Row) → is_ruled ps row ≡ true → entry_marks ps row ≡ []
@@ -167,22 +183,6 @@ module _ (ps : Parents) (rest : List Mark) (no_entry : starts_entry rest ≡ fal
           let names : revision_of_mark ps t.content (the_mark ps row) ≡ Some row.revision = ap (λ b. revision_of_mark ps b (the_mark ps row)) (sym body) ∙ mark-names ps row.path row.revision in
           walk-marked t ts row rows e (f.0).path
           ∙ (λ i. put (option_map (row_with_revision (ruled_row ps t)) (names i)) (go i)) ∙ (λ i. Some (record { path = sym (f.0).path i; flag = (f.0).flag i; revision = row.revision } ∷ rows))
-
-  -- the row and the rows that were put together
-  put-parts : (o : Option Row) (more : Option (List Row)) (row : Row) (rows : List Row) → put o more ≡ Some (row ∷ rows) → (o ≡ Some row) × (more ≡ Some rows)
-  put-parts None more row rows e = absurd (none_some e)
-  put-parts (Some r) None row rows e = absurd (none_some e)
-  put-parts (Some r) (Some rs) row rows e =
-      let s : r ∷ rs ≡ row ∷ rows = some_is e in
-      let a : r ≡ row = cc in
-      let b : rs ≡ rows = cc in
-      (ap Some a, ap Some b)
-
-  put-some : (o : Option Row) (more : Option (List Row)) → put o more ≡ Some [] → ⊥
-  put-some None more e = none_some e
-  put-some (Some r) None e = none_some e
-  put-some (Some r) (Some rs) e =
-      let s : r ∷ rs ≡ [] = some_is e in cc
 
   -- rows that their own marks name have the commit's bodies, but for those of the rule
   pub rows-unmarked : (rows : List Row) (ts : List TreeRow) → rises is_below (paths_of rows) ≡ true → walk ps (marks_from rows) ts ≡ Some rows → AllZip (IsUnmarkedRow ps) rows ts
