@@ -20,8 +20,8 @@ use Rattle.partner_model.specs.Filled.{entry_path, is_at, renamed, revision_of_m
 use Rattle.mark_law.proofs.MarkTypes.{IsNamed, named}
 use Rattle.unmark_law.proofs.Rows.{apart, rises_rest}
 use Rattle.unmark_law.proofs.TreeRows.{IsFileOf}
-use Rattle.filled_law.specs.Fillings.{named_row}
-use Rattle.filled_law.proofs.Walk.{mark_at, behind, put, starts_entry, walk, at-none, at-other, at-own}
+use Rattle.filled_law.specs.Walks.{named_row, mark_at, behind, starts_entry}
+use Rattle.filled_law.proofs.Walk.{put, walk, at-none, at-other, at-own}
 
 -- ---- one mark
 

@@ -16,7 +16,7 @@ use Rattle.partner_model.specs.Filled.{entry_path, manifest_mark, files_mark, us
 use Rattle.mark_law.proofs.Sections.{Within, wider, given_of, turned, from_user, from_files, from_manifest, entries_within, manifest_within, files_within, user_within, date_within, from_user_within, from_files_within, from_manifest_within}
 use Rattle.unmark_law.proofs.Tables.{eq_true}
 use Rattle.unmark_law.proofs.CommitOne.{same_manifest_is, same_paths_is, numbers_same}
-use Rattle.filled_law.proofs.Walk.{starts_entry}
+use Rattle.filled_law.specs.Walks.{starts_entry}
 
 -- ---- the first mark of a kind
 

@@ -28,8 +28,9 @@ use Rattle.unmark_law.proofs.TreeRows.{IsFileOf, files_of, plain_rows, plain_row
 use Rattle.depth_law.proofs.PlainChangeset.{nodes_back, over_is}
 use Rattle.partner_law.proofs.Roots.{root_same}
 use Rattle.partner_law.proofs.Given.{row_blob, commit_over}
-use Rattle.filled_law.specs.Fillings.{named_row, IsFilledRight, IsNarrow, RightIsUnmarking}
-use Rattle.filled_law.proofs.Walk.{mark_at, behind, put, starts_entry, walk, walked}
+use Rattle.filled_law.specs.Walks.{named_row, mark_at, behind, starts_entry}
+use Rattle.filled_law.specs.Fillings.{IsFilledRight, IsNarrow, RightIsUnmarking}
+use Rattle.filled_law.proofs.Walk.{walk, walked}
 use Rattle.filled_law.proofs.MarkedRows.{named-row, named-body, put-parts, put-some, rows-unmarked}
 use Rattle.filled_law.proofs.Parts.{starts-none, marks-are}
 

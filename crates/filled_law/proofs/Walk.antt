@@ -13,26 +13,12 @@ use Rattle.pair_model.specs.Block.{Parents}
 use Rattle.pair_model.specs.Rule.{ruled_row}
 use Rattle.pair_model.specs.MarkList.{Mark, Rename, File, Manifest, Files, User, Date, RawDate, OneExtra, may_follow}
 use Rattle.partner_model.specs.Filled.{entry_path, is_at, filled_row, all_some, are_paths_there, filled_rows}
-use Rattle.filled_law.specs.Fillings.{named_row}
+use Rattle.filled_law.specs.Walks.{named_row, mark_at, behind, starts_entry}
 use Rattle.unmark_law.proofs.Rows.{below_trans, not_below, rises_rest}
-
--- the next mark, where it is at the path, and those behind it
-abbrev pub mark_at : Bytes → List Mark → Option Mark
-mark_at path [] = None
-mark_at path (m ∷ ms) = if is_at path m then Some m else None
-
-abbrev pub behind : Bytes → List Mark → List Mark
-behind path [] = []
-behind path (m ∷ ms) = if is_at path m then ms else m ∷ ms
 
 abbrev pub put : Option Row → Option (List Row) → Option (List Row)
 put None rows = None
 put (Some row) rows = option_map (λ more. row ∷ more) rows
-
--- the next mark is that of an entry
-abbrev pub starts_entry : List Mark → Bool
-starts_entry [] = false
-starts_entry (m ∷ ms) = is_some (entry_path m)
 
 abbrev pub walk : Parents → List Mark → List TreeRow → Option (List Row)
 walk ps ms [] = if starts_entry ms then None else Some []

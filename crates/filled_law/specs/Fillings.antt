@@ -1,20 +1,15 @@
 -- What the marks of a commit name, and when that is the commit's unmarking.
-use Rattle.std.specs.Prelude.{◌≡◌, ◌≤◌, false, List, [], length, Option, Some, None, option_map}
-use Rattle.view_model.specs.View.{Row, ChangesetView, IsChangesetView, TreeRow, CommitView, IsCommitView}
-use Rattle.pair_model.specs.Block.{Block, Parents}
+use Rattle.std.specs.Prelude.{◌≡◌, ◌≤◌, false, List, [], length, Some}
+use Rattle.view_model.specs.View.{ChangesetView, IsChangesetView, CommitView, IsCommitView}
+use Rattle.pair_model.specs.Block.{Block}
 use Rattle.pair_model.specs.User.{message_of}
 use Rattle.pair_model.specs.MarkList.{Mark, AreHeadersOf}
 use Rattle.pair_model.specs.Octopus.{is_link_view}
-use Rattle.pair_model.specs.Rule.{ruled_row, author_by, carried_to}
+use Rattle.pair_model.specs.Rule.{author_by, carried_to}
 use Rattle.pair_model.specs.Plain.{IsPlainCommit, changeset_by_rule}
 use Rattle.partner_model.specs.Mark.{commit_marks, parents_of_changeset, residue_in}
 use Rattle.partner_model.specs.Partner.{AreCommitParentsPaired, UnmarksCommit}
-use Rattle.partner_model.specs.Filled.{revision_of_mark, row_with_revision, filled_changeset}
-
--- a file by a mark, or by the rule where it has none
-abbrev pub named_row : Parents → Option Mark → TreeRow → Option Row
-named_row ps None t = Some (ruled_row ps t)
-named_row ps (Some m) t = option_map (row_with_revision (ruled_row ps t)) (revision_of_mark ps t.content m)
+use Rattle.partner_model.specs.Filled.{filled_changeset}
 
 -- an unmarking of a commit is the changeset that the commit's marks name
 abbrev pub FilledIsUnmarking : List Block → Type 0
