@@ -53,7 +53,7 @@ row-blob Directory id content h b = absurd (true≢false (sym b))
 row-blob Gitlink id content h b = absurd (true≢false (sym b))
 
 -- what holds of all rows holds of the files
-each-among : (P : TreeRow → Type 0) (ts : List TreeRow) → Each P ts → Each P (files_among ts)
+pub each-among : (P : TreeRow → Type 0) (ts : List TreeRow) → Each P ts → Each P (files_among ts)
 each-among P [] h = tt
 each-among P (t ∷ ts) h = by (is_blob_mode t.mode) (each-among P ts h.1)
   where
@@ -167,14 +167,14 @@ module _ (k : Known) (blocks : List Block) (d : GitDraft) (v : CommitView) (over
   second-there p2 e = subst (λ (n : Id). IsParentView k.hg n ps.second) (sym e) second-view
 
   -- the entries of a parent that may be there
-  parent-entries : (node : Id) (x : ChangesetView) (parent : Parent) (null-is there : Bool) → is_null node ≡ null-is → there ≡ not null-is → IsParentView k.hg node x → IsParent k.hg parent x
+  pub parent-entries : (node : Id) (x : ChangesetView) (parent : Parent) (null-is there : Bool) → is_null node ≡ null-is → there ≡ not null-is → IsParentView k.hg node x → IsParent k.hg parent x
       → AreParentEntries (if there then Some (parent.manifest).now else None) node x.rows
   parent-entries node x parent true true e there view is = absurd (true≢false there)
   parent-entries node x parent true false e there view is = (e, ap (λ (y : ChangesetView). y.rows) (view.of_null e))
   parent-entries node x parent false true e there view is = (e, is.entries)
   parent-entries node x parent false false e there view is = absurd (true≢false (sym there))
 
-  entries-at : (node p : Id) (x : ChangesetView) (parent : Parent) (o : Option (List ManifestEntry)) → node ≡ p → parent.is_there ≡ not (is_null node) → o ≡ (if parent.is_there then Some (parent.manifest).now else None)
+  pub entries-at : (node p : Id) (x : ChangesetView) (parent : Parent) (o : Option (List ManifestEntry)) → node ≡ p → parent.is_there ≡ not (is_null node) → o ≡ (if parent.is_there then Some (parent.manifest).now else None)
       → IsParentView k.hg node x → IsParent k.hg parent x → AreParentEntries o p x.rows
   entries-at node p x parent o same there is view parent-is =
       subst (λ (n : Id). AreParentEntries o n x.rows) same
@@ -190,10 +190,10 @@ module _ (k : Known) (blocks : List Block) (d : GitDraft) (v : CommitView) (over
     in_second = entries-at p2 ps.q ps.second second o2 q-is there2 e2 (second-there p2 q-is) b;
   }
 
-  right-first : Each (IsRightRow k.hg) (ps.first).rows
+  pub right-first : Each (IsRightRow k.hg) (ps.first).rows
   right-first = parent-rows k.hg added ps.p ps.first first-view
 
-  right-second : Each (IsRightRow k.hg) (ps.second).rows
+  pub right-second : Each (IsRightRow k.hg) (ps.second).rows
   right-second = parent-rows k.hg added ps.q ps.second second-view
 
   abbrev IsRow : Row → Type 0
@@ -202,7 +202,7 @@ module _ (k : Known) (blocks : List Block) (d : GitDraft) (v : CommitView) (over
   rows-right : Each IsRow rows
   rows-right = each-mapped (ruled_row ps) _ IsRow (files_among v.rows) (λ t h. (h.0, h.1, row-revision k.hg added ps right-first right-second t h.2)) (each-among _ v.rows (over.view).rows)
 
-  loose : IsBytes (user_of_line (v.value).author).user → IsBytes (description_of (v.value).message) → IsLooseView (with-rows rows)
+  pub loose : IsBytes (user_of_line (v.value).author).user → IsBytes (description_of (v.value).message) → IsLooseView (with-rows rows)
   loose user desc =
       record {
         parents = (parent-id k.hg added ps.p ps.first first-view, parent-id k.hg added ps.q ps.second second-view);
@@ -220,7 +220,7 @@ module _ (k : Known) (blocks : List Block) (d : GitDraft) (v : CommitView) (over
       }
 
   -- the parents of the commit differ, so the changeset's do
-  whole : ArePartners (pairs_of blocks) → IsLooseView (changeset_by_rule blocks v) → IsChangesetView (changeset_by_rule blocks v)
+  pub whole : ArePartners (pairs_of blocks) → IsLooseView (changeset_by_rule blocks v) → IsChangesetView (changeset_by_rule blocks v)
   unfolding rule_changeset
   whole are view =
       let p-is : ps.p ≡ first_of (map (hg_partner blocks) (v.value).parents) = ap (λ (x : Parents). x.p) (parents-are blocks v few) in
