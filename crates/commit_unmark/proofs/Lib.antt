@@ -1,2 +1,4 @@
 pub mod MarkLemmas
 pub mod RowLemmas
+pub mod RowsLoop
+pub mod MarkPlaces
