@@ -1,7 +1,7 @@
 -- The files that marks name, one file after the other.
-use Rattle.std.proofs.Common.{◌≡◌, ◌≤◌, ◌<◌, ◌+◌, ◌++◌, ℕ, zero, suc, Bool, true, false, List, [], ◌∷◌, map, length, drop, Option, Some, None, refl, sym, ap, subst, ◌∙◌, arith, append_assoc, append-nil}
+use Rattle.std.proofs.Common.{◌≡◌, ◌≤◌, ◌<◌, ◌+◌, ◌++◌, ℕ, zero, suc, Bool, true, false, List, [], ◌∷◌, map, length, drop, get_or, Option, Some, None, refl, sym, ap, subst, ◌∙◌, arith, append_assoc, append-nil}
 use Rattle.std.specs.Prelude.{slice_get, option_map, is_some, IsTrue, if◌then◌else◌}
-use Rattle.std.proofs.lemmas.Option.{same_Some, none-some}
+use Rattle.std.proofs.lemmas.Option.{same_Some, none-some, slice_get-get_or}
 use Rattle.std.proofs.lemmas.List.{length-map}
 use Rattle.text_model.specs.Lists.{Each, In, rises}
 use Rattle.text_model.specs.Text.{Bytes, is_below}
@@ -33,6 +33,10 @@ use Rattle.filled_law.proofs.Walk.{put, walk, walked}
 use Rattle.filled_law.proofs.MarkedRows.{named-row}
 use Rattle.filled_law.proofs.Right.{files-rise}
 use Rattle.commit_unmark.specs.Named.{IsFileOver, NamesNone, NamesRow, AreRight, AreBroughtRows, AreFilesOver, NamesNoRows, NamesRows}
+
+-- the file at a place of a list
+pub file-at : (files list : List FileRow) (i : ℕ) (file : FileRow) → list ≡ files → i < length list → file ≡ get_or list i file → slice_get files i ≡ Some file
+file-at files list i file same below is = ap (λ (l : List FileRow). slice_get l i) (sym same) ∙ slice_get-get_or list i file below ∙ ap Some (sym is)
 
 -- ---- rows that were named, before those that a walk gives
 
