@@ -2,3 +2,4 @@ pub mod MarkLemmas
 pub mod RowLemmas
 pub mod RowsLoop
 pub mod MarkPlaces
+pub mod PartLemmas
