@@ -3,3 +3,5 @@ pub mod RowLemmas
 pub mod RowsLoop
 pub mod MarkPlaces
 pub mod PartLemmas
+pub mod ExtraLemmas
+pub mod DateLemmas

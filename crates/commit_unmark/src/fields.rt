@@ -1,5 +1,6 @@
 // The fields of the changeset that marks name.
-ghost use Rattle.std.specs.Prelude.{◌≡◌, [], Some, IfOk, IfSome, MatchOption, option_map};
+ghost use Rattle.std.specs.Prelude.{◌≡◌, [], Some, IfOk, MatchOption, option_map};
+ghost use Rattle.hg_model.specs.Changeset as model;
 ghost use Rattle.hg_model.specs.Changeset.{Plain, Raw, IsChangeset, IsDateLine, IsPlainDate};
 ghost use Rattle.hg_changeset.specs.Values.{changeset_value, date_value};
 ghost use Rattle.pair_model.specs.MarkList.{IsMark};
@@ -99,7 +100,7 @@ fn marked_date(
     mark: &Mark,
 ) -> Result<Option<DateLine>, NoMemory>
     requires mark { IsMark (mark_value mark.now) }
-    ensures { IfOk result (λ found. MatchOption found (IfSome (date_mark (extras_by marks.now) (mark_value mark.now)) IsDateLine → ⊥)
+    ensures { IfOk result (λ found. MatchOption found ((d : model.DateLine) → date_mark (extras_by marks.now) (mark_value mark.now) ≡ Some d → IsDateLine d → ⊥)
         (λ date. (date_mark (extras_by marks.now) (mark_value mark.now) ≡ Some (date_value date)) × IsDateLine (date_value date))) }
 {
     match mark {

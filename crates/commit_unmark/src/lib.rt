@@ -6,6 +6,11 @@ mod fields;
 mod line;
 mod manifest;
 mod marks;
+mod named;
 mod revision;
+mod right;
 mod row;
 mod rows;
+mod unmark;
+
+pub use unmark::unmark_commit;
