@@ -103,7 +103,7 @@ rows-files ps (t ∷ ts) ms (row ∷ rows) f w =
     (named-file ps (mark_at t.path ms) t row f.0 p.0, rows-files ps ts (behind t.path ms) rows f.1 p.1)
 
 -- rows of these files have just these files
-files-plain : (rows : List Row) (ts : List TreeRow) → Each IsFileRow ts → AllZip IsFileOf rows ts → files_of rows ≡ map file_row_of (map plain_row ts)
+pub files-plain : (rows : List Row) (ts : List TreeRow) → Each IsFileRow ts → AllZip IsFileOf rows ts → files_of rows ≡ map file_row_of (map plain_row ts)
 files-plain [] [] f z = refl
 files-plain [] (t ∷ ts) f z = absurd z
 files-plain (row ∷ rows) [] f z = absurd z
@@ -118,6 +118,7 @@ files-plain (row ∷ rows) (t ∷ ts) f z =
 pub record IsNamed (blocks : List Block) (c : CommitView) (h : ChangesetView) (marks : List Mark) : Type 0 where
   pub rows : filled_rows (parents_of_commit blocks c) marks (files_among c.rows) ≡ Some h.rows
   pub parents : (h.p ≡ (parents_of_commit blocks c).p) × (h.q ≡ (parents_of_commit blocks c).q)
+  pub whole : changeset_by_marks (parents_of_commit blocks c) c marks h.rows ≡ h
 
 pub named-parts : (blocks : List Block) (c : CommitView) (h : ChangesetView) (marks : List Mark) → filled_changeset blocks c marks ≡ Some h → IsNamed blocks c h marks
 unfolding filled_changeset
@@ -130,6 +131,7 @@ named-parts blocks c h marks e = by (filled_rows (parents_of_commit blocks c) ma
         record {
           rows = f ∙ ap (λ (x : ChangesetView). Some x.rows) s;
           parents = (ap (λ (x : ChangesetView). x.p) (sym s), ap (λ (x : ChangesetView). x.q) (sym s));
+          whole = ap (λ (x : ChangesetView). changeset_by_marks (parents_of_commit blocks c) c marks x.rows) (sym s) ∙ s;
         }
 
 module _ (blocks : List Block) (t : IsTable blocks) (c : CommitView) (h : ChangesetView) (marks : List Mark) (narrow : IsNarrow blocks c) (list : AreHeadersOf (c.value).headers marks) (named : IsNamed blocks c h marks) where
@@ -177,3 +179,9 @@ module _ (blocks : List Block) (t : IsTable blocks) (c : CommitView) (h : Change
 
 pub right-is_unmarking : (blocks : List Block) → IsTable blocks → RightIsUnmarking blocks
 right-is_unmarking blocks t c h marks narrow list r = unmarks blocks t c h marks narrow list (named-parts blocks c h marks r.filled) r
+
+-- and what is made of named rows is what the marks name
+pub filled-by : (blocks : List Block) (c : CommitView) (marks : List Mark) (rows : List Row) → filled_rows (parents_of_commit blocks c) marks (files_among c.rows) ≡ Some rows
+    → filled_changeset blocks c marks ≡ Some (changeset_by_marks (parents_of_commit blocks c) c marks rows)
+unfolding filled_changeset
+filled-by blocks c marks rows e = ap (option_map (changeset_by_marks (parents_of_commit blocks c) c marks)) e
