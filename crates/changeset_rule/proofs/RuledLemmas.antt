@@ -102,13 +102,13 @@ module _ (k : Known) (blocks : List Block) (d : GitDraft) (v : CommitView) (over
   not-null : (a : Id) → IsTrue (is_some (block_of_id blocks a)) → hg_partner blocks a ≡ null → ⊥
   not-null a h e = no-null k blocks over.history added _ (hg_partner blocks a) ((bytes_eq-Decides (hg_partner blocks a) null).1 e) (partner-held k blocks over.history added a h)
 
-  null-first : (ids : List Id) → length ids ≤ 2 → Each (λ p. IsTrue (is_some (block_of_id blocks p))) ids → first_of (map (hg_partner blocks) ids) ≡ null → second_of (map (hg_partner blocks) ids) ≡ null
+  pub null-first : (ids : List Id) → length ids ≤ 2 → Each (λ p. IsTrue (is_some (block_of_id blocks p))) ids → first_of (map (hg_partner blocks) ids) ≡ null → second_of (map (hg_partner blocks) ids) ≡ null
   null-first [] few all e = refl
   null-first (a ∷ []) few all e = refl
   null-first (a ∷ b ∷ []) few all e = absurd (not-null a all.0 e)
   null-first (a ∷ b ∷ c ∷ ids) few all e = absurd (grind (arith, few))
 
-  one-parent : ArePartners (pairs_of blocks) → (ids : List Id) → length ids ≤ 2 → Each (λ p. IsTrue (is_some (block_of_id blocks p))) ids → has_distinct ids ≡ true
+  pub one-parent : ArePartners (pairs_of blocks) → (ids : List Id) → length ids ≤ 2 → Each (λ p. IsTrue (is_some (block_of_id blocks p))) ids → has_distinct ids ≡ true
       → first_of (map (hg_partner blocks) ids) ≡ second_of (map (hg_partner blocks) ids) → first_of (map (hg_partner blocks) ids) ≡ null
   one-parent are [] few all distinct e = refl
   one-parent are (a ∷ []) few all distinct e = e

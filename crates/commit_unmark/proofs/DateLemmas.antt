@@ -48,6 +48,13 @@ find-true f (y ∷ xs) x e = by (f y) refl (find-true f xs x)
     by true k go = ap f (some_is (rw k at e)) ∙ k
     by false k go = go (rw k at e)
 
+-- what is told of a date line with these numbers, and of the one that marks name over them
+abbrev pub PlainFound : List Mark → ℤ → ℤ → Option value.DateLine → Type 0
+PlainFound marks time tz found = MatchOption found (IsDateLine (Plain time tz (extras_by marks)) → ⊥) (λ date. (date_value date ≡ Plain time tz (extras_by marks)) × IsDateLine (Plain time tz (extras_by marks)))
+
+abbrev pub DateFound : List Mark → ℤ → ℤ → Option value.DateLine → Type 0
+DateFound marks time tz found = MatchOption found (IsDateLine (date_by marks time tz) → ⊥) (λ date. (date_value date ≡ date_by marks time tz) × IsDateLine (date_by marks time tz))
+
 module _ (marks : List Mark) (time tz : ℤ) where
   pub none-dated : None ≡ find (is_of kind.Date) marks → date_by marks time tz ≡ Plain time tz (extras_by marks)
   none-dated e = ap (λ o. unwrap_or o (Plain time tz (extras_by marks))) (first-by (date_mark (extras_by marks)) marks None (e ∙ find-same (is_of kind.Date) (λ m. is_some (date_mark (extras_by marks) m)) marks (same-kind (extras_by marks))))

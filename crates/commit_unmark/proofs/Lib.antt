@@ -7,3 +7,4 @@ pub mod ExtraLemmas
 pub mod DateLemmas
 pub mod Tables
 pub mod Whole
+pub mod NamedLemmas

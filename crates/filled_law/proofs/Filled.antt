@@ -29,7 +29,7 @@ use Rattle.filled_law.proofs.MarkedRows.{rows-named}
 use Rattle.filled_law.proofs.Parts.{starts-none, marks-are, manifest-filled, files-filled, user-filled, date-filled}
 
 -- the paths of the commit's files are those of the changeset's
-paths-are : (hs : List Row) (ts : List TreeRow) → AllZip IsFileOf hs ts → paths_of hs ≡ tree_paths ts
+pub paths-are : (hs : List Row) (ts : List TreeRow) → AllZip IsFileOf hs ts → paths_of hs ≡ tree_paths ts
 paths-are [] [] z = refl
 paths-are [] (t ∷ ts) z = absurd z
 paths-are (h ∷ hs) [] z = absurd z

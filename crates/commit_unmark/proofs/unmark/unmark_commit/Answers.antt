@@ -1,9 +1,8 @@
-use Rattle.std.proofs.Common.{ap, arith, length}
+use Rattle.std.proofs.Common.{◌≤◌, ℕ, length, ap, subst, arith}
 use Rattle.depth_law.proofs.PlainCommit.{commit_few}
 use Rattle.commit_unmark.proofs.unmark.unmark_commit.Goals as goal
 
 pub returns-then-len-gt2 : goal.returns-then-len-gt2
 returns-then-len-gt2 c = λ blocks v over h u.
-    let few = commit_few blocks v h u.marked in
-    let same = ap (λ x. length x.parents) over.draft.value in
-    absurd (omega (arith, few, same, c.len.ensures, c.if-len-gt2.true))
+    let few : length (c.args.c.now.commit).parents ≤ 2 = subst (λ x. length x.parents ≤ 2) over.draft.value (commit_few blocks v h u.marked) in
+    absurd (omega (arith, few, c.len.ensures, c.if-len-gt2.true))
