@@ -125,20 +125,24 @@ module _ (k : Known) (blocks : List Block) (d : GitDraft) (v : CommitView) (over
           → (m : RuledManifest) → IsManifestWith m (manifest_by ps marks rows) rows → (x : Changeset) → changeset_value x ≡ whole.fields
           → (t : DraftTexts) → t.changeset ≡ None → t.manifest ≡ m.text
           → NamesChangeset k.hg blocks v marks (record { p1 = p1; p2 = p2; changeset = x; manifest = m.manifest; rows = made.rows; fresh = made.fresh; texts = t })
-      draft-of p1 p2 p-is q-is made brought new m m-is x x-is t none t-is =
-          (whole, filled-by blocks v marks rows filled, view, record {
-            draft = record {
-              parents = (sym p-is, sym q-is);
-              fields = sym x-is;
-              manifest = sym m-is.is;
-              rows = brought.values;
-              files = brought.held;
-              texts = record {
-                changeset = subst (λ (o : Option Bytes). IfSome o (λ s. s ≡ changeset_text whole.fields)) (sym none) tt;
-                manifest = subst (λ (o : Option Bytes). IfSome o (λ s. s ≡ rows_text rows)) (sym t-is) m-is.text;
-              };
+      draft-of p1 p2 p-is q-is made brought new m m-is x x-is t none t-is = (
+        whole,
+        filled-by blocks v marks rows filled,
+        view,
+        record {
+          draft = record {
+            parents = (sym p-is, sym q-is);
+            fields = sym x-is;
+            manifest = sym m-is.is;
+            rows = brought.values;
+            files = brought.held;
+            texts = record {
+              changeset = subst (λ (o : Option Bytes). IfSome o (λ s. s ≡ changeset_text whole.fields)) (sym none) tt;
+              manifest = subst (λ (o : Option Bytes). IfSome o (λ s. s ≡ rows_text rows)) (sym t-is) m-is.text;
             };
-            of_rows = brought.of_rows;
-            are_new = new;
-            view = record { parents = view.parents; fields = view.fields; manifest = view.manifest; rows = view.rows; in_order = view.in_order; agrees = view.agrees };
-          })
+          };
+          of_rows = brought.of_rows;
+          are_new = new;
+          view = record { parents = view.parents; fields = view.fields; manifest = view.manifest; rows = view.rows; in_order = view.in_order; agrees = view.agrees };
+        },
+      )

@@ -32,7 +32,7 @@ pub fn named_manifest(
 ) -> Result<Option<RuledManifest>, NoMemory>
     ensures { IfOk result (λ found. (ps : Parents) (hs : List Row) → AreRowsOver store.now rows.now first.now second.now ps hs
         → MatchOption found (AreManifestParents (manifest_by ps marks.now hs) hs → ⊥)
-          (λ made. IsManifestWith made (manifest_by ps marks.now hs) hs × AreManifestParents (manifest_by ps marks.now hs) hs)) }
+        (λ made. IsManifestWith made (manifest_by ps marks.now hs) hs × AreManifestParents (manifest_by ps marks.now hs) hs)) }
 {
     let made = manifest_of(alloc, store, marks, rows, first, second)?;
     if is_manifest(&made.manifest, rows) {

@@ -28,6 +28,7 @@ pub fn named_changeset(
     ensures { IfOk result (λ found. (blocks : List Block) (v : CommitView) → IsCommitOver known.now blocks c.now v
         → MatchOption found (NamesNoChangeset blocks v marks.now) (NamesChangeset known.now.hg blocks v marks.now)) }
 {
+    marks.are_marks();
     let (p1, p2) = parents_of(known, c);
     let first = parent_of(&known.hg, &p1);
     let second = parent_of(&known.hg, &p2);

@@ -35,8 +35,8 @@ pub fn row_with_revision(
     requires content { (t : TreeRow) × (t.id ≡ file.now.id) × IsBlobHeld (c.now.fresh ++ known.now.git) t }
     ensures found { IfOk result (λ found. (t : TreeRow) → IsContentOf (c.now.fresh ++ known.now.git) file.now t
         → MatchOption found (IsRevision (revision_with parents (option_copied meta.entry) t.content) → ⊥)
-          (λ made. IsRevision (revision_with parents (option_copied meta.entry) t.content)
-            × IsMadeRow known.now.hg made (row_with file.now.path (flag_of_mode file.now.mode) (revision_with parents (option_copied meta.entry) t.content)))) }
+        (λ made. IsRevision (revision_with parents (option_copied meta.entry) t.content)
+        × IsMadeRow known.now.hg made (row_with file.now.path (flag_of_mode file.now.mode) (revision_with parents (option_copied meta.entry) t.content)))) }
     ensures fresh { IfOk result (λ found. IfSome found (λ made. IsFresh known.now.hg file.now.path made.fresh)) }
 {
     let (p, q) = parents;

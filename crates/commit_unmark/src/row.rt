@@ -130,7 +130,14 @@ fn copied_row(
         return Ok(None);
     }
     let meta = copy_meta(alloc, source, &node)?;
-    row_with_revision(alloc, known, c, file, (Id::NULL, Id::NULL), Some(meta.as_slice()))
+    row_with_revision(
+        alloc,
+        known,
+        c,
+        file,
+        (Id::NULL, Id::NULL),
+        Some(meta.as_slice()),
+    )
 }
 
 // The metadata of a copy.

@@ -25,7 +25,7 @@ pub fn unmark_commit(
     requires over { (blocks : List Block) × (v : CommitView) × IsCommitOver known.now blocks c.now v }
     ensures { IfOk result (λ found. (blocks : List Block) (v : CommitView) → IsCommitOver known.now blocks c.now v
         → MatchOption found ((h : ChangesetView) → ¬ (UnmarksCommit blocks v h))
-          (λ d. (h : ChangesetView) × UnmarksCommit blocks v h × IsMadeChangeset known.now.hg d h)) }
+        (λ d. (h : ChangesetView) × UnmarksCommit blocks v h × IsMadeChangeset known.now.hg d h)) }
 {
     if c.commit.parents.len() > 2 {
         return Ok(None);
@@ -37,11 +37,7 @@ pub fn unmark_commit(
 }
 
 // The unmarking of a commit without headers: it has one exactly where it is plain.
-fn unmark_plain(
-    alloc: Global,
-    known: &Known,
-    c: &GitDraft,
-) -> Result<Option<HgDraft>, NoMemory>
+fn unmark_plain(alloc: Global, known: &Known, c: &GitDraft) -> Result<Option<HgDraft>, NoMemory>
     requires over { (blocks : List Block) × (v : CommitView) × IsCommitOver known.now blocks c.now v }
     requires few { length (c.now.commit).parents ≤ 2 }
     requires bare { (c.now.commit).headers ≡ [] }
@@ -56,11 +52,7 @@ fn unmark_plain(
 }
 
 // The unmarking of a commit by its marks.
-fn unmark_marked(
-    alloc: Global,
-    known: &Known,
-    c: &GitDraft,
-) -> Result<Option<HgDraft>, NoMemory>
+fn unmark_marked(alloc: Global, known: &Known, c: &GitDraft) -> Result<Option<HgDraft>, NoMemory>
     requires over { (blocks : List Block) × (v : CommitView) × IsCommitOver known.now blocks c.now v }
     requires few { length (c.now.commit).parents ≤ 2 }
     ensures { IfOk result (λ found. (blocks : List Block) (v : CommitView) → IsCommitOver known.now blocks c.now v → IsAnswer known.now.hg blocks v found) }

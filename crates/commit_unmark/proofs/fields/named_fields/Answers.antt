@@ -35,8 +35,7 @@ returns c =
     let user : c.in_ok-user.user ≡ user_by marks g.user = c.in_ok-user.ensures ∙ ap (λ (u : UserDate). user_by marks u.user) given in
     let desc : c.in_ok-desc.desc ≡ description_of c.args.commit.now.message = c.in_ok-desc.ensures ∙ c.desc_of_message.ensures ∙ ap description_of (c.as_slice-3.ensures ∙ ap (λ x. x.message) c.commit.view_is) in
     let id : IsId c.args.manifest = search rules in
-    let one : IsOneLine c.as_slice-2.result.now = c.is_line.ensures.0 (cc c.if-not-is_line.false) in
-    (
+    let one : IsOneLine c.as_slice-2.result.now = c.is_line.ensures.0 (cc c.if-not-is_line.false) in (
       (λ i. record { manifest = c.args.manifest; user = user i; date = dated.0 i; files = c.args.files; description = desc i }),
       record {
         manifest = id;

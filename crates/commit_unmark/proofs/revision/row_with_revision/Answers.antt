@@ -16,9 +16,11 @@ returns-clause-found c = λ t is.
     let body = c.content_of-body.ensures t (ap (λ x. x.id) is.of_file ∙ sym c.blob.ensures) is.content in
     let right : IsRevision (revision_with c.args.parents (option_copied c.args.meta) t.content) =
     subst (λ (b : Bytes). IsRevision (revision_with c.args.parents (option_copied c.args.meta) b)) body (c.is_revision.ensures.0 c.if-not-is_revision.false) in
-    let text = c.keep.ensures ∙ c.in_ok-join_into.ensures.ok ∙ ap (λ (x : Bytes). x ++ file_text (option_copied c.args.meta) c.content_of-body.result.now) c.new-text.ensures.items ∙ ap (file_text (option_copied c.args.meta)) body in
-    (right, c.in_ok-row.ensures.ok (revision_with c.args.parents (option_copied c.args.meta) t.content) (record {
-      parents = (refl, refl);
-      text_is = record { spells = (right.2, text); order = sym right.3 };
-      blob_is = sym (ap (λ x. x.id) is.of_file) ∙ is.blob;
-    }))
+    let text = c.keep.ensures ∙ c.in_ok-join_into.ensures.ok ∙ ap (λ (x : Bytes). x ++ file_text (option_copied c.args.meta) c.content_of-body.result.now) c.new-text.ensures.items ∙ ap (file_text (option_copied c.args.meta)) body in (
+      right,
+      c.in_ok-row.ensures.ok (revision_with c.args.parents (option_copied c.args.meta) t.content) (record {
+        parents = (refl, refl);
+        text_is = record { spells = (right.2, text); order = sym right.3 };
+        blob_is = sym (ap (λ x. x.id) is.of_file) ∙ is.blob;
+      }),
+    )

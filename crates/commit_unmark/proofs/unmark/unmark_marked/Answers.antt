@@ -42,10 +42,14 @@ is_right-requires c =
     let some : NamesChangeset c.args.known.now.hg blocks v c.in-Some.marks c.in-Some-2.named =
     subst (λ o. MatchOption o (NamesNoChangeset blocks v c.in-Some.marks) (NamesChangeset c.args.known.now.hg blocks v c.in-Some.marks)) c.in-Some-2.is (c.in_ok-named.ensures blocks v over) in
     record {
-      over = (blocks, some.0, record {
-        inside = record { history = over.history; draft = (some.3).draft; view = some.2 };
-        parents = own-paired blocks t v some.0 c.in-Some.marks (narrow-of c.args.known.now blocks c.args.c.now v over c.requires.few) list (named-parts blocks v some.0 c.in-Some.marks some.1);
-      });
+      over = (
+        blocks,
+        some.0,
+        record {
+          inside = record { history = over.history; draft = (some.3).draft; view = some.2 };
+          parents = own-paired blocks t v some.0 c.in-Some.marks (narrow-of c.args.known.now blocks c.args.c.now v over c.requires.few) list (named-parts blocks v some.0 c.in-Some.marks some.1);
+        },
+      );
     }
 
 pub returns-then-not-branch : goal.returns-then-not-branch
