@@ -1,7 +1,7 @@
 -- The extras that marks name, mark by mark.
-use Rattle.std.proofs.Common.{◌≡◌, ◌≢◌, ◌+◌, ◌++◌, ℕ, zero, suc, Bool, true, false, true≢false, List, [], ◌∷◌, take, drop, Option, Some, None, refl, sym, ap, subst, ◌∙◌, take-append-drop}
+use Rattle.std.proofs.Common.{◌≡◌, ◌≢◌, ◌+◌, ◌++◌, ℕ, zero, suc, true, false, true≢false, List, [], ◌∷◌, take, drop, Some, refl, sym, ap, subst, ◌∙◌, take-append-drop}
 use Rattle.std.specs.Prelude.{slice_get, IfSome, IsTrue}
-use Rattle.std.specs.List.{filter_map, cons_option}
+use Rattle.std.specs.List.{cons_option}
 use Rattle.std.proofs.lemmas.Bool.{and_parts}
 use Rattle.std.proofs.lemmas.List.Elements.{filter_map-append}
 use Rattle.text_model.specs.Lists.{Each, rises}

@@ -1,5 +1,5 @@
 -- What a search for a mark in metadata tells.
-use Rattle.std.proofs.Common.{◌≡◌, ℕ, Bool, true, false, true≢false, List, Option, Some, None, refl, sym, ap, ◌∙◌, arith}
+use Rattle.std.proofs.Common.{◌≡◌, ℕ, Bool, true, false, true≢false, List, Option, Some, None, refl, sym, ◌∙◌, arith}
 use Rattle.std.specs.Prelude.{◌↔◌, IsTrue, is_some, not}
 use Rattle.memchr.specs.Find.{FindsNeedle}
 use Rattle.text_model.specs.Text.{has_piece}

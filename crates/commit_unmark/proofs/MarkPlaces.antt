@@ -1,5 +1,5 @@
 -- The mark at a place of a list.
-use Rattle.std.proofs.Common.{◌≡◌, ◌+◌, ℕ, Bool, true, false, List, ◌∷◌, drop, Option, Some, None, Bor, refl, sym, ap, ◌∙◌}
+use Rattle.std.proofs.Common.{◌≡◌, ◌+◌, ℕ, Bool, List, ◌∷◌, drop, Option, Some, None, refl, sym, ap, ◌∙◌}
 use Rattle.std.specs.Prelude.{slice_get, option_map, is_some, if◌then◌else◌}
 use Rattle.text_model.specs.Text.{Bytes}
 use Rattle.pair_model.specs.MarkList.{Mark}

@@ -1,9 +1,9 @@
 -- The changeset that marks name, part by part.
 use Rattle.std.proofs.Common.{◌≡◌, ◌≤◌, ◌++◌, Bool, true, false, List, [], ◌∷◌, length, map, Option, Some, None, refl, sym, ap, subst, ◌∙◌}
-use Rattle.std.specs.Prelude.{IfSome, IsTrue, ⊤}
+use Rattle.std.specs.Prelude.{IfSome, IsTrue}
 use Rattle.text_model.specs.Lists.{Each, rises}
 use Rattle.text_model.specs.Text.{Bytes, IsBytes, is_below}
-use Rattle.text_model.specs.Id.{Id, null}
+use Rattle.text_model.specs.Id.{Id}
 use Rattle.text_model.specs.Path.{is_fit_path}
 use Rattle.text_model.proofs.Options.{some_is}
 use Rattle.git_model.specs.Tree.{is_blob_mode}
@@ -23,12 +23,10 @@ use Rattle.filled_law.proofs.Filled.{paths-are}
 use Rattle.filled_law.proofs.Right.{files-rise, rows-files, named-parts, filled-by}
 use Rattle.pair_known.specs.Partners.{ArePartners}
 use Rattle.pair_known.specs.Over.{IsCommitOver}
-use Rattle.pair_known.specs.Ruled.{IsMadeChangeset}
 use Rattle.pair_known.specs.declared.known.Known.{Known}
 use Rattle.pair_known.specs.declared.git_draft.GitDraft.{GitDraft}
-use Rattle.pair_known.specs.declared.hg_draft.HgDraft.{HgDraft}
 use Rattle.pair_known.specs.declared.draft_texts.DraftTexts.{DraftTexts}
-use Rattle.file_rule.specs.Parents.{IsParent, IsParentView}
+use Rattle.file_rule.specs.Parents.{IsParent}
 use Rattle.file_rule.specs.declared.parents.Parent.{Parent}
 use Rattle.file_rule.specs.declared.rows.RuledRows.{RuledRows}
 use Rattle.manifest_rule.specs.declared.manifest.RuledManifest.{RuledManifest}
@@ -36,7 +34,7 @@ use Rattle.changeset_rule.proofs.ParentLemmas.{parents-are}
 use Rattle.changeset_rule.proofs.RowViews.{row-revision}
 use Rattle.changeset_rule.proofs.ViewLemmas.{parent-id}
 use Rattle.changeset_rule.proofs.RuledLemmas.{first-view, second-view, are-rows, right-first, right-second, null-first, one-parent}
-use Rattle.commit_unmark.specs.Named.{AreFilesOver, AreRight, AreBroughtRows, NamesNoRows, NamesRows}
+use Rattle.commit_unmark.specs.Named.{AreFilesOver, AreRight, AreBroughtRows, NamesNoRows}
 use Rattle.commit_unmark.specs.Parts.{manifest_by, files_by, fields_by, IsManifestWith}
 use Rattle.commit_unmark.specs.Changesets.{NamesNoChangeset, NamesChangeset}
 

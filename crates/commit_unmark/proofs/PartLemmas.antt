@@ -1,8 +1,8 @@
 -- Parts of a changeset: lines, a manifest, and the first mark of a kind.
-use Rattle.std.proofs.Common.{◌≡◌, ◌≢◌, ◌≤◌, ◌<◌, ◌+◌, ◌++◌, ℕ, zero, suc, Bool, true, false, true≢false, List, [], ◌∷◌, map, length, take, Option, Some, None, refl, sym, ap, subst, ◌∙◌, arith}
-use Rattle.std.specs.Prelude.{◌↔◌, IsTrue, is_some, not, option_map, unwrap_or, slice_get, if◌then◌else◌}
+use Rattle.std.proofs.Common.{◌≡◌, ◌≢◌, ◌≤◌, ◌+◌, ◌++◌, ℕ, zero, suc, Bool, true, false, true≢false, List, [], ◌∷◌, map, length, take, Option, Some, None, refl, sym, ap, subst, ◌∙◌}
+use Rattle.std.specs.Prelude.{◌↔◌, IsTrue, is_some, not, option_map, unwrap_or, slice_get}
 use Rattle.std.specs.List.{find}
-use Rattle.std.specs.Option.{option_or, option_and_then}
+use Rattle.std.specs.Option.{option_and_then}
 use Rattle.text_model.specs.Lists.{Each}
 use Rattle.text_model.specs.Text.{Bytes, has_byte}
 use Rattle.text_model.specs.Cuts.{Lacks, cut_of}
@@ -12,7 +12,7 @@ use Rattle.text_model.proofs.Elements.{take_push, take_whole}
 use Rattle.text_model.proofs.EachLemmas.{Each-rest, Each-push}
 use Rattle.text_model.proofs.LackLemmas.{Lacks-by_test, has_byte-lacks}
 use Rattle.text_model.proofs.CutLemmas.{cut_of-none, cut_of-takes}
-use Rattle.view_model.specs.View.{Row, rows_text, ManifestParents, NoManifest, Over, manifest_node}
+use Rattle.view_model.specs.View.{Row, rows_text, manifest_node}
 use Rattle.pair_model.specs.MarkList.{Mark}
 use Rattle.partner_model.specs.Filled.{manifest_mark, first_mark}
 use Rattle.mark_code.specs.Values.{manifest_value}

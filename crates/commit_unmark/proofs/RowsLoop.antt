@@ -1,9 +1,9 @@
 -- The files that marks name, one file after the other.
 use Rattle.std.proofs.Common.{◌≡◌, ◌≤◌, ◌<◌, ◌+◌, ◌++◌, ℕ, zero, suc, Bool, true, false, List, [], ◌∷◌, map, length, drop, get_or, Option, Some, None, refl, sym, ap, subst, ◌∙◌, arith, append_assoc, append-nil}
-use Rattle.std.specs.Prelude.{slice_get, option_map, is_some, IsTrue, if◌then◌else◌}
+use Rattle.std.specs.Prelude.{slice_get, option_map, IsTrue, if◌then◌else◌}
 use Rattle.std.proofs.lemmas.Option.{same_Some, none-some, slice_get-get_or}
 use Rattle.std.proofs.lemmas.List.{length-map}
-use Rattle.text_model.specs.Lists.{Each, In, rises}
+use Rattle.text_model.specs.Lists.{Each, rises}
 use Rattle.text_model.specs.Text.{Bytes, is_below}
 use Rattle.text_model.specs.Id.{blob_id}
 use Rattle.text_model.proofs.EachLemmas.{Each-push}
@@ -13,7 +13,7 @@ use Rattle.git_model.specs.Object.{Object}
 use Rattle.git_model.specs.Tree.{is_blob_mode}
 use Rattle.git_model.specs.Unfold.{FileRow}
 use Rattle.hg_model.specs.Revision.{Revision}
-use Rattle.view_model.specs.View.{FileRevision, IsRevision, Row, TreeRow, files_among, tree_paths}
+use Rattle.view_model.specs.View.{IsRevision, Row, TreeRow, files_among, tree_paths}
 use Rattle.view_model.specs.Held.{IsFileHeld, IsRowHeld, file_row_of}
 use Rattle.pair_model.specs.Block.{Parents}
 use Rattle.pair_model.specs.Rule.{ruled_row}

@@ -1,7 +1,5 @@
 -- The tests of a named changeset are those that the laws ask for.
-use Rattle.std.proofs.Common.{◌≡◌, ◌≤◌, true, List, [], ◌∷◌, length, map, Some, refl, sym, ap, subst, ◌∙◌}
-use Rattle.text_model.specs.Lists.{Each}
-use Rattle.text_model.proofs.Options.{some_is}
+use Rattle.std.proofs.Common.{◌≡◌, ◌≤◌, List, [], ◌∷◌, length, map, Some, refl, sym, ap, subst, ◌∙◌}
 use Rattle.git_model.specs.Commit.{Commit}
 use Rattle.git_model.specs.Residue.{carried, plain_file, plain_files}
 use Rattle.git_model.specs.Unfold.{FileRow}
@@ -11,9 +9,8 @@ use Rattle.pair_model.specs.Block.{Block}
 use Rattle.pair_model.specs.User.{message_of, description_of}
 use Rattle.pair_model.specs.MarkList.{Mark, marks_text, AreHeadersOf}
 use Rattle.pair_model.specs.Rule.{old_residue, carried_to}
-use Rattle.pair_model.specs.Octopus.{parents_of_commit}
 use Rattle.pair_model.proofs.MessageLemmas.{message_of-description_of, ends_with-message_of}
-use Rattle.partner_model.specs.Mark.{commit_marks, parents_of_changeset, residue_in}
+use Rattle.partner_model.specs.Mark.{commit_marks, parents_of_changeset}
 use Rattle.partner_model.specs.Partner.{UnmarksCommit}
 use Rattle.partner_model.specs.Table.{IsTable}
 use Rattle.partner_model.specs.Filled.{filled_changeset}
@@ -22,14 +19,14 @@ use Rattle.mark_law.proofs.MarkTypes.{marks_are}
 use Rattle.mark_law.proofs.Listed.{marks_are_list}
 use Rattle.unmark_law.proofs.CommitOne.{headers_are}
 use Rattle.unmark_law.proofs.ChangesetOne.{file_rows}
-use Rattle.unmark_law.proofs.TreeRows.{files_of, plain_row, plain_rows, among_joined}
+use Rattle.unmark_law.proofs.TreeRows.{files_of, plain_row, among_joined}
 use Rattle.filled_law.specs.Fillings.{IsNarrow, IsFilledRight}
 use Rattle.filled_law.proofs.Right.{IsNamed, over-two, files-are, files-plain}
 use Rattle.pair_known.specs.Over.{IsCommitOver}
 use Rattle.pair_known.specs.declared.known.Known.{Known}
 use Rattle.pair_known.specs.declared.git_draft.GitDraft.{GitDraft}
-use Rattle.plain_rule.specs.CommitHead.{first_partner, handed_to, IsHandedOn}
-use Rattle.commit_unmark.specs.Changesets.{HasHead, IsRight}
+use Rattle.plain_rule.specs.CommitHead.{first_partner, handed_to}
+use Rattle.commit_unmark.specs.Changesets.{IsRight}
 
 -- the marks of an unmarking are those of the commit
 pub own-list : (blocks : List Block) (c : CommitView) (h : ChangesetView) → UnmarksCommit blocks c h → AreHeadersOf (c.value).headers (commit_marks (parents_of_changeset blocks h) h)

@@ -1,5 +1,5 @@
 -- The parts of a changeset beside its files, by marks or by the rule over the parts before them.
-use Rattle.std.specs.Prelude.{◌≡◌, ◌≢◌, Bool, false, List, [], Option, is_some, unwrap_or, IfSome, ℤ}
+use Rattle.std.specs.Prelude.{◌≡◌, ◌≢◌, Bool, false, List, [], is_some, unwrap_or, IfSome, ℤ}
 use Rattle.std.specs.List.{filter_map}
 use Rattle.text_model.specs.Text.{Bytes, IsBytes, has_byte}
 use Rattle.text_model.specs.Id.{Id}

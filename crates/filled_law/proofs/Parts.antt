@@ -20,7 +20,6 @@ use Rattle.filled_law.specs.Walks.{starts_entry}
 
 -- ---- the first mark of a kind
 
-
 or-none : {X : Type 0} (o : Option X) → option_or o None ≡ o
 or-none None = refl
 or-none (Some x) = refl

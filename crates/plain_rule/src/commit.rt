@@ -31,11 +31,7 @@ pub fn is_plain_commit(alloc: Global, known: &Known, c: &GitDraft) -> Result<boo
 
 /// Whether what the tree of a commit, whose parents have partners, has beside the files of the changeset is what the commit of its first
 /// parent hands on to them.
-pub fn has_what_is_handed_on(
-    alloc: Global,
-    known: &Known,
-    c: &GitDraft,
-) -> Result<bool, NoMemory>
+pub fn has_what_is_handed_on(alloc: Global, known: &Known, c: &GitDraft) -> Result<bool, NoMemory>
     ensures { IfOk result (λ same. (blocks : List Block) (v : CommitView) → IsCommitOver known.now blocks c.now v
         → (IsTrue same ↔ IsHandedOn blocks v)) }
 {

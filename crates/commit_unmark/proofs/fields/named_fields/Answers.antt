@@ -1,8 +1,8 @@
-use Rattle.std.proofs.Common.{◌≡◌, List, [], Some, w64, rules, sym, ap, subst, ◌∙◌}
+use Rattle.std.proofs.Common.{◌≡◌, [], Some, w64, rules, sym, ap, subst, ◌∙◌}
 use Rattle.std.specs.Prelude.{ℤ}
 use Rattle.std.specs.Int.RustNames.{FitsSigned}
 use Rattle.std.proofs.lemmas.Int.{to_z-of_z}
-use Rattle.text_model.specs.Text.{Bytes, IsBytes}
+use Rattle.text_model.specs.Text.{IsBytes}
 use Rattle.text_model.specs.Id.{IsId}
 use Rattle.hg_model.specs.Changeset.{IsPlainDate}
 use Rattle.pair_model.specs.User.{UserDate, user_of_line, description_of}

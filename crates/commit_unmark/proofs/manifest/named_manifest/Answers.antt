@@ -1,4 +1,4 @@
-use Rattle.std.proofs.Common.{sym, subst}
+use Rattle.std.proofs.Common.{subst}
 use Rattle.view_model.specs.View.{ManifestParents, AreManifestParents}
 use Rattle.commit_unmark.proofs.manifest.named_manifest.Goals as goal
 

@@ -1,7 +1,6 @@
-use Rattle.std.proofs.Common.{◌≡◌, ◌++◌, false, List, Option, Some, None, refl, sym, ap, subst, ◌∙◌}
+use Rattle.std.proofs.Common.{◌≡◌, false, List, None, refl, sym, subst}
 use Rattle.std.specs.Prelude.{MatchOption, IfSome}
 use Rattle.text_model.specs.Lists.{Each}
-use Rattle.text_model.specs.Id.{Id}
 use Rattle.hg_model.specs.Changeset as model
 use Rattle.hg_model.specs.Changeset.{IsChangeset}
 use Rattle.hg_store.specs.Known.{knows_same}

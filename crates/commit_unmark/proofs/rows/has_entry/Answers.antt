@@ -1,5 +1,4 @@
-use Rattle.std.proofs.Common.{sym, ap, ◌∙◌}
-use Rattle.filled_law.specs.Walks.{starts_entry}
+use Rattle.std.proofs.Common.{◌∙◌}
 use Rattle.commit_unmark.proofs.MarkPlaces.{entry-at}
 use Rattle.commit_unmark.proofs.rows.has_entry.Goals as goal
 

@@ -1,4 +1,4 @@
-use Rattle.std.proofs.Common.{◌≤◌, ℕ, length, ap, subst, ◌∙◌, arith}
+use Rattle.std.proofs.Common.{◌≤◌, length, ap, subst, ◌∙◌, arith}
 use Rattle.depth_law.proofs.PlainCommit.{commit_few}
 use Rattle.commit_unmark.proofs.unmark.unmark_commit.Goals as goal
 

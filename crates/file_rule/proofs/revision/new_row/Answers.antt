@@ -16,11 +16,15 @@ made c = record {
 
 pub row_with_text-requires : goal.row_with_text-requires
 row_with_text-requires c = record {
-  text = (plain_meta c.content_of.result.now, c.content_of.result.now, made-text c.content_of.result.now c.in_ok-text.text (option_map manifest_entry (option_copied c.args.first)) (option_map manifest_entry (option_copied c.args.second)) c.parents_over-parents.result (record {
-    bytes = c.plain_text.ensures.bytes;
-    text_is = c.in_ok-text.ensures.text;
-    parents = c.parents_over-parents.ensures ∙ (λ i. ordered (c.node_or_null.ensures i) (c.node_or_null-2.ensures i));
-  }));
+  text = (
+    plain_meta c.content_of.result.now,
+    c.content_of.result.now,
+    made-text c.content_of.result.now c.in_ok-text.text (option_map manifest_entry (option_copied c.args.first)) (option_map manifest_entry (option_copied c.args.second)) c.parents_over-parents.result (record {
+      bytes = c.plain_text.ensures.bytes;
+      text_is = c.in_ok-text.ensures.text;
+      parents = c.parents_over-parents.ensures ∙ (λ i. ordered (c.node_or_null.ensures i) (c.node_or_null-2.ensures i));
+    }),
+  );
 }
 
 pub returns-clause-ok : goal.returns-clause-ok
