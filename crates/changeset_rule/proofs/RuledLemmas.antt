@@ -56,7 +56,7 @@ row-blob Directory id content h b = absurd (true≢false (sym b))
 row-blob Gitlink id content h b = absurd (true≢false (sym b))
 
 -- what holds of all rows holds of the files
-each-among : (P : TreeRow → Type 0) (ts : List TreeRow) → Each P ts → Each P (files_among ts)
+pub each-among : (P : TreeRow → Type 0) (ts : List TreeRow) → Each P ts → Each P (files_among ts)
 each-among P [] h = tt
 each-among P (t ∷ ts) h = by (is_blob_mode t.mode) (each-among P ts h.1)
   where
@@ -96,13 +96,13 @@ module _ (k : Known) (blocks : List Block) (v : CommitView) (history : IsHistory
   not-null : (a : Id) → IsTrue (is_some (block_of_id blocks a)) → hg_partner blocks a ≡ null → ⊥
   not-null a h e = no-null k blocks history history.added _ (hg_partner blocks a) ((bytes_eq-Decides (hg_partner blocks a) null).1 e) (partner-held k blocks history history.added a h)
 
-  null-first : (ids : List Id) → length ids ≤ 2 → Each (λ p. IsTrue (is_some (block_of_id blocks p))) ids → first_of (map (hg_partner blocks) ids) ≡ null → second_of (map (hg_partner blocks) ids) ≡ null
+  pub null-first : (ids : List Id) → length ids ≤ 2 → Each (λ p. IsTrue (is_some (block_of_id blocks p))) ids → first_of (map (hg_partner blocks) ids) ≡ null → second_of (map (hg_partner blocks) ids) ≡ null
   null-first [] few all e = refl
   null-first (a ∷ []) few all e = refl
   null-first (a ∷ b ∷ []) few all e = absurd (not-null a all.0 e)
   null-first (a ∷ b ∷ c ∷ ids) few all e = absurd (grind (arith, few))
 
-  one-parent : ArePartners (pairs_of blocks) → (ids : List Id) → length ids ≤ 2 → Each (λ p. IsTrue (is_some (block_of_id blocks p))) ids → has_distinct ids ≡ true
+  pub one-parent : ArePartners (pairs_of blocks) → (ids : List Id) → length ids ≤ 2 → Each (λ p. IsTrue (is_some (block_of_id blocks p))) ids → has_distinct ids ≡ true
       → first_of (map (hg_partner blocks) ids) ≡ second_of (map (hg_partner blocks) ids) → first_of (map (hg_partner blocks) ids) ≡ null
   one-parent are [] few all distinct e = refl
   one-parent are (a ∷ []) few all distinct e = e
@@ -193,7 +193,7 @@ module _ (k : Known) (blocks : List Block) (d : GitDraft) (v : CommitView) (over
   rows-right : Each IsRow rows
   rows-right = each-mapped (ruled_row ps) _ IsRow (files_among v.rows) (λ t h. (h.0, h.1, row-revision k.hg added ps right-first right-second t h.2)) (each-among _ v.rows (over.view).rows)
 
-  loose : IsBytes (user_of_line (v.value).author).user → IsBytes (description_of (v.value).message) → IsLooseView (with-rows rows)
+  pub loose : IsBytes (user_of_line (v.value).author).user → IsBytes (description_of (v.value).message) → IsLooseView (with-rows rows)
   loose user desc =
       record {
         parents = ids k blocks d v over;

@@ -8,5 +8,6 @@ mod rows;
 mod rule;
 mod trees;
 
+pub use fields::author_of;
 pub use fits::commit_fits;
 pub use rule::{make_commit, rule_commit};

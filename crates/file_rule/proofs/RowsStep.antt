@@ -34,7 +34,7 @@ use Rattle.file_rule.specs.Made.{fresh_list, IsFresh, IsRowOf, IsMadeRow}
 use Rattle.file_rule.specs.Rows.{AreRows, AreMadeRows}
 use Rattle.file_rule.proofs.RowsLoop.{entry-in, IsAhead, ahead-here, among-more, among-same, rows-below, held-more, held-here}
 
-copied : (o : Option (Bor Entry)) → option_map manifest_entry (option_copied o) ≡ option_map (λ e. manifest_entry e.now) o
+pub copied : (o : Option (Bor Entry)) → option_map manifest_entry (option_copied o) ≡ option_map (λ e. manifest_entry e.now) o
 copied None = refl
 copied (Some e) = refl
 
@@ -52,7 +52,7 @@ push-map : (f : TreeRow → Row) (xs : List TreeRow) (x : TreeRow) → map f (xs
 push-map f [] x = refl
 push-map f (y ∷ xs) x = ap (λ (l : List Row). f y ∷ l) (push-map f xs x)
 
-map-push : (f : Row → RowValue) (xs : List Row) (x : Row) → map f (xs ++ x ∷ []) ≡ map f xs ++ f x ∷ []
+pub map-push : (f : Row → RowValue) (xs : List Row) (x : Row) → map f (xs ++ x ∷ []) ≡ map f xs ++ f x ∷ []
 map-push f [] x = refl
 map-push f (y ∷ xs) x = ap (λ (l : List RowValue). f y ∷ l) (map-push f xs x)
 
@@ -65,7 +65,7 @@ some-last : (r : Revision) (rows : List Row) (row : Row) → r ≡ file_revision
 some-last r [] row e = inl e
 some-last r (x ∷ rows) row e = inr (some-last r rows row e)
 
-fresh-more : (fresh : List Revision) (made : Option FreshFile) (rows : List Row) (row : Row) → AreFreshOf fresh rows → Each (λ r. r ≡ file_revision null row) (fresh_list made) → AreFreshOf (fresh ++ fresh_list made) (rows ++ row ∷ [])
+pub fresh-more : (fresh : List Revision) (made : Option FreshFile) (rows : List Row) (row : Row) → AreFreshOf fresh rows → Each (λ r. r ≡ file_revision null row) (fresh_list made) → AreFreshOf (fresh ++ fresh_list made) (rows ++ row ∷ [])
 fresh-more [] None rows row h e = tt
 fresh-more [] (Some f) rows row h e = (some-last (fresh_revision f) rows row e.0, tt)
 fresh-more (r ∷ fresh) made rows row h e = (some-left r rows row h.0, fresh-more fresh made rows row h.1 e)

@@ -51,3 +51,14 @@ pub record IsKnownAs (known : List Revision) (path : Bytes) (node p q : Id) (tex
   pub is_held : revision_of known (FilesAt path) node ≡ Some revision
   pub text_is : revision.text ≡ text
   pub parents : (meta : Option Bytes) (body : Bytes) → IsFileText text meta body → (p, q) ≡ file_order meta revision.p revision.q
+
+-- the text is that of these metadata and this body, whose parents stand in the order that they say
+pub record IsTextOver (text : Bytes) (meta : Option Bytes) (body : Bytes) (p q : Id) : Type 0 where
+  pub spells : IsFileText text meta body
+  pub order : (p, q) ≡ file_order meta p q
+
+-- the revision has this text and these parents, and its body is the blob
+pub record IsRevisionOver (r : FileRevision) (blob p q : Id) (text : Bytes) : Type 0 where
+  pub parents : (r.p ≡ p) × (r.q ≡ q)
+  pub text_is : IsTextOver text r.meta r.body p q
+  pub blob_is : blob ≡ blob_id r.body

@@ -9,5 +9,8 @@ mod rows;
 
 pub use back::{are_ruled, is_ruled};
 pub use parents::{Parent, parent_of};
-pub use revision::{RuledRow, has_parents, kept_node, make_row, node_or_null, parents_over};
+pub use revision::{
+    RuledRow, content_of, has_parents, kept_node, make_row, node_or_null, parents_over,
+    row_with_text,
+};
 pub use rows::{RuledRows, make_rows};

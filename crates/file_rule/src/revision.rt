@@ -11,7 +11,7 @@ ghost use Rattle.view_model.specs.View.{FileRevision, file_node, TreeRow};
 ghost use Rattle.view_model.specs.Held.{IsBlobHeld};
 ghost use Rattle.pair_model.specs.Rule as rule;
 ghost use Rattle.file_rule.specs.Parents.{IsRevisionAt, row_with};
-ghost use Rattle.file_rule.specs.Made.{IsMadeRow, IsRowOf, IsFresh, IsKnownAs, revision_with};
+ghost use Rattle.file_rule.specs.Made.{IsMadeRow, IsRowOf, IsFresh, IsKnownAs, IsTextOver, IsRevisionOver, revision_with};
 
 use bridge_text::{Bytes, Id, NoMemory, node_id};
 use git_object::{Mode, Objects};
@@ -68,8 +68,8 @@ pub fn kept_node(
     }
 }
 
-// The content of a blob that the draft brings or the store holds.
-fn content_of<'a>(known: &'a Known, c: &'a GitDraft, id: &Id) -> &'a [u8]
+/// The content of a blob that the draft brings or the store holds.
+pub fn content_of<'a>(known: &'a Known, c: &'a GitDraft, id: &Id) -> &'a [u8]
     requires held { (t : TreeRow) × (t.id ≡ id.now) × IsBlobHeld (c.now.fresh ++ known.now.git) t }
     ensures { (t : TreeRow) → t.id ≡ id.now → IsBlobHeld (c.entry.now.fresh ++ known.entry.now.git) t → result.now ≡ t.content }
 {
@@ -155,6 +155,38 @@ fn plain_text(alloc: Global, body: &[u8]) -> Result<Bytes, NoMemory>
     Ok(Bytes::keep(text))
 }
 
+/// The row of a file whose revision has this text and these parents, which stand in their order; and the revision where the store doesn't
+/// hold it.
+pub fn row_with_text(
+    alloc: Global,
+    store: &HgStore,
+    file: &FileRow,
+    parents: (Id, Id),
+    text: Bytes,
+) -> Result<RuledRow, NoMemory>
+    requires text { (meta : Option (List ℕ)) × (body : List ℕ) × IsTextOver text meta body parents.0 parents.1 }
+    ensures ok { IfOk result (λ made. (r : FileRevision) → IsRevisionOver r file.now.id parents.0 parents.1 text
+        → IsMadeRow store.now made (row_with file.now.path (rule.flag_of_mode file.now.mode) r)) }
+    ensures fresh { IfOk result (λ made. IsFresh store.now file.now.path made.fresh) }
+{
+    let node = node_id(&parents.0, &parents.1, text.as_slice());
+    let row = row_of(alloc, file, node)?;
+    if is_held(store, file.path(), &node, parents, text.as_slice()) {
+        return Ok(RuledRow { row, fresh: None });
+    }
+    let fresh = FreshFile {
+        path: Bytes::of(alloc, file.path())?,
+        node,
+        p: parents.0,
+        q: parents.1,
+        text,
+    };
+    Ok(RuledRow {
+        row,
+        fresh: Some(fresh),
+    })
+}
+
 // The row of a new revision over those of the parents, whose body is the content of the file's blob.
 fn new_row(
     alloc: Global,
@@ -172,22 +204,7 @@ fn new_row(
 {
     let text = plain_text(alloc, content_of(known, c, file.blob()))?;
     let parents = parents_over(node_or_null(first), node_or_null(second));
-    let node = node_id(&parents.0, &parents.1, text.as_slice());
-    let row = row_of(alloc, file, node)?;
-    if is_held(&known.hg, file.path(), &node, parents, text.as_slice()) {
-        return Ok(RuledRow { row, fresh: None });
-    }
-    let fresh = FreshFile {
-        path: Bytes::of(alloc, file.path())?,
-        node,
-        p: parents.0,
-        q: parents.1,
-        text,
-    };
-    Ok(RuledRow {
-        row,
-        fresh: Some(fresh),
-    })
+    row_with_text(alloc, &known.hg, file, parents, text)
 }
 
 /// The file that the rule gives for a file of a commit: its revision is the first parent's where its body is the blob, else

@@ -22,8 +22,19 @@ pub struct RuledRows {
 }
 
 impl RuledRows {
-    // Puts a row at the end.
-    fn push(&mut self, made: RuledRow) -> Result<(), NoMemory>
+    /// No files.
+    pub fn new(alloc: Global) -> RuledRows
+        ensures rows { result.rows ≡ [] }
+        ensures fresh { result.fresh ≡ [] }
+    {
+        RuledRows {
+            rows: HgRows::new(alloc),
+            fresh: FreshFiles::new(alloc),
+        }
+    }
+
+    /// Puts a row at the end, whose path stands above those of the others.
+    pub fn push(&mut self, made: RuledRow) -> Result<(), NoMemory>
         requires { AreFreshFiles (self.old.fresh ++ fresh_list made.fresh) }
         ensures rows { OnOk result (self.new.rows ≡ self.old.rows ++ made.row ∷ []) }
         ensures fresh { OnOk result (self.new.fresh ≡ self.old.fresh ++ fresh_list made.fresh) }
@@ -49,10 +60,7 @@ pub fn make_rows(
     ensures ok { IfOk result (λ made. (ps : Parents) (ts : List TreeRow) → AreRows known.now.hg (c.now.fresh ++ known.now.git) c.now.files first.now second.now ps ts → AreMadeRows known.now.hg made ps ts) }
     ensures new { IfOk result (λ made. Each (λ r. knows_same known.now.hg r ≡ false) made.fresh) }
 {
-    let mut ruled = RuledRows {
-        rows: HgRows::new(alloc),
-        fresh: FreshFiles::new(alloc),
-    };
+    let mut ruled = RuledRows::new(alloc);
     let mut first_walk = Cursor::new(first.manifest);
     let mut second_walk = Cursor::new(second.manifest);
     let files = c.files.as_slice();

@@ -6,4 +6,4 @@ mod manifest;
 mod merge;
 
 pub use files::{files_over, ruled_files};
-pub use manifest::{RuledManifest, is_ruled_manifest, lines_fit, make_manifest};
+pub use manifest::{RuledManifest, is_ruled_manifest, lines_fit, lines_of, make_manifest};

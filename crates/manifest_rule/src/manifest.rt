@@ -120,8 +120,8 @@ fn has_text(store: &HgStore, node: &Id, text: &[u8]) -> bool
     }
 }
 
-// The lines of a manifest with these rows.
-fn lines_of(alloc: Global, rows: &HgRows) -> Result<Bytes, NoMemory>
+/// The lines of a manifest with these rows.
+pub fn lines_of(alloc: Global, rows: &HgRows) -> Result<Bytes, NoMemory>
     ensures { IfOk result (λ text. text ≡ manifest_text (map entry_of_value rows.now)) }
 {
     let mut out = room_for(alloc, rows.as_slice())?;

@@ -42,7 +42,7 @@ entry_within ps row = by (is_ruled ps row) (rename_source ps row.revision)
     by false None = ((omega arith, omega arith), tt)
     by false (Some s) = ((omega arith, omega arith), tt)
 
-entries_within : (ps : Parents) (rows : List Row) → Within 0 0 (flat_map (entry_marks ps) rows)
+pub entries_within : (ps : Parents) (rows : List Row) → Within 0 0 (flat_map (entry_marks ps) rows)
 entries_within ps [] = tt
 entries_within ps (row ∷ rows) = Each-append (λ m. (0 ≤ mark_rank m) × (mark_rank m ≤ 0)) (entry_marks ps row) (flat_map (entry_marks ps) rows) (entry_within ps row) (entries_within ps rows)
 
@@ -74,13 +74,13 @@ from_files ps given x = files_marks ps x ++ from_user given x
 abbrev pub from_manifest : Parents → UserDate → ChangesetView → List Mark
 from_manifest ps given x = manifest_marks ps x ++ from_files ps given x
 
-manifest_within : (ps : Parents) (x : ChangesetView) → Within 1 1 (manifest_marks ps x)
+pub manifest_within : (ps : Parents) (x : ChangesetView) → Within 1 1 (manifest_marks ps x)
 manifest_within ps x = one_within 1 (same_manifest x.manifest (ruled_manifest ps x.rows)) (Manifest x.manifest) refl
 
-files_within : (ps : Parents) (x : ChangesetView) → Within 2 2 (files_marks ps x)
+pub files_within : (ps : Parents) (x : ChangesetView) → Within 2 2 (files_marks ps x)
 files_within ps x = one_within 2 (same_paths (x.fields).files (ruled_files ps x.rows)) (Files (x.fields).files) refl
 
-user_within : (given : UserDate) (x : ChangesetView) → Within 3 3 (user_marks (x.fields).user given)
+pub user_within : (given : UserDate) (x : ChangesetView) → Within 3 3 (user_marks (x.fields).user given)
 user_within given x = one_within 3 (bytes_eq (x.fields).user given.user) (User (x.fields).user) refl
 
 pub from_user_within : (given : UserDate) (x : ChangesetView) → Within 3 6 (from_user given x)

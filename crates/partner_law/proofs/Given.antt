@@ -67,7 +67,7 @@ again_by e1 e2 id content = by (with_body id e1) (with_body id e2)
     by None (Some r) = refl
     by None None = refl
 
-row_blob : (ps : Parents) (row : TreeRow) → IsFileRow row → blob_id ((ruled_row ps row).revision).body ≡ row.id
+pub row_blob : (ps : Parents) (row : TreeRow) → IsFileRow row → blob_id ((ruled_row ps row).revision).body ≡ row.id
 row_blob ps row f = ap (λ x. blob_id x.body) (revision_is ps row) ∙ blob_by (revision_at (ps.first).rows row.path) (revision_at (ps.second).rows row.path) row.id row.content f.1
 
 row_again : (ps : Parents) (row : TreeRow) → IsFileRow row → (ruled_row ps (tree_row_of (ruled_row ps row))).revision ≡ (ruled_row ps row).revision
@@ -75,10 +75,10 @@ row_again ps row f =
     revision_is ps (tree_row_of (ruled_row ps row)) ∙ ap (λ x. at ps row x ((ruled_row ps row).revision).body) (row_blob ps row f) ∙ ap (λ x. at ps row row.id x.body) (revision_is ps row)
     ∙ again_by (revision_at (ps.first).rows row.path) (revision_at (ps.second).rows row.path) row.id row.content ∙ sym (revision_is ps row)
 
-row_ruled : (ps : Parents) (row : TreeRow) → IsFileRow row → is_ruled ps (ruled_row ps row) ≡ true
+pub row_ruled : (ps : Parents) (row : TreeRow) → IsFileRow row → is_ruled ps (ruled_row ps row) ≡ true
 row_ruled ps row f = (same_revision-decides (ruled_row ps row).revision (ruled_row ps (tree_row_of (ruled_row ps row))).revision).1 (ap (λ x. compared_revision x) (sym (row_again ps row f)))
 
-no_marks_again : (ps : Parents) (rows : List TreeRow) → Each IsFileRow rows → flat_map (entry_marks ps) (map (ruled_row ps) rows) ≡ []
+pub no_marks_again : (ps : Parents) (rows : List TreeRow) → Each IsFileRow rows → flat_map (entry_marks ps) (map (ruled_row ps) rows) ≡ []
 no_marks_again ps [] f = refl
 no_marks_again ps (r ∷ rs) f =
     let e = no_mark ps (ruled_row ps r) (row_ruled ps r f.0) in
@@ -91,7 +91,7 @@ rows_again ps (r ∷ rs) f = (refl, plain_is r.mode f.0.0, row_blob ps r f.0, ro
 
 -- ---- the law
 
-commit_over : (blocks : List Block) (k : ChangesetView) (c : CommitView) → SameTreeRows (tree_rows_with (carried_to blocks k) (map tree_row_of k.rows)) c.rows → root_of_rows (tree_rows_with (carried_to blocks k) (map tree_row_of k.rows)) ≡ (c.value).tree_id → map (git_partner blocks) (not_null (k.p ∷ k.q ∷ [])) ≡ (c.value).parents
+pub commit_over : (blocks : List Block) (k : ChangesetView) (c : CommitView) → SameTreeRows (tree_rows_with (carried_to blocks k) (map tree_row_of k.rows)) c.rows → root_of_rows (tree_rows_with (carried_to blocks k) (map tree_row_of k.rows)) ≡ (c.value).tree_id → map (git_partner blocks) (not_null (k.p ∷ k.q ∷ [])) ≡ (c.value).parents
     → author_by (k.fields).user (k.fields).date ≡ (c.value).author → (c.value).author ≡ (c.value).committer → marks_text (commit_marks (parents_of_changeset blocks k) k) ≡ (c.value).headers
     → message_of (k.fields).description ≡ (c.value).message → SameCommit (mark_commit blocks k) c
 unfolding mark_commit rule_commit

@@ -215,17 +215,23 @@ module _ (k : Known) (blocks : List Block) (d : GitDraft) (c : CommitView) (over
       handed-by-plain plain = residue-by-rows (old_residue blocks (first_partner blocks c)) up-old c.rows over.view.rows over.view.in_order
           (sym bare ∙ files-same (rule_commit blocks (changeset_by_rule blocks c)).rows c.rows plain.back.rows)
 
-    -- by the draft, and by the tree of the first parent
-    pub is-plain : (root : Option Id) → IsOld blocks (first_partner blocks c) root → IsPlainHead d.commit
+    -- by the draft's files, and by the tree of the first parent
+    pub handed-by-test : (root : Option Id) → IsOld blocks (first_partner blocks c) root
         → (files : List FileRow) (old : List ResidueItem) → files ≡ d.files → old ≡ residue_below k.git root
-        → (t : Bool) → (IsTrue t ↔ residue_of files ≡ carried old (plain_files files)) → (IsTrue t ↔ IsPlainCommit blocks c)
-    is-plain root is head files old files-are old-is t test =
-        let few-too : length (c.value).parents ≤ 2 = subst (λ (x : Commit). length x.parents ≤ 2) (sym over.draft.value) head.few in
+        → (t : Bool) → (IsTrue t ↔ residue_of files ≡ carried old (plain_files files)) → (IsTrue t ↔ IsHandedOn blocks c)
+    handed-by-test root is files old files-are old-is t test =
         let same = old-is ∙ sym (residue-old k blocks held are (first_partner blocks c) root is) in
         let rows = files-are ∙ over.draft.files in (
-          (λ yes'. plain-by few-too (ap residue_of (sym rows) ∙ test.0 yes' ∙ (λ i. carried (same i) (plain_files (rows i))))
-              (subst IsPlainHead (sym over.draft.value) head)),
-          (λ plain. test.1 (ap residue_of rows ∙ handed-by-plain few-too plain ∙ (λ i. carried ((sym same) i) (plain_files ((sym rows) i))))),
+          (λ yes. ap residue_of (sym rows) ∙ test.0 yes ∙ (λ i. carried (same i) (plain_files (rows i)))),
+          (λ handed. test.1 (ap residue_of rows ∙ handed ∙ (λ i. carried ((sym same) i) (plain_files ((sym rows) i))))),
+        )
+
+    -- where the fields come back
+    pub is-plain : IsPlainHead d.commit → (t : Bool) → (IsTrue t ↔ IsHandedOn blocks c) → (IsTrue t ↔ IsPlainCommit blocks c)
+    is-plain head t test =
+        let few-too : length (c.value).parents ≤ 2 = subst (λ (x : Commit). length x.parents ≤ 2) (sym over.draft.value) head.few in (
+          (λ yes. plain-by few-too (test.0 yes) (subst IsPlainHead (sym over.draft.value) head)),
+          (λ plain. test.1 (handed-by-plain few-too plain)),
         )
 
   pub head-by-plain : IsPlainCommit blocks c → IsPlainHead c.value

@@ -4,7 +4,7 @@ ghost use Rattle.pair_model.specs.Block.{Block, block_of_node};
 ghost use Rattle.pair_model.specs.Plain.{IsPlainCommit};
 ghost use Rattle.pair_known.specs.Over.{IsCommitOver};
 ghost use Rattle.commit_rule.specs.Parts.{IsTreeOf, residue_below};
-ghost use Rattle.plain_rule.specs.CommitHead.{line_again, first_partner, IsPlainHead};
+ghost use Rattle.plain_rule.specs.CommitHead.{line_again, first_partner, IsHandedOn, IsPlainHead};
 
 use bridge_text::{Id, NoMemory};
 use git_object::{Commit, Residue};
@@ -26,6 +26,16 @@ pub fn is_plain_commit(alloc: Global, known: &Known, c: &GitDraft) -> Result<boo
     if !has_plain_head(alloc, &c.commit)? {
         return Ok(false);
     }
+    has_what_is_handed_on(alloc, known, c)
+}
+
+/// Whether what the tree of a commit, whose parents have partners, has beside the files of the changeset is what the commit of its first
+/// parent hands on to them.
+pub fn has_what_is_handed_on(alloc: Global, known: &Known, c: &GitDraft) -> Result<bool, NoMemory>
+    ensures { IfOk result (λ same. (blocks : List Block) (v : CommitView) → IsCommitOver known.now blocks c.now v
+        → (IsTrue same ↔ IsHandedOn blocks v)) }
+{
+    known.git.check();
     let old = residue_below(alloc, &known.git, first_tree(known, c))?;
     is_handed_on(alloc, &old, &c.files)
 }

@@ -1,6 +1,5 @@
 use Rattle.std.proofs.Common.{IsTrue, ◌↔◌, ◌≡◌, true≢false, List, refl, sym, subst, ◌∙◌}
 use Rattle.std.proofs.lemmas.Result.{IfOk-weaker}
-use Rattle.git_model.specs.Residue.{residue_of, carried, plain_files}
 use Rattle.view_model.specs.View.{CommitView}
 use Rattle.pair_model.specs.Block.{Block}
 use Rattle.pair_model.specs.Plain.{IsPlainCommit}
@@ -20,9 +19,6 @@ returns-then-not-branch c = λ blocks v over. (
 pub returns : goal.returns
 returns c =
     let known = c.args.known.now in
-    let files = c.args.c.now.files in
-    IfOk-weaker c.is_handed_on.result (λ t. IsTrue t ↔ residue_of files ≡ carried c.in_ok-old.old (plain_files files))
-    (λ t. (blocks : List Block) → (v : CommitView) → IsCommitOver known blocks c.args.c.now v → IsTrue t ↔ IsPlainCommit blocks v)
+    IfOk-weaker c.has_what_is_handed_on.result _ (λ t. (blocks : List Block) → (v : CommitView) → IsCommitOver known blocks c.args.c.now v → IsTrue t ↔ IsPlainCommit blocks v)
     (λ t test blocks v over.
-    is-plain known blocks c.args.c.now v over c.check.ensures c.first_tree.result (c.first_tree.ensures blocks v over) (c.in_ok-has_plain_head.ensures.0 c.if-not-branch.false)
-    files c.in_ok-old.old refl c.in_ok-old.ensures t test) c.is_handed_on.ensures
+    is-plain known blocks c.args.c.now v over c.check.ensures (c.in_ok-has_plain_head.ensures.0 c.if-not-branch.false) t (test blocks v over)) c.has_what_is_handed_on.ensures

@@ -1,0 +1,10 @@
+pub mod MarkLemmas
+pub mod RowLemmas
+pub mod RowsLoop
+pub mod MarkPlaces
+pub mod PartLemmas
+pub mod ExtraLemmas
+pub mod DateLemmas
+pub mod Tables
+pub mod Whole
+pub mod NamedLemmas
