@@ -40,8 +40,8 @@ fn partners_of(alloc: Global, partners: &Partners, p: &Id, q: &Id) -> Result<IdL
     Ok(parents)
 }
 
-// The author's line: of a date line that can't be read the time and the zone are 0.
-fn author_of(alloc: Global, changeset: &Changeset) -> Result<Bytes, NoMemory>
+/// The author's line: of a date line that can't be read the time and the zone are 0.
+pub fn author_of(alloc: Global, changeset: &Changeset) -> Result<Bytes, NoMemory>
     ensures line { IfOk result (λ line. line ≡ author_by (changeset_value changeset.now).user (changeset_value changeset.now).date) }
     ensures bytes { IfOk result (λ line. IsBytes line) }
 {

@@ -1,0 +1,6 @@
+pub mod Heads
+pub mod Residues
+pub mod Rows
+pub mod Parents
+pub mod Over
+pub mod Named
