@@ -1,12 +1,12 @@
 -- A changeset over the parents that the commit of its marks has.
-use Rattle.std.specs.Prelude.{◌≡◌, ◌≤◌, true, not, is_some, List, length, map, IsTrue}
+use Rattle.std.specs.Prelude.{◌≡◌, ◌≤◌, true, not, is_some, List, [], length, map, IsTrue}
 use Rattle.text_model.specs.Limits.{parent_limit}
 use Rattle.text_model.specs.Lists.{Each}
 use Rattle.text_model.specs.Id.{Id, is_null}
 use Rattle.git_model.specs.Tree.{has_distinct}
 use Rattle.hg_model.specs.Revision.{Revision}
 use Rattle.view_model.specs.View.{ChangesetView, IsChangesetView, SameRows}
-use Rattle.pair_model.specs.Block.{Block, block_of_id, hg_partner, Parents, no_changeset}
+use Rattle.pair_model.specs.Block.{Block, block_of_id, hg_partner, Parents}
 use Rattle.pair_model.specs.Octopus.{first_of}
 use Rattle.pair_model.specs.Rule.{tree_row_of, ruled_rows, ruled_manifest, ruled_files}
 use Rattle.pair_known.specs.declared.known.Known.{Known}
@@ -23,8 +23,8 @@ pub record IsDraftOver (known : List Revision) (d : HgDraft) (first second : Par
   pub in_first : IsParent known first ps.first
   pub in_second : IsParent known second ps.second
   pub there : (first.is_there ≡ not (is_null ps.p)) × (second.is_there ≡ not (is_null ps.q))
-  pub no_first : is_null ps.p ≡ true → ps.first ≡ no_changeset
-  pub no_second : is_null ps.q ≡ true → ps.second ≡ no_changeset
+  pub no_first : is_null ps.p ≡ true → (ps.first).rows ≡ []
+  pub no_second : is_null ps.q ≡ true → (ps.second).rows ≡ []
 
 -- the files, the manifest and the list of files are those that the rules give
 pub record ListsComeBack (ps : Parents) (v : ChangesetView) : Type 0 where
