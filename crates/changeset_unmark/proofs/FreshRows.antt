@@ -1,8 +1,9 @@
 -- Whether the rule gives a file back whose revision a draft brings.
-use Rattle.std.proofs.Common.{◌≡◌, Bool, true, false, true≢false, List, [], ◌∷◌, ◌++◌, Option, Some, None, refl, sym, ap, subst, ◌∙◌, bytes_eq}
+use Rattle.std.proofs.Common.{◌≡◌, Bool, true, false, true≢false, List, [], ◌∷◌, ◌++◌, Option, Some, None, Bor, refl, sym, ap, subst, ◌∙◌, bytes_eq}
 use Rattle.std.specs.Prelude.{◌↔◌, ◌&&◌, IsTrue, option_map, unwrap_or}
-use Rattle.std.specs.Option.{option_or}
+use Rattle.std.specs.Option.{option_or, option_copied}
 use Rattle.std.proofs.lemmas.Bool.{and_parts}
+use Rattle.std.proofs.lemmas.List.Folds.{find-append}
 use Rattle.std.proofs.lemmas.Slice.Eq.{bytes_eq-Decides}
 use Rattle.text_model.specs.Text.{Bytes}
 use Rattle.text_model.specs.Id.{Id, blob, blob_id}
@@ -10,8 +11,8 @@ use Rattle.text_model.proofs.Options.{none_some, some_is}
 use Rattle.git_model.specs.Object.{Object}
 use Rattle.hg_model.specs.FileText.{IsFileText, file_order, plain_meta}
 use Rattle.hg_model.specs.Manifest.{ManifestEntry}
-use Rattle.hg_model.specs.Revision.{Revision, FilesAt, revision_of}
-use Rattle.hg_store.specs.Known.{AreAdded}
+use Rattle.hg_model.specs.Revision.{Revision, FilesAt, revision_of, is_of}
+use Rattle.hg_store.specs.Known.{AreAdded, AreFileParents}
 use Rattle.view_model.specs.View.{FileRevision, file_node, Row, Compared, compared_revision, SameRow}
 use Rattle.view_model.specs.Held.{IsFileHeld, IsBlobHeld, file_row_of}
 use Rattle.pair_model.specs.Rule.{with_body, node_or_null, one_or_two, new_revision, ruled_revision, tree_row_of}
@@ -113,3 +114,67 @@ module _ (known : List Revision) (added : AreAdded known) (file : Revision) (row
           let a : t ≡ true = one.1 (sym own ∙ sym pq ∙ order_is ∙ sym new_is) in
           let b : u ≡ true = two.1 (sym (ap (λ (x : Compared). x.meta) same)) in
           rw (a, b) refl
+
+  -- its parents aren't those of a new revision
+  pub not_new : None ≡ option_map file_node (option_or (with_body row.blob r) (with_body row.blob s)) → (parents : Id × Id) → parents ≡ file_order (w.revision).meta file.p file.q
+      → (new : Id × Id) → new ≡ ordered (entry_node first) (entry_node second) → (parents ≡ new → ⊥) → SameRow (row_again r s w) w → ⊥
+  not_new at parents order new new_is differ h =
+      let same : compared_revision (new_revision r s (w.revision).body) ≡ compared_revision w.revision = ap compared_revision (sym (rule_new at)) ∙ h.2 in
+      let pq : ◌≡◌ {A = Id × Id} ((new_revision r s (w.revision).body).p, (new_revision r s (w.revision).body).q) ((w.revision).p, (w.revision).q) = λ i. ((same i).p, (same i).q) in
+      differ (order ∙ sym is.parents ∙ sym pq ∙ order_is ∙ sym new_is)
+
+-- ---- which revision the row has
+
+brought-or-held : (fresh known : List Revision) (path : Bytes) (node : Id) (o : Option Revision) → revision_of fresh (FilesAt path) node ≡ o → revision_of (fresh ++ known) (FilesAt path) node ≡ option_or o (revision_of known (FilesAt path) node)
+brought-or-held fresh known path node o e = find-append (is_of (FilesAt path) node) fresh known ∙ ap (λ (p : Option Revision). option_or p (revision_of known (FilesAt path) node)) e
+
+module _ (fresh known : List Revision) (row : RowValue) (first second : Option ManifestEntry) (r s : Option FileRevision) (w : Row) (is : IsDraftRow fresh known row first second r s w) where
+  place : revision_of (fresh ++ known) (FilesAt row.path) row.node ≡ Some (is.held).revision
+  place = (λ i. revision_of (fresh ++ known) (FilesAt (is.of_row i).path) (is.of_row i).node) ∙ (is.held).is_held
+
+  pub fresh_row : (file : Revision) → Some file ≡ revision_of fresh (FilesAt row.path) row.node → IsFreshRow known file row first second r s w
+  fresh_row file at =
+      let same : (is.held).revision ≡ file = some_is (sym place ∙ brought-or-held fresh known row.path row.node (Some file) (sym at)) in
+      record {
+        of_row = is.of_row;
+        parents = (is.held).parents ∙ ap (λ (x : Revision). file_order (w.revision).meta x.p x.q) same;
+        text = subst (λ (x : Revision). IsFileText x.text (w.revision).meta (w.revision).body) same (is.held).text;
+        in_first = is.in_first;
+        in_second = is.in_second;
+      }
+
+  pub held_row : None ≡ revision_of fresh (FilesAt row.path) row.node → IsHeldRow known row first second r s w
+  held_row none =
+      let at : revision_of known (FilesAt row.path) row.node ≡ Some (is.held).revision = sym (brought-or-held fresh known row.path row.node None (sym none)) ∙ place in
+      record {
+        of_row = is.of_row;
+        held = record {
+          revision = (is.held).revision;
+          is_held = (λ i. revision_of known (FilesAt (sym is.of_row i).path) (sym is.of_row i).node) ∙ at;
+          parents = (is.held).parents;
+          text = (is.held).text;
+        };
+        in_first = is.in_first;
+        in_second = is.in_second;
+      }
+
+-- a revision that is held has these parents alone
+pub held_parents : (known : List Revision) (w : Row) (path : Bytes) (node : Id) → w.path ≡ path → file_node w.revision ≡ node → IsFileHeld known w → (parents : Id × Id) → AreFileParents known path node parents → ((w.revision).p, (w.revision).q) ≡ parents
+held_parents known w path node p n held parents are =
+    let own : AreFileParents known w.path (file_node w.revision) ((w.revision).p, (w.revision).q) =
+    record { revision = held.revision; is_held = held.is_held; meta = (w.revision).meta; body = (w.revision).body; spells = held.text; in_order = held.parents } in
+    rows.one_parents known path node ((w.revision).p, (w.revision).q) parents
+    (subst (λ (x : Id). AreFileParents known path x ((w.revision).p, (w.revision).q)) n (subst (λ (x : Bytes). AreFileParents known x (file_node w.revision) ((w.revision).p, (w.revision).q)) p own)) are
+
+-- metadata that are lent, as they are said in two ways
+pub lent_meta : (o : Option (Bor Bytes)) → option_copied o ≡ option_map (λ m. m.now) o
+lent_meta None = refl
+lent_meta (Some m) = refl
+
+pub pairs_same : (a b : Id × Id) → (bytes_eq a.0 b.0 && bytes_eq a.1 b.1) ≡ true → a ≡ b
+pairs_same a b h =
+    let both = and_parts (bytes_eq a.0 b.0) (bytes_eq a.1 b.1) h in
+    λ i. ((bytes_eq-Decides a.0 b.0).0 both.0 i, (bytes_eq-Decides a.1 b.1).0 both.1 i)
+
+pub same_pairs : (a b : Id × Id) → a ≡ b → (bytes_eq a.0 b.0 && bytes_eq a.1 b.1) ≡ true
+same_pairs a b e = rw ((bytes_eq-Decides a.0 b.0).1 (ap (λ (x : Id × Id). x.0) e), (bytes_eq-Decides a.1 b.1).1 (ap (λ (x : Id × Id). x.1) e)) refl

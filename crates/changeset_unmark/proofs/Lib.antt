@@ -5,3 +5,4 @@ pub mod FreshRows
 pub mod TwoParents
 pub mod OverLemmas
 pub mod RowStep
+pub mod PartnerSteps
