@@ -94,15 +94,49 @@ fn has_date(given: &UserDate, date: &DateLine) -> bool
     }
 }
 
-// Whether the text of these fields is that of a commit.
+// Whether these are the fields of a commit: its text reads as these again.
 fn is_commit(alloc: Global, commit: &Commit) -> Result<bool, NoMemory>
     ensures { IfOk result (λ is. IsTrue is ↔ IsCommit commit.now) }
 {
     let mut text = Vec::new(alloc);
     commit.write_into(&mut text)?;
     match Commit::read(alloc, text.as_slice()) {
-        Ok(_) => Ok(true),
+        Ok(found) => Ok(is_same(&found, commit)),
         Err(CommitFault::Shape(_)) => Ok(false),
         Err(CommitFault::Memory) => Err(NoMemory),
     }
+}
+
+// Whether two commits have the same fields.
+fn is_same(a: &Commit, b: &Commit) -> bool
+    ensures { IsTrue result ↔ a.now ≡ b.now }
+{
+    if a.tree != b.tree {
+        return false;
+    }
+    if !are_same_ids(&a.parents, &b.parents) {
+        return false;
+    }
+    if !are_same_bytes(&a.author, &b.author) {
+        return false;
+    }
+    if !are_same_bytes(&a.committer, &b.committer) {
+        return false;
+    }
+    if !are_same_bytes(&a.headers, &b.headers) {
+        return false;
+    }
+    are_same_bytes(&a.message, &b.message)
+}
+
+fn are_same_ids(a: &IdList, b: &IdList) -> bool
+    ensures { IsTrue result ↔ a.now ≡ b.now }
+{
+    a.as_slice() == b.as_slice()
+}
+
+fn are_same_bytes(a: &Bytes, b: &Bytes) -> bool
+    ensures { IsTrue result ↔ a.now ≡ b.now }
+{
+    a.as_slice() == b.as_slice()
 }
