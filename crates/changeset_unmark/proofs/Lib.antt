@@ -6,3 +6,4 @@ pub mod TwoParents
 pub mod OverLemmas
 pub mod RowStep
 pub mod PartnerSteps
+pub mod ItemLemmas

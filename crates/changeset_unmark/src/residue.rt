@@ -76,7 +76,10 @@ fn items_named<'a>(
 {
     match tree {
         Some(items) => {
-            if is_same(items, given) || !are_fit(alloc, files, items)? {
+            if is_same(items, given) {
+                return Ok(None);
+            }
+            if !are_fit(alloc, files, items)? {
                 return Ok(None);
             }
             Ok(Some(items))
