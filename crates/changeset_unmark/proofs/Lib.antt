@@ -7,3 +7,4 @@ pub mod OverLemmas
 pub mod RowStep
 pub mod PartnerSteps
 pub mod ItemLemmas
+pub mod ListLemmas
