@@ -11,6 +11,7 @@ use Rattle.git_model.specs.Unfold.{FileRow}
 use Rattle.git_model.specs.Shape.{root_of, trees_of, first_clash}
 use Rattle.git_model.specs.Residue.{ResidueItem, fits, carried, residue_of, rows_with}
 use Rattle.git_store.specs.Known.{AreKnown}
+use Rattle.hg_model.specs.Changeset.{Changeset}
 use Rattle.hg_model.specs.Revision.{Revision}
 use Rattle.hg_store.specs.Known.{AreAdded}
 use Rattle.hg_changeset.specs.Values.{changeset_value}
@@ -34,7 +35,7 @@ use Rattle.commit_rule.specs.Parts.{file_of_row, residue_below, WalksThrough, Ar
 use Rattle.commit_rule.proofs.FileLemmas.{view-files, same-files}
 use Rattle.commit_rule.proofs.Handed.{short-rows}
 use Rattle.commit_rule.proofs.RuledLemmas.{IsOld, rows_below, are-old, residue-below, residue-old, some-mapped, all-mapped, same-root}
-use Rattle.changeset_unmark.specs.Heads.{head_named}
+use Rattle.changeset_unmark.specs.Heads.{IsHead, head_named}
 use Rattle.changeset_unmark.specs.Residues.{items_named, AreItemsFit, IsResidueNamed}
 use Rattle.changeset_unmark.specs.Over.{IsDraftOver, IsLike, IsNamedOver}
 use Rattle.changeset_unmark.specs.Named.{commit_named}
@@ -148,3 +149,23 @@ module _ (k : Known) (added : AreAdded k.hg) (blocks : List Block) (d : HgDraft)
             short = short-rows items v.rows short;
             view = view;
           }
+
+-- ---- what is found, or not
+
+pub rows_none : (files : List FileRow) (given : List ResidueItem) (tree : Option (List ResidueItem)) (o : Option (List FileRow)) → o ≡ None
+    → MatchOption o (¬ (IsResidueNamed files given tree)) (λ (fs : List FileRow). IsResidueNamed files given tree × (fs ≡ rows_with (items_named given tree) files)) → ¬ (IsResidueNamed files given tree)
+rows_none files given tree o e h =
+    subst (λ (x : Option (List FileRow)). MatchOption x (¬ (IsResidueNamed files given tree)) (λ (fs : List FileRow). IsResidueNamed files given tree × (fs ≡ rows_with (items_named given tree) files))) e h
+
+pub rows_some : (files : List FileRow) (given : List ResidueItem) (tree : Option (List ResidueItem)) (o : Option (List FileRow)) (rows : List FileRow) → o ≡ Some rows
+    → MatchOption o (¬ (IsResidueNamed files given tree)) (λ (fs : List FileRow). IsResidueNamed files given tree × (fs ≡ rows_with (items_named given tree) files))
+    → IsResidueNamed files given tree × (rows ≡ rows_with (items_named given tree) files)
+rows_some files given tree o rows e h =
+    subst (λ (x : Option (List FileRow)). MatchOption x (¬ (IsResidueNamed files given tree)) (λ (fs : List FileRow). IsResidueNamed files given tree × (fs ≡ rows_with (items_named given tree) files))) e h
+
+pub head_none : (ids : List Id) (x : Changeset) (m : ChangesetMarks) (o : Option Commit) → o ≡ None → MatchOption o (¬ (IsHead null ids x m)) (λ (c : Commit). IsHead null ids x m × (c ≡ head_named null ids x m)) → ¬ (IsHead null ids x m)
+head_none ids x m o e h = subst (λ (y : Option Commit). MatchOption y (¬ (IsHead null ids x m)) (λ (c : Commit). IsHead null ids x m × (c ≡ head_named null ids x m))) e h
+
+pub head_some : (ids : List Id) (x : Changeset) (m : ChangesetMarks) (o : Option Commit) (head : Commit) → o ≡ Some head → MatchOption o (¬ (IsHead null ids x m)) (λ (c : Commit). IsHead null ids x m × (c ≡ head_named null ids x m))
+    → IsHead null ids x m × (head ≡ head_named null ids x m)
+head_some ids x m o head e h = subst (λ (y : Option Commit). MatchOption y (¬ (IsHead null ids x m)) (λ (c : Commit). IsHead null ids x m × (c ≡ head_named null ids x m))) e h
