@@ -8,3 +8,4 @@ pub mod RowStep
 pub mod PartnerSteps
 pub mod ItemLemmas
 pub mod ListLemmas
+pub mod WholeLemmas

@@ -1,6 +1,6 @@
 -- The partners of one node more.
-use Rattle.std.proofs.Common.{◌≡◌, ◌+◌, ◌++◌, ℕ, zero, suc, Bool, true, false, List, [], ◌∷◌, map, take, Some, refl, sym, ap, subst, ◌∙◌}
-use Rattle.std.specs.Prelude.{IsTrue, is_some, not, slice_get, unwrap_or, filter}
+use Rattle.std.proofs.Common.{◌≡◌, ◌+◌, ◌++◌, ℕ, zero, suc, Bool, true, false, List, [], ◌∷◌, map, take, Option, Some, None, refl, sym, ap, subst, ◌∙◌}
+use Rattle.std.specs.Prelude.{IsTrue, is_some, not, slice_get, unwrap_or, MatchOption}
 use Rattle.text_model.specs.Lists.{Each}
 use Rattle.text_model.specs.Id.{Id, null, is_null}
 use Rattle.text_model.proofs.EachLemmas.{Each-append}
@@ -40,3 +40,12 @@ have-at pairs nodes i x at h = by nodes i at h
         rest : (t : Bool) → is_null y ≡ t → HavePartners pairs (y ∷ ys) → HavePartners pairs ys
         rest true e k = rw e at k
         rest false e k = let g = rw e at k in g.1
+
+-- ---- what is found, or not
+
+pub partners_none : (pairs : List (Id × Id)) (nodes : List Id) (o : Option (List Id)) → o ≡ None → MatchOption o (¬ (HavePartners pairs nodes)) (λ (ids : List Id). HavePartners pairs nodes × (ids ≡ partners_at pairs nodes)) → ¬ (HavePartners pairs nodes)
+partners_none pairs nodes o e h = subst (λ (x : Option (List Id)). MatchOption x (¬ (HavePartners pairs nodes)) (λ (ids : List Id). HavePartners pairs nodes × (ids ≡ partners_at pairs nodes))) e h
+
+pub partners_some : (pairs : List (Id × Id)) (nodes : List Id) (o : Option (List Id)) (ids : List Id) → o ≡ Some ids → MatchOption o (¬ (HavePartners pairs nodes)) (λ (xs : List Id). HavePartners pairs nodes × (xs ≡ partners_at pairs nodes))
+    → HavePartners pairs nodes × (ids ≡ partners_at pairs nodes)
+partners_some pairs nodes o ids e h = subst (λ (x : Option (List Id)). MatchOption x (¬ (HavePartners pairs nodes)) (λ (xs : List Id). HavePartners pairs nodes × (xs ≡ partners_at pairs nodes))) e h

@@ -33,19 +33,13 @@ pub fn unmark_changeset(alloc: Global, known: &Known, h: &HgDraft) -> Result<Opt
         → MatchOption found ((c : CommitView) → ¬ (UnmarksChangeset blocks (IsHeldView known.now.hg) v c))
           (λ d. (c : CommitView) × UnmarksChangeset blocks (IsHeldView known.now.hg) v c × (AreShortBodies v.rows → IsMadeCommit known.now.git d c))) }
 {
-    known.hg.check();
-    known.git.check();
-    known.partners.check();
     let Some(marks) = marks_of(alloc, &h.changeset.date)? else {
         return Ok(None);
     };
-    if marks.parents.is_some() {
-        return Ok(None);
+    match marks.parents {
+        Some(_) => Ok(None),
+        None => unmark_two(alloc, known, h, marks),
     }
-    let Some(parents) = partners_of(alloc, &known.partners, &[h.p1, h.p2])? else {
-        return Ok(None);
-    };
-    unmark_over(alloc, known, h, marks, parents, &h.p1)
 }
 
 // The marks that the extras of a date line are. `None` exactly where they are no marks.
@@ -56,6 +50,29 @@ fn marks_of(alloc: Global, date: &DateLine) -> Result<Option<ChangesetMarks>, No
         DateLine::Plain { extras, .. } => ChangesetMarks::read(alloc, extras),
         DateLine::Raw(_) => Ok(None),
     }
+}
+
+// The same where the marks name no number of parents: those of the commit are the partners of the changeset's own.
+fn unmark_two(
+    alloc: Global,
+    known: &Known,
+    h: &HgDraft,
+    marks: ChangesetMarks,
+) -> Result<Option<GitDraft>, NoMemory>
+    requires inside { (blocks : List Block) × (v : ChangesetView) × IsChangesetIn known.now blocks h.now v }
+    requires date { IsDateOf (date_value h.now.changeset.date) (changeset_marks marks) }
+    requires few { marks.parents ≡ None }
+    ensures { IfOk result (λ found. (blocks : List Block) (v : ChangesetView) → IsChangesetIn known.now blocks h.now v
+        → MatchOption found ((c : CommitView) → ¬ (UnmarksChangeset blocks (IsHeldView known.now.hg) v c))
+          (λ d. (c : CommitView) × UnmarksChangeset blocks (IsHeldView known.now.hg) v c × (AreShortBodies v.rows → IsMadeCommit known.now.git d c))) }
+{
+    known.hg.check();
+    known.git.check();
+    let nodes = [h.p1, h.p2];
+    let Some(parents) = partners_of(alloc, &known.partners, &nodes)? else {
+        return Ok(None);
+    };
+    unmark_over(alloc, known, h, marks, parents, &h.p1)
 }
 
 // The commit over these parents that the marks of a changeset name, where it is the changeset's unmarking. The node is that of the first parent's partner.
