@@ -9,3 +9,4 @@ pub mod PartnerSteps
 pub mod ItemLemmas
 pub mod ListLemmas
 pub mod WholeLemmas
+pub mod OctopusLemmas

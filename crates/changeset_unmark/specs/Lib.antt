@@ -4,3 +4,4 @@ pub mod Rows
 pub mod Parents
 pub mod Over
 pub mod Named
+pub mod Links

@@ -1,5 +1,5 @@
 -- A changeset over the parents that the commit of its marks has.
-use Rattle.std.specs.Prelude.{◌≡◌, ◌≤◌, true, not, is_some, List, [], length, map, IsTrue}
+use Rattle.std.specs.Prelude.{◌≡◌, ◌≤◌, ◌-◌, ◌++◌, ℕ, true, false, not, is_some, List, [], ◌∷◌, length, map, IsTrue}
 use Rattle.text_model.specs.Limits.{parent_limit}
 use Rattle.text_model.specs.Lists.{Each}
 use Rattle.text_model.specs.Id.{Id, is_null}
@@ -7,8 +7,9 @@ use Rattle.git_model.specs.Tree.{has_distinct}
 use Rattle.hg_model.specs.Revision.{Revision}
 use Rattle.view_model.specs.View.{ChangesetView, IsChangesetView, SameRows}
 use Rattle.pair_model.specs.Block.{Block, block_of_id, hg_partner, Parents}
-use Rattle.pair_model.specs.Octopus.{first_of}
+use Rattle.pair_model.specs.Octopus.{first_of, last_id}
 use Rattle.pair_model.specs.Rule.{tree_row_of, ruled_rows, ruled_manifest, ruled_files}
+use Rattle.partner_model.specs.Filled.{Walks}
 use Rattle.pair_known.specs.declared.known.Known.{Known}
 use Rattle.pair_known.specs.declared.hg_draft.HgDraft.{HgDraft}
 use Rattle.pair_known.specs.Drafts.{IsHgDraft}
@@ -55,3 +56,18 @@ pub record IsNamedOver (k : Known) (blocks : List Block) (d : HgDraft) (v : Chan
   pub like : IsLike base ps.first
   pub null_first : is_null node ≡ is_null ps.p
   pub parents : (ps.p ≡ v.p) × (ps.q ≡ v.q)
+
+-- the links lead from the first parent to all of these nodes but the last, which is the second parent
+abbrev pub LeadsTo : List Revision → ℕ → Id → Id → List Id → Type 0
+LeadsTo known n p q nodes = (is_null q ≡ false) × (ids : List Id) × Walks known n (n - 2) p ids × (nodes ≡ ids ++ q ∷ [])
+
+-- the parents that the commit of a changeset has by its links, and the partners of these parents
+pub record IsOctopusOver (k : Known) (blocks : List Block) (d : HgDraft) (v : ChangesetView) (ids nodes : List Id) : Type 0 where
+  pub inside : IsChangesetIn k blocks d v
+  pub paired : AreCommitParentsPaired blocks ids
+  pub distinct : IsTrue (has_distinct ids)
+  pub least : 3 ≤ length ids
+  pub most : length ids ≤ parent_limit
+  pub nodes_are : nodes ≡ map (hg_partner blocks) ids
+  pub second : v.q ≡ last_id nodes
+  pub there : is_null v.p ≡ false

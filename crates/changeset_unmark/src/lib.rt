@@ -4,6 +4,7 @@
 mod head;
 mod lists;
 mod made;
+mod octopus;
 mod parents;
 mod residue;
 mod rows;

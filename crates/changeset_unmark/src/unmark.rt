@@ -1,4 +1,4 @@
-ghost use Rattle.std.specs.Prelude.{◌≡◌, List, IfOk, MatchOption, None, [], map};
+ghost use Rattle.std.specs.Prelude.{◌≡◌, ◌≤◌, List, length, IfOk, MatchOption, None, Some};
 ghost use Rattle.text_model.specs.Id as id;
 ghost use Rattle.hg_changeset.specs.Values.{date_value};
 ghost use Rattle.view_model.specs.View.{ChangesetView, CommitView};
@@ -10,11 +10,12 @@ ghost use Rattle.pair_known.specs.Ruled.{IsMadeCommit};
 ghost use Rattle.mark_code.specs.Values.{changeset_marks};
 ghost use Rattle.commit_rule.specs.Parts.{AreShortBodies};
 ghost use Rattle.changeset_unmark.specs.Heads.{IsDateOf};
-ghost use Rattle.changeset_unmark.specs.Over.{IsNamedOver};
+ghost use Rattle.changeset_unmark.specs.Over.{IsNamedOver, IsOctopusOver, LeadsTo};
 ghost use Rattle.changeset_unmark.specs.Named.{commit_named, IsNamed};
 
 use crate::head::head_named;
 use crate::lists::lists_come_back;
+use crate::octopus::{are_distinct, are_links_known};
 use crate::made::made_of;
 use crate::parents::partners_of;
 use crate::residue::rows_named;
@@ -22,6 +23,7 @@ use bridge_text::{Id, IdList, NoMemory};
 use commit_rule::tree_of_partner;
 use file_rule::parent_of;
 use hg_changeset::DateLine;
+use link_rule::walk_links;
 use mark_code::ChangesetMarks;
 use pair_known::{GitDraft, HgDraft, Known};
 use std::alloc::Global;
@@ -37,7 +39,7 @@ pub fn unmark_changeset(alloc: Global, known: &Known, h: &HgDraft) -> Result<Opt
         return Ok(None);
     };
     match marks.parents {
-        Some(_) => Ok(None),
+        Some(count) => unmark_octopus(alloc, known, h, marks, count),
         None => unmark_two(alloc, known, h, marks),
     }
 }
@@ -73,6 +75,85 @@ fn unmark_two(
         return Ok(None);
     };
     unmark_over(alloc, known, h, marks, parents, &h.p1)
+}
+
+// The same where the marks name a number of parents: those of the commit are the partners of what the links lead to.
+fn unmark_octopus(
+    alloc: Global,
+    known: &Known,
+    h: &HgDraft,
+    marks: ChangesetMarks,
+    count: u8,
+) -> Result<Option<GitDraft>, NoMemory>
+    requires inside { (blocks : List Block) × (v : ChangesetView) × IsChangesetIn known.now blocks h.now v }
+    requires date { IsDateOf (date_value h.now.changeset.date) (changeset_marks marks) }
+    requires many { marks.parents ≡ Some count }
+    ensures { IfOk result (λ found. (blocks : List Block) (v : ChangesetView) → IsChangesetIn known.now blocks h.now v
+        → MatchOption found ((c : CommitView) → ¬ (UnmarksChangeset blocks (IsHeldView known.now.hg) v c))
+          (λ d. (c : CommitView) × UnmarksChangeset blocks (IsHeldView known.now.hg) v c × (AreShortBodies v.rows → IsMadeCommit known.now.git d c))) }
+{
+    known.hg.check();
+    known.git.check();
+    let Some(nodes) = nodes_named(alloc, known, h, count)? else {
+        return Ok(None);
+    };
+    let Some(parents) = partners_of(alloc, &known.partners, nodes.as_slice())? else {
+        return Ok(None);
+    };
+    if !are_distinct(parents.as_slice()) {
+        return Ok(None);
+    }
+    unmark_through(alloc, known, h, marks, parents, &nodes)
+}
+
+// The partners of the parents of the commit: those to which the links lead, and the changeset's second parent.
+fn nodes_named(
+    alloc: Global,
+    known: &Known,
+    h: &HgDraft,
+    count: u8,
+) -> Result<Option<IdList>, NoMemory>
+    requires least { 3 ≤ count }
+    requires most { count ≤ 64 }
+    ensures { IfOk result (λ found. MatchOption found ((nodes : List id.Id) → ¬ (LeadsTo known.now.hg count h.now.p1 h.now.p2 nodes)) (LeadsTo known.now.hg count h.now.p1 h.now.p2)) }
+{
+    if h.p2.is_null() {
+        return Ok(None);
+    }
+    let Some(mut nodes) = walk_links(alloc, &known.hg, &h.p1, count)? else {
+        return Ok(None);
+    };
+    nodes.push(h.p2)?;
+    Ok(Some(nodes))
+}
+
+// The commit over these parents, where its links are known, and lead to the partners of the parents.
+fn unmark_through(
+    alloc: Global,
+    known: &Known,
+    h: &HgDraft,
+    marks: ChangesetMarks,
+    parents: IdList,
+    nodes: &IdList,
+) -> Result<Option<GitDraft>, NoMemory>
+    requires over { (blocks : List Block) × (v : ChangesetView) × IsOctopusOver known.now blocks h.now v parents nodes.now }
+    requires date { IsDateOf (date_value h.now.changeset.date) (changeset_marks marks) }
+    requires many { marks.parents ≡ Some (length parents) }
+    ensures { IfOk result (λ found. (blocks : List Block) (v : ChangesetView) → IsOctopusOver known.now blocks h.now v parents nodes.now
+        → MatchOption found ((c : CommitView) → (c.value).parents ≡ parents → ¬ (UnmarksChangeset blocks (IsHeldView known.now.hg) v c))
+          (λ d. (c : CommitView) × UnmarksChangeset blocks (IsHeldView known.now.hg) v c × (AreShortBodies v.rows → IsMadeCommit known.now.git d c))) }
+{
+    known.hg.check();
+    known.git.check();
+    let first = nodes.at(0);
+    let Some(made) = unmark_over(alloc, known, h, marks, parents, first)? else {
+        return Ok(None);
+    };
+    let manifest = parent_of(&known.hg, first).manifest_node;
+    if !are_links_known(alloc, &known.hg, &made.commit, manifest, nodes.as_slice(), &h.p1)? {
+        return Ok(None);
+    }
+    Ok(Some(made))
 }
 
 // The commit over these parents that the marks of a changeset name, where it is the changeset's unmarking. The node is that of the first parent's partner.
