@@ -10,3 +10,5 @@ pub mod ItemLemmas
 pub mod ListLemmas
 pub mod WholeLemmas
 pub mod OctopusLemmas
+pub mod LinkWalk
+pub mod DistinctStep

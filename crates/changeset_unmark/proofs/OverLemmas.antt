@@ -126,6 +126,11 @@ module _ (k : Known) (added : AreAdded k.hg) (blocks : List Block) (d : HgDraft)
           files-is ∙ files-are ∙ (λ i. rows_with (items_named (handed i) m.tree) (files-of i))
           ∙ sym (joined v over.inside.view (items_named (handed_on blocks ids v.rows) m.tree) fit)
 
+      pub made-value : made.commit ≡ record (head_named null ids (changeset_value d.changeset) m) { tree_id = root_of files } → (commit_named blocks ids v m).value ≡ made.commit
+      made-value commit =
+          let root : root_of_rows (commit_named blocks ids v m).rows ≡ root_of files = same-root (commit_named blocks ids v m).rows ∙ ap root_of (sym made-files ∙ files-is) in
+          (λ i. head_named (root i) ids (over.inside.draft.fields i) m) ∙ sym commit
+
       among : map (tree_row_with (items_named (handed_on blocks ids v.rows) m.tree)) (map tree_row_of v.rows) ≡ files_among (commit_named blocks ids v m).rows
       among = sym (files_with (items_named (handed_on blocks ids v.rows) m.tree) v.rows over.inside.view.in_order)
 
@@ -134,11 +139,8 @@ module _ (k : Known) (added : AreAdded k.hg) (blocks : List Block) (d : HgDraft)
           → IsMadeCommit k.git made (commit_named blocks ids v m)
       made-commit commit brought trees-are trees-held view short =
           let items = items_named (handed_on blocks ids v.rows) m.tree in
-          let rows = (commit_named blocks ids v m).rows in
-          let root : root_of_rows (commit_named blocks ids v m).rows ≡ root_of files = same-root rows ∙ ap root_of (sym made-files ∙ files-is) in
-          let value : (commit_named blocks ids v m).value ≡ made.commit = (λ i. head_named (root i) ids (over.inside.draft.fields i) m) ∙ sym commit in
           record {
-            value = value;
+            value = made-value commit;
             files = made-files;
             trees_are = subst (λ (fs : List FileRow). Each (λ o. In o (trees_of fs)) made.trees) (sym files-is) trees-are;
             trees_held = subst (λ (fs : List FileRow). Each (λ o. In o (made.trees ++ k.git)) (trees_of fs)) (sym files-is) trees-held;

@@ -28,7 +28,7 @@ use Rattle.changeset_unmark.proofs.OverLemmas.{items-right}
 -- what is answered over given parents
 abbrev pub OverAnswer : Known → List Block → ChangesetView → List Id → Parents → ChangesetMarks → Option GitDraft → Type 0
 OverAnswer k blocks v ids ps m found =
-    MatchOption found (¬ (IsNamed blocks ids ps v m)) (λ d. IsNamed blocks ids ps v m × (AreShortBodies v.rows → IsMadeCommit k.git d (commit_named blocks ids v m)))
+    MatchOption found (¬ (IsNamed blocks ids ps v m)) (λ d. IsNamed blocks ids ps v m × ((commit_named blocks ids v m).value ≡ d.commit) × (AreShortBodies v.rows → IsMadeCommit k.git d (commit_named blocks ids v m)))
 
 -- what is answered of the changeset
 abbrev pub Answer : Known → List Block → ChangesetView → Option GitDraft → Type 0
@@ -48,5 +48,5 @@ module _ (k : Known) (added : AreAdded k.hg) (are : AreKnown k.git) (blocks : Li
       let c = commit_named blocks ids v m in (
         commit_named blocks ids v m,
         unmarks blocks (IsHeldView k.hg) v over.inside.view m date ids ps fit (parents (commit_named blocks ids v m) refl) over.parents.0 over.parents.1 over.paired over.few over.distinct count (walked some.0) some.0,
-        some.1,
+        some.2,
       )

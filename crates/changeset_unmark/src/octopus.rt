@@ -1,6 +1,6 @@
 // The links of the commit that the marks of a changeset name.
-ghost use Rattle.std.specs.Prelude.{◌≡◌, ◌-◌, ◌↔◌, length, slice_get, IfOk, IsTrue};
-ghost use Rattle.std.specs.List.{list_all};
+ghost use Rattle.std.specs.Prelude.{◌≡◌, ◌-◌, ◌↔◌, length, slice_get, bytes_eq, IfOk, IsTrue};
+ghost use Rattle.std.specs.List.{list_all, list_any};
 ghost use Rattle.text_model.specs.Id as text;
 ghost use Rattle.git_model.specs.Commit.{commit_text};
 ghost use Rattle.git_model.specs.Tree.{has_distinct};
@@ -85,8 +85,21 @@ fn ends_at(links: &[Link], last: &Id) -> bool
 pub fn are_distinct(ids: &[Id]) -> bool
     ensures { result ≡ has_distinct ids.now }
 {
-    match ids {
-        [] => true,
-        [first, rest @ ..] => !rest.contains(first) && are_distinct(rest),
+    let [first, rest @ ..] = ids else {
+        return true;
+    };
+    if is_among(first, rest) {
+        return false;
     }
+    are_distinct(rest)
+}
+
+fn is_among(id: &Id, ids: &[Id]) -> bool
+    ensures { result ≡ list_any (bytes_eq id.now) ids.now }
+{
+    ids.iter().any(
+        |other: &Id| -> bool
+            ensures { result ≡ bytes_eq id.entry.now other.now }
+        { id == other },
+    )
 }

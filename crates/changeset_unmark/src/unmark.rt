@@ -169,7 +169,8 @@ fn unmark_over(
     requires date { IsDateOf (date_value h.now.changeset.date) (changeset_marks marks) }
     ensures { IfOk result (λ found. (blocks : List Block) (v : ChangesetView) (ps : Parents) → IsNamedOver known.now blocks h.now v parents node.now ps
         → MatchOption found (¬ (IsNamed blocks parents ps v (changeset_marks marks)))
-          (λ d. IsNamed blocks parents ps v (changeset_marks marks) × (AreShortBodies v.rows → IsMadeCommit known.now.git d (commit_named blocks parents v (changeset_marks marks))))) }
+          (λ d. IsNamed blocks parents ps v (changeset_marks marks) × ((commit_named blocks parents v (changeset_marks marks)).value ≡ d.commit)
+            × (AreShortBodies v.rows → IsMadeCommit known.now.git d (commit_named blocks parents v (changeset_marks marks))))) }
 {
     known.git.check();
     known.hg.check();
