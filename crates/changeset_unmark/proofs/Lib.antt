@@ -12,3 +12,5 @@ pub mod WholeLemmas
 pub mod OctopusLemmas
 pub mod LinkWalk
 pub mod DistinctStep
+pub mod LinksHeld
+pub mod OctopusOver

@@ -18,7 +18,7 @@ use Rattle.hg_model.specs.Changeset.{Changeset, IsChangesetText, Plain, changese
 use Rattle.hg_model.specs.Revision.{Revision, Changesets, revision_of}
 use Rattle.hg_store.specs.Known.{AreAdded}
 use Rattle.pair_known.proofs.HeldViews.{held-as}
-use Rattle.view_model.specs.View.{ChangesetView, changeset_node, SameChangeset}
+use Rattle.view_model.specs.View.{Row, SameRows, ChangesetView, changeset_node, SameChangeset}
 use Rattle.view_model.specs.Held.{IsChangesetHeld}
 use Rattle.pair_model.specs.Octopus.{link_user, link_key, link_description, link_value, link_view, links_over, is_link, is_link_value, last_id}
 use Rattle.partner_model.specs.Filled.{has_numbers, is_numbered, Walks}
@@ -91,9 +91,16 @@ module _ (id : Id) (is : IsId id) (base : ChangesetView) (n k : ℕ) (p q : Id) 
 
 -- ---- known links are a walk
 
-node-same : (a b : ChangesetView) → SameChangeset a b → changeset_node a ≡ changeset_node b
+pub node-same : (a b : ChangesetView) → SameChangeset a b → changeset_node a ≡ changeset_node b
 unfolding changeset_node
 node-same a b s = λ i. node_id (s.p i) (s.q i) (changeset_text (s.fields i))
+
+same_rows : (rows : List Row) → SameRows rows rows
+same_rows [] = tt
+same_rows (r ∷ rows) = ((refl, refl, refl), same_rows rows)
+
+pub same_self : (h : ChangesetView) → SameChangeset h h
+same_self h = record { p = refl; q = refl; fields = refl; manifest = refl; rows = same_rows h.rows }
 
 link-p : (id : Id) (base : ChangesetView) (n k : ℕ) (p q : Id) → (link_view id base n k p q).p ≡ p
 unfolding link_view

@@ -28,6 +28,7 @@ one-known known link h is t = by (revision_of known Changesets link.node) refl t
           is_held = ap (revision_of known Changesets) (sym is.node) ∙ e;
           parents = ((bytes_eq-Decides r.p link.p).0 b.0 ∙ is.parents.0, (bytes_eq-Decides r.q link.q).0 b.1 ∙ is.parents.1);
           text = (bytes_eq-Decides r.text link.text).0 a.1 ∙ is.text;
+          date = is.date;
         }
 
 known-one : (known : List Revision) (link : Link) (h : ChangesetView) → IsLinkOf link h → IsKnownLink known h → is_known_link known link ≡ true

@@ -2,7 +2,7 @@
 use Rattle.std.specs.Prelude.{◌≡◌, ◌-◌, Bool, false, ◌&&◌, List, length, map, slice_get, Option, None, Some, bytes_eq}
 use Rattle.text_model.specs.Lists.{Each}
 use Rattle.text_model.specs.Id.{Id}
-use Rattle.hg_model.specs.Changeset.{changeset_text}
+use Rattle.hg_model.specs.Changeset.{IsDateLine, changeset_text}
 use Rattle.hg_model.specs.Revision.{Revision, Changesets, revision_of}
 use Rattle.view_model.specs.View.{ChangesetView, changeset_node}
 use Rattle.link_rule.specs.declared.octopus.Link.{Link}
@@ -26,6 +26,7 @@ pub record IsKnownLink (known : List Revision) (h : ChangesetView) : Type 0 wher
   pub is_held : revision_of known Changesets (changeset_node h) ≡ Some revision
   pub parents : (revision.p ≡ h.p) × (revision.q ≡ h.q)
   pub text : revision.text ≡ changeset_text h.fields
+  pub date : IsDateLine (h.fields).date
 
 -- the links are known, and the last one has this node
 pub record AreLinksThere (revisions : List Revision) (node : Id) (links : List ChangesetView) : Type 0 where
