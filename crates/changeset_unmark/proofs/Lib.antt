@@ -14,3 +14,5 @@ pub mod LinkWalk
 pub mod DistinctStep
 pub mod LinksHeld
 pub mod OctopusOver
+pub mod OctopusWhole
+pub mod OctopusParents

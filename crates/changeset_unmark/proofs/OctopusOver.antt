@@ -89,12 +89,12 @@ each-first : (P : Id → Type 0) (xs : List Id) → Each P xs → 1 ≤ length x
 each-first P [] h some = absurd (omega arith)
 each-first P (x ∷ xs) h some = h.0
 
-each-last : (P : Id → Type 0) (xs : List Id) → Each P xs → 1 ≤ length xs → P (last_id xs)
+pub each-last : (P : Id → Type 0) (xs : List Id) → Each P xs → 1 ≤ length xs → P (last_id xs)
 each-last P [] h some = absurd (omega arith)
 each-last P (x ∷ []) h some = h.0
 each-last P (x ∷ y ∷ xs) h some = each-last P (y ∷ xs) h.1 (omega arith)
 
-second-last : (xs : List Id) → 2 ≤ length xs → second_of xs ≡ last_id xs
+pub second-last : (xs : List Id) → 2 ≤ length xs → second_of xs ≡ last_id xs
 second-last [] some = absurd (omega arith)
 second-last (x ∷ xs) some = last-rest x xs (omega arith)
 
@@ -132,7 +132,7 @@ module _ (k : Known) (added : AreAdded k.hg) (blocks : List Block) (d : HgDraft)
   some-nodes : Each (λ x. x ≢ null) nodes
   some-nodes = subst (Each (λ x. x ≢ null)) (sym over.nodes_are) (there blocks (table k blocks over.inside.history) ids over.paired)
 
-  pub base : ChangesetView
+  abbrev pub base : ChangesetView
   base = view_or_none (changesets_in blocks) (first_of nodes)
 
   first-view : IsParentView k.hg (first_of nodes) (view_or_none (changesets_in blocks) (first_of nodes))

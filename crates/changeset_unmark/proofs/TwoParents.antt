@@ -89,10 +89,10 @@ same-some pairs blocks e node = (λ i. is_some (git_at (e i) node)) ∙ ap is_so
     mapped None = refl
     mapped (Some b) = refl
 
-have-nodes : (pairs : List (Id × Id)) (blocks : List Block) → pairs ≡ pairs_of blocks → (nodes : List Id) → HavePartners pairs nodes → Each (HasNode blocks) (not_null nodes)
+pub have-nodes : (pairs : List (Id × Id)) (blocks : List Block) → pairs ≡ pairs_of blocks → (nodes : List Id) → HavePartners pairs nodes → Each (HasNode blocks) (not_null nodes)
 have-nodes pairs blocks e nodes h = Each-weaker (λ node. IsTrue (is_some (git_at pairs node))) (HasNode blocks) (λ node k. sym (same-some pairs blocks e node) ∙ k) (not_null nodes) h
 
-nodes-have : (pairs : List (Id × Id)) (blocks : List Block) → pairs ≡ pairs_of blocks → (nodes : List Id) → Each (HasNode blocks) (not_null nodes) → HavePartners pairs nodes
+pub nodes-have : (pairs : List (Id × Id)) (blocks : List Block) → pairs ≡ pairs_of blocks → (nodes : List Id) → Each (HasNode blocks) (not_null nodes) → HavePartners pairs nodes
 nodes-have pairs blocks e nodes h = Each-weaker (HasNode blocks) (λ node. IsTrue (is_some (git_at pairs node))) (λ node k. same-some pairs blocks e node ∙ k) (not_null nodes) h
 
 first-again : (p q : Id) → (p ≡ null → q ≡ null) → first_of (not_null (p ∷ q ∷ [])) ≡ p
