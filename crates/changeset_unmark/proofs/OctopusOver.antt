@@ -173,6 +173,9 @@ module _ (k : Known) (added : AreAdded k.hg) (blocks : List Block) (d : HgDraft)
         parents = (refl, refl);
       }
 
+  pub first-at-node : (node : Id) → slice_get nodes 0 ≡ Some node → IsParentView k.hg node (view_or_none (changesets_in blocks) (first_of nodes))
+  first-at-node node at = subst (λ (x : Id). IsParentView k.hg x (view_or_none (changesets_in blocks) (first_of nodes))) (sym (first-at nodes node at)) first-view
+
   module _ (c : CommitView) (parents : (c.value).parents ≡ ids) where
     partners : partners_of_parents blocks c ≡ nodes
     partners = ap (map (hg_partner blocks)) parents ∙ sym over.nodes_are

@@ -1,6 +1,6 @@
 -- The partners of the parents to which a changeset's links lead.
 use Rattle.std.proofs.Common.{◌≡◌, ◌≢◌, ◌≤◌, ◌+◌, ◌-◌, ℕ, Bool, true, false, List, [], ◌∷◌, ◌++◌, length, length-append, map, Option, Some, None, refl, sym, ap, subst, ◌∙◌, arith}
-use Rattle.std.specs.Prelude.{IsTrue, not, nat_le, if◌then◌else◌}
+use Rattle.std.specs.Prelude.{IsTrue, MatchOption, nat_le, if◌then◌else◌}
 use Rattle.std.proofs.lemmas.Bool.{leb-false, false_from_ne_true}
 use Rattle.std.proofs.lemmas.List.{length-map}
 use Rattle.text_model.specs.Lists.{Each}
@@ -121,3 +121,11 @@ module _ (k : Known) (added : AreAdded k.hg) (blocks : List Block) (d : HgDraft)
     unmarked-ids nodes a ids are =
         let same = leads-one (partners_of_parents blocks c) nodes unmarked-leads a in
         sym (ids-of nodes a ids are ∙ ap (map (git_partner blocks)) (sym same) ∙ map_back (hg_partner blocks) (git_partner blocks) (HasId blocks) (git_hg blocks (table k blocks inside.history)) (c.value).parents u.paired)
+
+-- ---- what is found, or not
+
+pub leads-none : (known : List Revision) (n : ℕ) (p q : Id) (o : Option (List Id)) → o ≡ None → MatchOption o ((nodes : List Id) → ¬ (LeadsTo known n p q nodes)) (LeadsTo known n p q) → (nodes : List Id) → ¬ (LeadsTo known n p q nodes)
+leads-none known n p q o e h = subst (λ (x : Option (List Id)). MatchOption x ((nodes : List Id) → ¬ (LeadsTo known n p q nodes)) (LeadsTo known n p q)) e h
+
+pub leads-found : (known : List Revision) (n : ℕ) (p q : Id) (o : Option (List Id)) (nodes : List Id) → o ≡ Some nodes → MatchOption o ((xs : List Id) → ¬ (LeadsTo known n p q xs)) (LeadsTo known n p q) → LeadsTo known n p q nodes
+leads-found known n p q o nodes e h = subst (λ (x : Option (List Id)). MatchOption x ((xs : List Id) → ¬ (LeadsTo known n p q xs)) (LeadsTo known n p q)) e h

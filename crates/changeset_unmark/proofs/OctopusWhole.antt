@@ -28,7 +28,7 @@ use Rattle.changeset_unmark.proofs.Built.{unmarks}
 use Rattle.changeset_unmark.proofs.Found.{comes_back, is_named}
 use Rattle.changeset_unmark.proofs.OverLemmas.{items-right}
 use Rattle.changeset_unmark.proofs.OctopusOver.{AreAlike, named-alike, named-back, base, own, named-over, links-are, walked, alike, unmarked}
-use Rattle.changeset_unmark.proofs.WholeLemmas.{OverAnswer}
+use Rattle.changeset_unmark.proofs.WholeLemmas.{OverAnswer, Answer}
 
 pub over-none : (k : Known) (blocks : List Block) (v : ChangesetView) (ids : List Id) (ps : Parents) (m : ChangesetMarks) (o : Option GitDraft) → o ≡ None → OverAnswer k blocks v ids ps m o → ¬ (IsNamed blocks ids ps v m)
 over-none k blocks v ids ps m o e h = subst (λ (x : Option GitDraft). OverAnswer k blocks v ids ps m x) e h
@@ -86,3 +86,10 @@ module _ (k : Known) (added : AreAdded k.hg) (are : AreKnown k.git) (blocks : Li
       where
         first-node : (x : Id) × (slice_get nodes 0 ≡ Some x)
         first-node = some-first nodes (omega (arith, ap length over.nodes_are, length-map ids (hg_partner blocks), over.least))
+
+-- what is answered over the parents is answered of the changeset, whose unmarking has no others
+pub through-whole : (k : Known) (blocks : List Block) (v : ChangesetView) (ids : List Id) → ((c : CommitView) → UnmarksChangeset blocks (IsHeldView k.hg) v c → (c.value).parents ≡ ids) → (o : Option GitDraft)
+    → MatchOption o ((c : CommitView) → (c.value).parents ≡ ids → ¬ (UnmarksChangeset blocks (IsHeldView k.hg) v c)) (λ d. (c : CommitView) × UnmarksChangeset blocks (IsHeldView k.hg) v c × (AreShortBodies v.rows → IsMadeCommit k.git d c))
+    → Answer k blocks v o
+through-whole k blocks v ids only None h = λ c u. h c (only c u) u
+through-whole k blocks v ids only (Some made) h = h
