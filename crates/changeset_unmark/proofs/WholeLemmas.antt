@@ -5,7 +5,11 @@ use Rattle.text_model.specs.Lists.{Each}
 use Rattle.text_model.specs.Id.{Id}
 use Rattle.git_store.specs.Known.{AreKnown}
 use Rattle.hg_store.specs.Known.{AreAdded}
-use Rattle.hg_model.specs.Changeset.{Changeset}
+use Rattle.hg_model.specs.Changeset.{Changeset, DateLine}
+use Rattle.mark_code.specs.Values.{changeset_marks}
+use Rattle.mark_code.specs.declared.changeset_marks.ChangesetMarks as code
+use Rattle.pair_model.specs.User.{user_of_line}
+use Rattle.unmark_law.proofs.ChangesetOne.{marks_in, marks_are, date_is}
 use Rattle.view_model.specs.View.{ChangesetView, CommitView}
 use Rattle.pair_model.specs.Block.{Block, Parents}
 use Rattle.pair_model.specs.MarkList.{ChangesetMarks}
@@ -50,3 +54,16 @@ module _ (k : Known) (added : AreAdded k.hg) (are : AreKnown k.git) (blocks : Li
         unmarks blocks (IsHeldView k.hg) v over.inside.view m date ids ps fit (parents (commit_named blocks ids v m) refl) over.parents.0 over.parents.1 over.paired over.few over.distinct count (walked some.0) some.0,
         some.2,
       )
+
+-- ---- the date line of a changeset that has an unmarking
+
+pub unmarked-date : (blocks : List Block) (KnownView : ChangesetView → Type 0) (v : ChangesetView) (c : CommitView) → UnmarksChangeset blocks KnownView v c → IsDateOf (v.fields).date (marks_in blocks c)
+unmarked-date blocks KnownView v c u = (
+  (user_of_line (c.value).author).time,
+  (user_of_line (c.value).author).tz,
+  sym (ap (λ (x : Changeset). x.date) (u.marked).fields) ∙ date_is blocks c,
+  marks_are blocks c u.view,
+)
+
+pub marks-none : (date : DateLine) (o : Option code.ChangesetMarks) → o ≡ None → MatchOption o ((m : ChangesetMarks) → ¬ (IsDateOf date m)) (λ (marks : code.ChangesetMarks). IsDateOf date (changeset_marks marks)) → (m : ChangesetMarks) → ¬ (IsDateOf date m)
+marks-none date o e h = subst (λ (x : Option code.ChangesetMarks). MatchOption x ((m : ChangesetMarks) → ¬ (IsDateOf date m)) (λ (marks : code.ChangesetMarks). IsDateOf date (changeset_marks marks))) e h
