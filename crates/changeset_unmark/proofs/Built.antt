@@ -1,19 +1,18 @@
 -- The commit that the marks of a changeset name is its unmarking where each part comes back.
-use Rattle.std.proofs.Common.{◌≡◌, ◌≤◌, ℕ, List, [], map, length, refl, sym, ap, subst, ◌∙◌}
-use Rattle.std.specs.Prelude.{IsTrue, unwrap_or, ℤ}
+use Rattle.std.proofs.Common.{◌≡◌, ◌≤◌, List, [], map, length, refl, sym, ap, subst, ◌∙◌}
+use Rattle.std.specs.Prelude.{IsTrue}
 use Rattle.text_model.specs.Limits.{parent_limit}
 use Rattle.text_model.specs.Lists.{Each, rises}
 use Rattle.text_model.specs.Text.{Bytes, is_below}
 use Rattle.text_model.specs.Id.{Id, null}
-use Rattle.hg_model.specs.Changeset.{Changeset, DateLine, Plain, Raw}
-use Rattle.git_model.specs.Commit.{Commit, IsCommit}
+use Rattle.hg_model.specs.Changeset.{DateLine, Plain}
+use Rattle.git_model.specs.Commit.{Commit}
 use Rattle.git_model.specs.Tree.{has_distinct}
-use Rattle.git_model.specs.Unfold.{FileRow}
 use Rattle.git_model.specs.Shape.{first_clash}
 use Rattle.git_model.specs.Residue.{ResidueItem, fits, carried}
 use Rattle.git_model.proofs.ResidueLemmas.{groups_fit}
 use Rattle.tree_shape.specs.Sets.{IsFiles}
-use Rattle.view_model.specs.View.{Row, TreeRow, ManifestParents, NoManifest, Over, ChangesetView, IsChangesetView, CommitView, IsCommitView, SameChangeset, SameRows, manifest_node, entry_of_row, root_of_rows}
+use Rattle.view_model.specs.View.{Row, TreeRow, ManifestParents, NoManifest, Over, ChangesetView, IsChangesetView, CommitView, IsCommitView, SameRows, manifest_node}
 use Rattle.view_model.specs.Held.{file_row_of}
 use Rattle.pair_model.specs.Block.{Block, Parents}
 use Rattle.pair_model.specs.MarkList.{ChangesetMarks, extras_of}
@@ -29,9 +28,8 @@ use Rattle.depth_law.proofs.PlainChangeset.{manifest_is, files_are}
 use Rattle.commit_rule.proofs.FileLemmas.{all-blobs, no-has_clash, same-paths}
 use Rattle.commit_rule.proofs.RuledLemmas.{IsId-root}
 use Rattle.plain_rule.proofs.HandedRows.{ruled-with}
-use Rattle.changeset_unmark.specs.Heads.{IsDateOf, author_named, head_named, HasDate, IsHead}
-use Rattle.changeset_unmark.specs.Residues.{items_named, IsResidueNamed}
-use Rattle.changeset_unmark.specs.Over.{ListsComeBack}
+use Rattle.changeset_unmark.specs.Heads.{IsDateOf, author_named, head_named, HasDate}
+use Rattle.changeset_unmark.specs.Residues.{items_named}
 use Rattle.changeset_unmark.specs.Named.{count_of, commit_named, IsNamed}
 use Rattle.changeset_unmark.proofs.RightRows.{AreFit, joined, each_row, are_files, rows_rise, residue_back, same_bodies}
 

@@ -1,5 +1,5 @@
 -- One id before others.
-use Rattle.std.proofs.Common.{◌≡◌, ◌≤◌, ◌-◌, ℕ, not, ◌&&◌, List, [], ◌∷◌, length, get_or, take, drop, refl, sym, ap, ◌∙◌, bytes_eq, arith}
+use Rattle.std.proofs.Common.{◌≡◌, ◌≤◌, ◌-◌, not, ◌&&◌, List, [], ◌∷◌, length, get_or, take, drop, sym, bytes_eq, arith}
 use Rattle.std.specs.List.{list_any}
 use Rattle.text_model.specs.Id.{Id}
 use Rattle.text_model.proofs.Elements.{take_whole}

@@ -1,26 +1,24 @@
 -- An unmarking of a changeset is the commit that its marks name over its parents, and each part comes back from it.
-use Rattle.std.proofs.Common.{◌≡◌, Bool, true, false, true≢false, List, [], map, Option, Some, None, refl, sym, ap, subst, ◌∙◌}
-use Rattle.std.specs.Prelude.{IsTrue, unwrap_or, option_map, if◌then◌else◌, ℤ, ◌&&◌, not}
-use Rattle.std.specs.List.{list_all}
+use Rattle.std.proofs.Common.{◌≡◌, Bool, true, false, List, [], map, Option, Some, None, refl, sym, ap, subst, ◌∙◌}
+use Rattle.std.specs.Prelude.{IsTrue, unwrap_or, option_map, if◌then◌else◌}
 use Rattle.text_model.specs.Path.{is_fit_path}
-use Rattle.text_model.specs.Lists.{Each, rises}
-use Rattle.text_model.specs.Text.{Bytes, is_below}
-use Rattle.text_model.specs.Id.{Id, null}
+use Rattle.text_model.specs.Lists.{Each}
+use Rattle.text_model.specs.Text.{Bytes}
+use Rattle.text_model.specs.Id.{Id}
 use Rattle.text_model.proofs.Options.{some_is, none_some}
 use Rattle.text_model.proofs.HexLemmas.{IsId-null}
 use Rattle.git_model.proofs.ResidueLemmas.{carried_fits}
-use Rattle.hg_model.specs.Changeset.{Changeset, DateLine, Plain, Raw}
+use Rattle.hg_model.specs.Changeset.{Changeset}
 use Rattle.git_model.specs.Commit.{Commit, IsCommit}
-use Rattle.git_model.specs.Unfold.{FileRow}
 use Rattle.git_model.specs.Shape.{first_clash}
 use Rattle.git_model.specs.Residue.{ResidueItem, fits, carried, rows_with}
-use Rattle.view_model.specs.View.{Row, TreeRow, ChangesetView, IsChangesetView, CommitView, IsCommitView, SameRows, root_of_rows}
+use Rattle.view_model.specs.View.{Row, ChangesetView, IsChangesetView, CommitView, SameRows, root_of_rows}
 use Rattle.view_model.specs.Held.{file_row_of}
 use Rattle.pair_model.specs.Block.{Block, Parents}
-use Rattle.pair_model.specs.MarkList.{ChangesetMarks, extras_of}
+use Rattle.pair_model.specs.MarkList.{ChangesetMarks}
 use Rattle.pair_model.specs.Octopus.{parents_of_commit}
-use Rattle.pair_model.specs.User.{UserDate, user_of_line, line_of_user, message_of, description_of}
-use Rattle.pair_model.specs.Rule.{author_by, tree_row_of, tree_rows_with, ruled_rows, ruled_manifest, ruled_files}
+use Rattle.pair_model.specs.User.{user_of_line, line_of_user, message_of, description_of}
+use Rattle.pair_model.specs.Rule.{tree_row_of, tree_rows_with, ruled_rows, ruled_manifest, ruled_files}
 use Rattle.partner_model.specs.Mark.{part_unless, residue_unless, residue_in, first_residue, handed_on, changeset_marks, mark_changeset}
 use Rattle.partner_model.specs.Partner.{UnmarksChangeset}
 use Rattle.partner_model.specs.Filled.{files_in, HasMarks, are_items_right, residue_of_marks, commit_by_marks, filled_commit}
@@ -32,11 +30,10 @@ use Rattle.depth_law.proofs.SameRows.{manifest_same, files_same}
 use Rattle.depth_law.proofs.PlainChangeset.{manifest_is, files_are}
 use Rattle.commit_rule.proofs.FileLemmas.{unclashed}
 use Rattle.commit_rule.proofs.Handed.{apart-rows}
-use Rattle.changeset_unmark.specs.Heads.{IsDateOf, author_named, head_named, IsNeeded, HasDate, ComesBack, AreHeadsNeeded, IsHead}
-use Rattle.changeset_unmark.specs.Residues.{items_named, AreItemsFit, IsResidueNamed}
-use Rattle.changeset_unmark.specs.Over.{ListsComeBack}
+use Rattle.changeset_unmark.specs.Heads.{author_named, head_named, HasDate, ComesBack, AreHeadsNeeded}
+use Rattle.changeset_unmark.specs.Residues.{items_named, AreItemsFit}
 use Rattle.changeset_unmark.specs.Named.{count_of, commit_named, IsNamed}
-use Rattle.changeset_unmark.proofs.RightRows.{AreFit, all_each}
+use Rattle.changeset_unmark.proofs.RightRows.{all_each}
 use Rattle.changeset_unmark.proofs.Built.{rows_again, given_line}
 
 -- ---- marks, part by part

@@ -1,5 +1,5 @@
 -- Whether the rule gives a file back whose revision a draft brings.
-use Rattle.std.proofs.Common.{◌≡◌, Bool, true, false, true≢false, List, [], ◌∷◌, ◌++◌, Option, Some, None, Bor, refl, sym, ap, subst, ◌∙◌, bytes_eq}
+use Rattle.std.proofs.Common.{◌≡◌, Bool, true, List, [], ◌∷◌, ◌++◌, Option, Some, None, Bor, refl, sym, ap, subst, ◌∙◌, bytes_eq}
 use Rattle.std.specs.Prelude.{◌↔◌, ◌&&◌, IsTrue, option_map, unwrap_or}
 use Rattle.std.specs.Option.{option_or, option_copied}
 use Rattle.std.proofs.lemmas.Bool.{and_parts}
@@ -8,7 +8,6 @@ use Rattle.std.proofs.lemmas.Slice.Eq.{bytes_eq-Decides}
 use Rattle.text_model.specs.Text.{Bytes}
 use Rattle.text_model.specs.Id.{Id, blob, blob_id}
 use Rattle.text_model.proofs.Options.{none_some, some_is}
-use Rattle.git_model.specs.Object.{Object}
 use Rattle.hg_model.specs.FileText.{IsFileText, file_order, plain_meta}
 use Rattle.hg_model.specs.Manifest.{ManifestEntry}
 use Rattle.hg_model.specs.Revision.{Revision, FilesAt, revision_of, is_of}
@@ -16,7 +15,7 @@ use Rattle.hg_store.specs.Known.{AreAdded, AreFileParents}
 use Rattle.view_model.specs.View.{FileRevision, file_node, Row, Compared, compared_revision, SameRow}
 use Rattle.view_model.specs.Held.{IsFileHeld, IsBlobHeld, file_row_of}
 use Rattle.pair_model.specs.Rule.{with_body, node_or_null, one_or_two, new_revision, ruled_revision, tree_row_of}
-use Rattle.pair_known.specs.Rows.{RowValue, row_value}
+use Rattle.pair_known.specs.Rows.{RowValue}
 use Rattle.file_rule.specs.Parents.{row_with}
 use Rattle.file_rule.specs.Made.{IsRowOf}
 use Rattle.file_rule.specs.Back.{row_again, IsHeldRow}

@@ -1,27 +1,25 @@
 -- Known links lead from a changeset's first parent to the partners of its commit's parents.
-use Rattle.std.proofs.Common.{◌≡◌, ◌≢◌, ◌≤◌, ◌<◌, ◌+◌, ◌-◌, ◌^◌, ℕ, zero, suc, Bool, true, false, true≢false, List, [], ◌∷◌, ◌++◌, length, length-append, map, Option, Some, None, refl, sym, ap, subst, ◌∙◌, arith, append_assoc, le-leb}
-use Rattle.std.specs.Prelude.{◌&&◌, ◌==◌, nat_le, IsTrue, MatchOption, bytes_eq, decimal}
+use Rattle.std.proofs.Common.{◌≡◌, ◌≤◌, ◌<◌, ◌+◌, ◌-◌, ◌^◌, ℕ, zero, suc, Bool, true, false, true≢false, List, [], ◌∷◌, ◌++◌, length, length-append, map, Option, Some, None, refl, sym, ap, subst, ◌∙◌, arith, append_assoc, le-leb}
+use Rattle.std.specs.Prelude.{◌&&◌, ◌==◌, nat_le, MatchOption, bytes_eq, decimal}
 use Rattle.std.specs.List.{slice_split, list_all}
 use Rattle.std.proofs.lemmas.Bool.{and_parts}
-use Rattle.std.proofs.lemmas.Bool.Decides.{nat_tests}
 use Rattle.std.proofs.lemmas.Slice.Eq.{bytes_eq-Decides}
 use Rattle.text_model.specs.Cuts.{Lacks}
 use Rattle.text_model.specs.Lists.{Each}
-use Rattle.text_model.specs.Text.{Bytes, is_digit, is_decimal, number_of}
-use Rattle.text_model.specs.Id.{Id, IsId, null, is_null, node_id, hex, is_lower_digit, is_hex_id}
+use Rattle.text_model.specs.Text.{Bytes, is_digit}
+use Rattle.text_model.specs.Id.{Id, IsId, is_null, node_id, hex, is_lower_digit}
 use Rattle.text_model.proofs.EachLemmas.{Each-append}
 use Rattle.text_model.proofs.DecimalLemmas.{number_of-decimal, is_decimal-decimal, digits-is_decimal}
 use Rattle.text_model.proofs.HexLemmas.{is_hex_id-hex}
 use Rattle.text_model.proofs.Options.{some_is}
 use Rattle.text_model.proofs.TestLemmas.{differs}
-use Rattle.hg_model.specs.Changeset.{Changeset, IsChangesetText, Plain, changeset_text}
+use Rattle.hg_model.specs.Changeset.{Changeset, IsChangesetText, changeset_text}
 use Rattle.hg_model.specs.Revision.{Revision, Changesets, revision_of}
 use Rattle.hg_store.specs.Known.{AreAdded}
 use Rattle.pair_known.proofs.HeldViews.{held-as}
 use Rattle.view_model.specs.View.{Row, SameRows, ChangesetView, changeset_node, SameChangeset}
-use Rattle.view_model.specs.Held.{IsChangesetHeld}
-use Rattle.pair_model.specs.Octopus.{link_user, link_key, link_description, link_value, link_view, links_over, is_link, is_link_value, last_id}
-use Rattle.partner_model.specs.Filled.{has_numbers, is_numbered, Walks}
+use Rattle.pair_model.specs.Octopus.{link_value, link_view, links_over, is_link, is_link_value, last_id}
+use Rattle.partner_model.specs.Filled.{is_numbered, Walks}
 use Rattle.partner_model.specs.Partner.{IsHeldView, IsKnownAs}
 
 -- ---- one walk leads to one list

@@ -1,20 +1,20 @@
 -- Links that are known are held, with the files of their commit's first parent.
-use Rattle.std.proofs.Common.{◌≡◌, ◌≢◌, ◌≤◌, ◌+◌, ◌-◌, ◌<◌, ℕ, suc, Bool, true, false, true≢false, List, [], ◌∷◌, ◌++◌, length, map, Option, Some, None, refl, sym, ap, subst, ◌∙◌, inl, inr, arith, leb-true}
-use Rattle.std.specs.Prelude.{IsTrue, nat_le, slice_get, unwrap_or, bytes_eq}
+use Rattle.std.proofs.Common.{◌≡◌, ◌≢◌, ◌≤◌, ◌+◌, ◌-◌, ℕ, suc, Bool, true, false, true≢false, List, [], ◌∷◌, ◌++◌, length, map, Some, refl, sym, ap, subst, ◌∙◌, inl, inr, arith, leb-true}
+use Rattle.std.specs.Prelude.{nat_le, slice_get, bytes_eq}
 use Rattle.std.specs.List.{list_all}
 use Rattle.std.proofs.lemmas.Bool.{and_parts}
 use Rattle.std.proofs.lemmas.Slice.Eq.{bytes_eq-Decides}
 use Rattle.text_model.specs.Lists.{Each, In}
 use Rattle.text_model.specs.Text.{Bytes, IsBytes, has_byte}
-use Rattle.text_model.specs.Id.{Id, IsId, null, is_null, node_id}
+use Rattle.text_model.specs.Id.{Id, IsId}
 use Rattle.text_model.proofs.Elements.{each_in}
 use Rattle.text_model.proofs.Options.{none_some, some_is}
 use Rattle.hg_model.specs.Changeset.{Changeset, IsChangeset, IsDateLine, changeset_text}
 use Rattle.hg_model.specs.Revision.{Revision, Changesets, revision_of}
 use Rattle.hg_store.specs.Known.{AreAdded}
-use Rattle.view_model.specs.View.{Row, ManifestParents, ChangesetView, changeset_node, SameChangeset}
+use Rattle.view_model.specs.View.{Row, ManifestParents, ChangesetView, changeset_node}
 use Rattle.view_model.specs.Held.{IsFileHeld, IsManifestHeld, IsChangesetHeld}
-use Rattle.pair_model.specs.Block.{view_at, view_or_none, no_changeset}
+use Rattle.pair_model.specs.Block.{view_or_none}
 use Rattle.pair_model.specs.Octopus.{link_user, link_description, link_view, links_over, last_id}
 use Rattle.partner_model.specs.Partner.{IsHeldView, IsKnownAs}
 use Rattle.pair_known.proofs.HeldViews.{one_view}

@@ -1,5 +1,5 @@
 -- What the rules for a manifest and for a list of files are asked over.
-use Rattle.std.proofs.Common.{◌≡◌, List, [], ◌∷◌, map, ap, ◌∙◌}
+use Rattle.std.proofs.Common.{List, [], ◌∷◌, map, ap, ◌∙◌}
 use Rattle.std.specs.Prelude.{IsTrue}
 use Rattle.text_model.specs.Lists.{Each, rises}
 use Rattle.text_model.specs.Path.{is_fit_path}

@@ -1,6 +1,6 @@
 -- Tests of links, and the changesets that they are of.
-use Rattle.std.proofs.Common.{◌≡◌, ◌-◌, ℕ, zero, suc, Bool, true, false, true≢false, List, [], ◌∷◌, length, map, Option, Some, None, refl, sym, ap, subst, ◌∙◌, bytes_eq}
-use Rattle.std.specs.Prelude.{◌&&◌, ◌↔◌, IsTrue, slice_get}
+use Rattle.std.proofs.Common.{◌≡◌, ◌-◌, ℕ, zero, suc, true, true≢false, List, [], ◌∷◌, length, map, Option, Some, None, refl, sym, ap, ◌∙◌, bytes_eq}
+use Rattle.std.specs.Prelude.{◌&&◌, slice_get}
 use Rattle.std.specs.List.{list_all, AllZip}
 use Rattle.std.proofs.lemmas.Bool.{and_parts}
 use Rattle.std.proofs.lemmas.Slice.Eq.{bytes_eq-Decides}

@@ -1,25 +1,22 @@
 -- The commit of three parents and more that the marks of a changeset name, over the partners to which the links lead.
-use Rattle.std.proofs.Common.{◌≡◌, ◌≢◌, ◌≤◌, ◌-◌, ℕ, Bool, true, false, true≢false, List, [], ◌∷◌, ◌++◌, length, map, Option, Some, None, refl, sym, ap, subst, ◌∙◌, arith, bytes_eq}
-use Rattle.std.specs.Prelude.{IsTrue, is_some, not, filter, slice_get, if◌then◌else◌}
+use Rattle.std.proofs.Common.{◌≡◌, ◌≢◌, ◌≤◌, ℕ, false, List, [], ◌∷◌, ◌++◌, length, map, Some, refl, sym, ap, subst, ◌∙◌, arith, bytes_eq}
+use Rattle.std.specs.Prelude.{not, filter, slice_get, if◌then◌else◌}
 use Rattle.std.specs.List.{list_all}
 use Rattle.std.proofs.lemmas.Bool.{false_from_ne_true}
 use Rattle.std.proofs.lemmas.List.{length-map}
 use Rattle.text_model.specs.Lists.{Each, first_of_each, in_order}
-use Rattle.text_model.specs.Text.{Bytes, is_below}
+use Rattle.text_model.specs.Text.{is_below}
 use Rattle.text_model.specs.Id.{Id, null, is_null, object_id, commit}
 use Rattle.text_model.proofs.Options.{none_some, some_is}
-use Rattle.git_model.specs.Commit.{Commit, commit_text}
-use Rattle.hg_model.specs.Revision.{Revision}
+use Rattle.git_model.specs.Commit.{commit_text}
 use Rattle.hg_store.specs.Known.{AreAdded}
 use Rattle.view_model.specs.View.{Row, TreeRow, ChangesetView, CommitView, changeset_node, commit_id, files_among, rows_text, paths_of, SameRows}
 use Rattle.view_model.specs.Held.{IsChangesetHeld}
 use Rattle.pair_model.specs.Block.{Block, changesets_in, view_or_none, hg_partner, Parents}
 use Rattle.pair_model.specs.MarkList.{ChangesetMarks}
 use Rattle.pair_model.specs.Octopus.{links_by, links_over, links_of, partners_of_parents, parents_of_commit, first_of, second_of, last_id}
-use Rattle.pair_model.specs.Rule.{flag_of_mode, revision_at, ruled_revision, ruled_row, ruled_rows, ruled_manifest, ruled_files, over_pair, one_or_two, entry_at, same_entry, parents_rows, tree_row_of}
-use Rattle.partner_model.specs.Mark.{mark_changeset}
+use Rattle.pair_model.specs.Rule.{flag_of_mode, revision_at, ruled_revision, ruled_rows, ruled_manifest, ruled_files, over_pair, one_or_two, entry_at, same_entry, tree_row_of}
 use Rattle.partner_model.specs.Partner.{UnmarksChangeset, IsHeldView, IsKnownAs}
-use Rattle.partner_model.specs.Table.{IsTable}
 use Rattle.pair_known.specs.declared.known.Known.{Known}
 use Rattle.pair_known.specs.declared.hg_draft.HgDraft.{HgDraft}
 use Rattle.file_rule.specs.Parents.{IsParentView}
@@ -27,7 +24,7 @@ use Rattle.link_rule.specs.Links.{links_along}
 use Rattle.unmark_law.proofs.Tables.{HasNode, HasId, hg_has, each_map, eq_true}
 use Rattle.unmark_law.proofs.ChangesetOne.{there}
 use Rattle.plain_rule.proofs.BlockLemmas.{parent-view}
-use Rattle.changeset_unmark.specs.Over.{IsLike, IsNamedOver, IsOctopusOver, ListsComeBack}
+use Rattle.changeset_unmark.specs.Over.{IsLike, IsNamedOver, IsOctopusOver}
 use Rattle.changeset_unmark.specs.Named.{IsNamed}
 use Rattle.changeset_unmark.specs.Links.{IsKnownLink, AreLinksThere}
 use Rattle.changeset_unmark.proofs.Built.{p_over}

@@ -1,7 +1,7 @@
 -- The partners of the parents to which a changeset's links lead.
-use Rattle.std.proofs.Common.{◌≡◌, ◌≢◌, ◌≤◌, ◌+◌, ◌-◌, ℕ, Bool, true, false, List, [], ◌∷◌, ◌++◌, length, length-append, map, Option, Some, None, refl, sym, ap, subst, ◌∙◌, arith}
+use Rattle.std.proofs.Common.{◌≡◌, ◌≢◌, ◌≤◌, ◌-◌, ℕ, Bool, true, false, List, [], ◌∷◌, ◌++◌, length, length-append, map, Option, Some, None, refl, sym, ap, subst, ◌∙◌, arith}
 use Rattle.std.specs.Prelude.{IsTrue, MatchOption, nat_le, if◌then◌else◌}
-use Rattle.std.proofs.lemmas.Bool.{leb-false, false_from_ne_true}
+use Rattle.std.proofs.lemmas.Bool.{false_from_ne_true}
 use Rattle.std.proofs.lemmas.List.{length-map}
 use Rattle.text_model.specs.Lists.{Each}
 use Rattle.text_model.specs.Id.{Id, IsId, null, is_null}
@@ -12,15 +12,14 @@ use Rattle.hg_model.specs.Revision.{Revision}
 use Rattle.hg_store.specs.Known.{AreAdded}
 use Rattle.view_model.specs.View.{ChangesetView, CommitView, changeset_node, commit_id}
 use Rattle.pair_model.specs.Block.{Block, changesets_in, view_or_none, git_partner, hg_partner, not_null}
-use Rattle.pair_model.specs.MarkList.{ChangesetMarks, IsParentCount}
-use Rattle.pair_model.specs.Octopus.{links_by, links_of, partners_of_parents, parents_of_commit, first_of, second_of, last_id}
+use Rattle.pair_model.specs.MarkList.{ChangesetMarks}
+use Rattle.pair_model.specs.Octopus.{links_by, links_of, partners_of_parents, parents_of_commit, first_of, last_id}
 use Rattle.partner_model.specs.Filled.{HasMarks, Walks}
 use Rattle.partner_model.specs.Partner.{UnmarksChangeset, IsHeldView, IsKnownAs}
 use Rattle.pair_known.specs.declared.known.Known.{Known}
 use Rattle.pair_known.specs.declared.hg_draft.HgDraft.{HgDraft}
 use Rattle.pair_known.specs.Over.{IsChangesetIn}
-use Rattle.pair_known.specs.Partners.{git_at}
-use Rattle.pair_known.proofs.PartnerLemmas.{pairs_of, partners-of-pairs, IsId-commit_id}
+use Rattle.pair_known.proofs.PartnerLemmas.{partners-of-pairs, IsId-commit_id}
 use Rattle.unmark_law.proofs.Tables.{HasNode, HasId, git_has, hg_has, hg_git, git_hg, each_map, map_back, eq_true}
 use Rattle.unmark_law.proofs.ChangesetOne.{q_is, there}
 use Rattle.commit_rule.specs.Parts.{partners_at}

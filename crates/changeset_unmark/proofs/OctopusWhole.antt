@@ -1,5 +1,5 @@
 -- What is found over the partners to which links lead says all of an unmarking.
-use Rattle.std.proofs.Common.{◌≡◌, ◌≤◌, ℕ, Bool, true, false, true≢false, List, [], ◌∷◌, length, Option, Some, None, refl, sym, ap, subst, ◌∙◌, arith}
+use Rattle.std.proofs.Common.{◌≡◌, ◌≤◌, Bool, true, false, true≢false, List, [], ◌∷◌, length, Option, Some, None, refl, sym, ap, subst, ◌∙◌, arith}
 use Rattle.std.specs.Prelude.{◌↔◌, IsTrue, MatchOption, nat_le, slice_get, if◌then◌else◌}
 use Rattle.std.proofs.lemmas.Bool.{leb-true}
 use Rattle.std.proofs.lemmas.List.{length-map}
@@ -11,7 +11,6 @@ use Rattle.view_model.specs.View.{ChangesetView, CommitView}
 use Rattle.pair_model.specs.Block.{Block, Parents, hg_partner}
 use Rattle.pair_model.specs.MarkList.{ChangesetMarks}
 use Rattle.pair_model.specs.Octopus.{links_of, parents_of_commit}
-use Rattle.partner_model.specs.Mark.{handed_on}
 use Rattle.partner_model.specs.Partner.{UnmarksChangeset, IsHeldView}
 use Rattle.pair_known.specs.declared.known.Known.{Known}
 use Rattle.pair_known.specs.declared.hg_draft.HgDraft.{HgDraft}
@@ -21,13 +20,13 @@ use Rattle.commit_rule.specs.Parts.{AreShortBodies}
 use Rattle.commit_rule.proofs.RuledLemmas.{some-old}
 use Rattle.link_rule.specs.Links.{links_along}
 use Rattle.changeset_unmark.specs.Heads.{IsDateOf}
-use Rattle.changeset_unmark.specs.Over.{IsNamedOver, IsOctopusOver}
+use Rattle.changeset_unmark.specs.Over.{IsOctopusOver}
 use Rattle.changeset_unmark.specs.Named.{count_of, commit_named, IsNamed}
 use Rattle.changeset_unmark.specs.Links.{AreLinksThere}
 use Rattle.changeset_unmark.proofs.Built.{unmarks}
 use Rattle.changeset_unmark.proofs.Found.{comes_back, is_named}
 use Rattle.changeset_unmark.proofs.OverLemmas.{items-right}
-use Rattle.changeset_unmark.proofs.OctopusOver.{AreAlike, named-alike, named-back, base, own, named-over, links-are, walked, alike, unmarked}
+use Rattle.changeset_unmark.proofs.OctopusOver.{named-alike, named-back, base, own, named-over, links-are, walked, alike, unmarked}
 use Rattle.changeset_unmark.proofs.WholeLemmas.{OverAnswer, Answer}
 
 pub over-none : (k : Known) (blocks : List Block) (v : ChangesetView) (ids : List Id) (ps : Parents) (m : ChangesetMarks) (o : Option GitDraft) → o ≡ None → OverAnswer k blocks v ids ps m o → ¬ (IsNamed blocks ids ps v m)

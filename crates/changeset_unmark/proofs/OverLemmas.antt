@@ -1,14 +1,14 @@
 -- A changeset over the parents that the commit of its marks has: what the functions are asked over, and the draft of the commit.
-use Rattle.std.proofs.Common.{◌≡◌, ◌≤◌, true, false, List, [], ◌∷◌, ◌++◌, map, Option, Some, None, refl, sym, ap, subst, ◌∙◌}
+use Rattle.std.proofs.Common.{◌≡◌, List, ◌++◌, map, Option, Some, None, sym, ap, subst, ◌∙◌}
 use Rattle.std.specs.Prelude.{IsTrue, not, MatchOption}
 use Rattle.text_model.specs.Lists.{Each, In, SomeOf}
 use Rattle.text_model.specs.Path.{is_fit_path}
 use Rattle.text_model.specs.Id.{Id, is_null, null}
 use Rattle.text_model.proofs.EachLemmas.{Each-weaker}
 use Rattle.git_model.specs.Commit.{Commit}
-use Rattle.git_model.specs.Object.{Object, knows_object}
+use Rattle.git_model.specs.Object.{knows_object}
 use Rattle.git_model.specs.Unfold.{FileRow}
-use Rattle.git_model.specs.Shape.{root_of, trees_of, first_clash}
+use Rattle.git_model.specs.Shape.{root_of, trees_of}
 use Rattle.git_model.specs.Residue.{ResidueItem, fits, carried, residue_of, rows_with}
 use Rattle.git_store.specs.Known.{AreKnown}
 use Rattle.hg_model.specs.Changeset.{Changeset}
@@ -16,12 +16,11 @@ use Rattle.hg_model.specs.Revision.{Revision}
 use Rattle.hg_store.specs.Known.{AreAdded}
 use Rattle.hg_changeset.specs.Values.{changeset_value}
 use Rattle.tree_shape.specs.Sets.{IsFiles}
-use Rattle.view_model.specs.View.{Row, TreeRow, ManifestParents, NoManifest, Over, entry_of_row, ChangesetView, CommitView, IsCommitView, files_among, root_of_rows, text_limit}
+use Rattle.view_model.specs.View.{Row, TreeRow, ManifestParents, entry_of_row, ChangesetView, IsCommitView, files_among, root_of_rows}
 use Rattle.view_model.specs.Held.{file_row_of, IsFileHeld, IsManifestHeld}
-use Rattle.pair_model.specs.Block.{Block, Parents, hg_partner, no_changeset}
-use Rattle.pair_model.specs.MarkList.{ChangesetMarks, IsResidue, IsTreePart}
-use Rattle.pair_model.specs.Octopus.{first_of}
-use Rattle.pair_model.specs.Rule.{tree_row_of, tree_row_with, tree_rows_with, old_residue}
+use Rattle.pair_model.specs.Block.{Block, Parents}
+use Rattle.pair_model.specs.MarkList.{ChangesetMarks, IsTreePart}
+use Rattle.pair_model.specs.Rule.{tree_row_of, tree_row_with, old_residue}
 use Rattle.partner_model.specs.Mark.{first_residue, handed_on}
 use Rattle.partner_model.specs.Filled.{files_in}
 use Rattle.pair_known.specs.declared.known.Known.{Known}
@@ -31,7 +30,7 @@ use Rattle.pair_known.specs.Ruled.{IsMadeCommit, blob_of_row}
 use Rattle.file_rule.specs.Parents.{IsParent, IsParentView}
 use Rattle.file_rule.specs.declared.parents.Parent.{Parent}
 use Rattle.unmark_law.proofs.TreeRows.{files_of, files_with, old_first}
-use Rattle.commit_rule.specs.Parts.{file_of_row, residue_below, WalksThrough, AreRowsOf, AreShortBodies, AreBrought}
+use Rattle.commit_rule.specs.Parts.{file_of_row, residue_below, AreRowsOf, AreShortBodies, AreBrought}
 use Rattle.commit_rule.proofs.FileLemmas.{view-files, same-files}
 use Rattle.commit_rule.proofs.Handed.{short-rows}
 use Rattle.commit_rule.proofs.RuledLemmas.{IsOld, rows_below, are-old, residue-below, residue-old, some-mapped, all-mapped, same-root}

@@ -1,10 +1,10 @@
 -- Items that fit a changeset's files make rows of a commit.
-use Rattle.std.proofs.Common.{◌≡◌, Bool, true, false, List, [], ◌∷◌, map, Option, Some, None, refl, sym, ap, subst, ◌∙◌}
-use Rattle.std.specs.Prelude.{IsTrue, ◌&&◌}
+use Rattle.std.proofs.Common.{◌≡◌, Bool, true, List, [], ◌∷◌, map, refl, sym, ap, subst, ◌∙◌}
+use Rattle.std.specs.Prelude.{IsTrue}
 use Rattle.std.specs.List.{list_all, cons_option}
 use Rattle.std.proofs.lemmas.Bool.{and_parts}
 use Rattle.text_model.specs.Lists.{Each, rises}
-use Rattle.text_model.specs.Text.{Bytes, IsBytes, is_below}
+use Rattle.text_model.specs.Text.{Bytes, is_below}
 use Rattle.text_model.specs.Id.{Id}
 use Rattle.text_model.specs.Path.{is_fit_path}
 use Rattle.git_model.specs.Tree.{Mode, File, GroupFile, Exec, Link as LinkMode, Directory, Gitlink}
@@ -17,7 +17,7 @@ use Rattle.git_model.proofs.FitLemmas.{carried-up}
 use Rattle.tree_shape.specs.Sets.{IsFileRow, IsFiles}
 use Rattle.view_model.specs.View.{ChangesetView, IsChangesetView, TreeRow, files_among, tree_paths, HaveSameBodies}
 use Rattle.view_model.specs.Held.{file_row_of}
-use Rattle.pair_model.specs.MarkList.{IsItemKind, IsResidue, item_paths}
+use Rattle.pair_model.specs.MarkList.{IsResidue}
 use Rattle.pair_model.specs.Rule.{tree_row_of, tree_rows_with}
 use Rattle.partner_model.specs.Mark.{residue_in}
 use Rattle.mark_law.proofs.Residues.{IsItem}

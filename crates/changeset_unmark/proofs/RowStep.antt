@@ -1,7 +1,6 @@
 -- Whether one file more comes back.
-use Rattle.std.proofs.Common.{◌≡◌, ◌++◌, ◌<◌, ℕ, Bool, List, Option, None, Some, Bor, length, get_or, refl, sym, ap, ◌∙◌, bytes_eq, IsTrue}
+use Rattle.std.proofs.Common.{◌≡◌, ◌++◌, ◌<◌, ℕ, Bool, List, Option, None, Some, Bor, length, get_or, refl, sym, ap, ◌∙◌, IsTrue}
 use Rattle.std.specs.Prelude.{option_map, slice_get, ◌↔◌}
-use Rattle.std.specs.List.{find}
 use Rattle.std.specs.Option.{option_copied}
 use Rattle.std.proofs.lemmas.Option.{slice_get-get_or}
 use Rattle.text_model.specs.Text.{Bytes}

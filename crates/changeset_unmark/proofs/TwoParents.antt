@@ -1,28 +1,27 @@
 -- A changeset whose marks name no number of parents, over the partners of its own parents.
-use Rattle.std.proofs.Common.{◌≡◌, ◌≢◌, ◌≤◌, ℕ, Bool, true, false, true≢false, List, [], ◌∷◌, ◌++◌, length, map, Option, Some, None, refl, sym, ap, subst, ◌∙◌, bytes_eq, arith, leb-true, inl, inr}
-use Rattle.std.specs.Prelude.{IsTrue, is_some, not, option_map, unwrap_or, nat_le, if◌then◌else◌, filter}
+use Rattle.std.proofs.Common.{◌≡◌, ◌≢◌, ◌≤◌, Bool, true, false, true≢false, List, [], ◌∷◌, ◌++◌, length, map, Option, Some, None, refl, sym, ap, subst, ◌∙◌, arith, leb-true}
+use Rattle.std.specs.Prelude.{IsTrue, is_some, option_map, nat_le, if◌then◌else◌}
 use Rattle.std.proofs.lemmas.List.{length-map}
 use Rattle.std.proofs.lemmas.Slice.Eq.{bytes_eq-Decides}
 use Rattle.std.proofs.lemmas.Bool.{leb-false}
-use Rattle.text_model.specs.Limits.{parent_limit}
-use Rattle.text_model.specs.Lists.{Each, In, rises}
+use Rattle.text_model.specs.Lists.{Each, rises}
 use Rattle.text_model.specs.Text.{Bytes, is_below}
 use Rattle.text_model.specs.Id.{Id, null, is_null}
-use Rattle.text_model.proofs.EachLemmas.{Each-append, Each-weaker}
+use Rattle.text_model.proofs.EachLemmas.{Each-weaker}
 use Rattle.git_model.specs.Object.{Object}
 use Rattle.git_model.specs.Tree.{has_distinct}
 use Rattle.hg_model.specs.Revision.{Revision, Changesets}
 use Rattle.hg_store.specs.Known.{AreAdded}
-use Rattle.view_model.specs.View.{ChangesetView, IsChangesetView, CommitView, changeset_node, commit_id, tree_paths}
+use Rattle.view_model.specs.View.{ChangesetView, CommitView, changeset_node, commit_id, tree_paths}
 use Rattle.view_model.specs.Held.{IsChangesetHeld, AreChangesetsHeld, AreCommitsHeld}
-use Rattle.pair_model.specs.Block.{Block, node_of, id_of, changesets_in, commits_in, view_or_none, block_of_node, block_of_id, git_partner, hg_partner, not_null, Parents, parents_among, no_changeset}
+use Rattle.pair_model.specs.Block.{Block, node_of, id_of, changesets_in, commits_in, view_or_none, block_of_node, git_partner, hg_partner, not_null, parents_among}
 use Rattle.pair_model.specs.MarkList.{ChangesetMarks}
-use Rattle.pair_model.specs.Octopus.{links_of, partners_of_parents, parents_of_commit, first_of, second_of, last_id}
-use Rattle.partner_model.specs.Mark.{parents_of_changeset, mark_changeset}
+use Rattle.pair_model.specs.Octopus.{links_of, partners_of_parents, parents_of_commit, first_of, second_of}
+use Rattle.partner_model.specs.Mark.{parents_of_changeset}
 use Rattle.partner_model.specs.Partner.{UnmarksChangeset}
 use Rattle.partner_model.specs.Filled.{HasMarks}
 use Rattle.partner_model.specs.Table.{IsTable}
-use Rattle.pair_known.specs.Blocks.{AreBlocksHeld, IsHistoryHeld}
+use Rattle.pair_known.specs.Blocks.{IsHistoryHeld}
 use Rattle.pair_known.specs.Over.{IsChangesetIn}
 use Rattle.pair_known.specs.Partners.{ArePartners, git_at}
 use Rattle.pair_known.specs.declared.known.Known.{Known}
@@ -30,7 +29,7 @@ use Rattle.pair_known.specs.declared.hg_draft.HgDraft.{HgDraft}
 use Rattle.pair_known.proofs.HeldViews.{held-as}
 use Rattle.pair_known.proofs.PartnerLemmas.{pairs_of, git-pairs, partners-of-pairs, distinct-partners, chosen}
 use Rattle.unmark_law.proofs.Tables.{HasNode, HasId, git_has, hg_has, hg_git, git_hg, each_map, map_back, eq_true}
-use Rattle.unmark_law.proofs.ChangesetOne.{p_is, q_is, there}
+use Rattle.unmark_law.proofs.ChangesetOne.{q_is, there}
 use Rattle.depth_law.proofs.Back.{links_none}
 use Rattle.depth_law.proofs.PlainChangeset.{nodes_back, first_is, over_is}
 use Rattle.plain_rule.proofs.BlockLemmas.{parent-view, among-first, among-second}
@@ -38,8 +37,8 @@ use Rattle.file_rule.specs.Parents.{IsParentView}
 use Rattle.commit_rule.specs.Parts.{partners_at}
 use Rattle.commit_rule.proofs.FileLemmas.{paths-same}
 use Rattle.changeset_unmark.specs.Parents.{HavePartners}
-use Rattle.changeset_unmark.specs.Over.{IsLike, IsNamedOver}
-use Rattle.changeset_unmark.specs.Named.{count_of, commit_named}
+use Rattle.changeset_unmark.specs.Over.{IsNamedOver}
+use Rattle.changeset_unmark.specs.Named.{count_of}
 use Rattle.changeset_unmark.proofs.Found.{count_is}
 
 -- ---- the blocks

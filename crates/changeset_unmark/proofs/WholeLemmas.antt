@@ -1,5 +1,5 @@
 -- What an unmarking over given parents says of all unmarkings.
-use Rattle.std.proofs.Common.{◌≡◌, List, [], Option, Some, None, Result, Ok, Err, IfOk, refl, sym, ap, subst, ◌∙◌}
+use Rattle.std.proofs.Common.{◌≡◌, List, Option, Some, None, refl, sym, ap, subst, ◌∙◌}
 use Rattle.std.specs.Prelude.{MatchOption}
 use Rattle.text_model.specs.Lists.{Each}
 use Rattle.text_model.specs.Id.{Id}
@@ -14,7 +14,6 @@ use Rattle.view_model.specs.View.{ChangesetView, CommitView}
 use Rattle.pair_model.specs.Block.{Block, Parents}
 use Rattle.pair_model.specs.MarkList.{ChangesetMarks}
 use Rattle.pair_model.specs.Octopus.{links_of, parents_of_commit}
-use Rattle.partner_model.specs.Mark.{handed_on}
 use Rattle.partner_model.specs.Partner.{UnmarksChangeset, IsHeldView, IsKnownAs}
 use Rattle.pair_known.specs.declared.known.Known.{Known}
 use Rattle.pair_known.specs.declared.hg_draft.HgDraft.{HgDraft}
@@ -26,7 +25,7 @@ use Rattle.changeset_unmark.specs.Heads.{IsDateOf}
 use Rattle.changeset_unmark.specs.Over.{IsNamedOver}
 use Rattle.changeset_unmark.specs.Named.{count_of, commit_named, IsNamed}
 use Rattle.changeset_unmark.proofs.Built.{unmarks}
-use Rattle.changeset_unmark.proofs.Found.{comes_back, is_named}
+use Rattle.changeset_unmark.proofs.Found.{comes_back}
 use Rattle.changeset_unmark.proofs.OverLemmas.{items-right}
 
 -- what is answered over given parents

@@ -1,5 +1,5 @@
 -- The commit over its parents that the marks of a changeset name, and whether it is the changeset's unmarking.
-use Rattle.std.specs.Prelude.{◌≡◌, nat_le, if◌then◌else◌, List, length, Option, None, Some, ℕ}
+use Rattle.std.specs.Prelude.{nat_le, if◌then◌else◌, List, length, Option, None, Some, ℕ}
 use Rattle.text_model.specs.Id.{Id, null}
 use Rattle.view_model.specs.View.{ChangesetView, CommitView}
 use Rattle.pair_model.specs.Block.{Block, Parents}

@@ -1,12 +1,10 @@
 -- What the commit that the marks of a changeset name has beside the files.
-use Rattle.std.specs.Prelude.{◌≡◌, true, false, List, [], map, Option, Some, None, unwrap_or, ⊤}
+use Rattle.std.specs.Prelude.{◌≡◌, true, List, Option, Some, None, unwrap_or, ⊤}
 use Rattle.std.specs.List.{list_all}
 use Rattle.text_model.specs.Path.{is_fit_path}
-use Rattle.text_model.specs.Id.{Id}
-use Rattle.git_model.specs.Object.{Object}
 use Rattle.git_model.specs.Unfold.{FileRow}
 use Rattle.git_model.specs.Shape.{first_clash}
-use Rattle.git_model.specs.Residue.{ResidueItem, carried, fits, rows_with}
+use Rattle.git_model.specs.Residue.{ResidueItem, fits, rows_with}
 use Rattle.partner_model.specs.Mark.{residue_unless}
 
 -- the items by their mark, or those that are handed on

@@ -26,11 +26,7 @@ pub fn partners_of(
 }
 
 // Appends the partner of a node that isn't null, and says whether it has one; the null node needs none.
-fn push_partner(
-    parents: &mut IdList,
-    partners: &Partners,
-    node: &Id,
-) -> Result<bool, NoMemory>
+fn push_partner(parents: &mut IdList, partners: &Partners, node: &Id) -> Result<bool, NoMemory>
     ensures had { IfOk result (λ had. had ≡ true → HavePartners partners.now (node.now ∷ [])) }
     ensures lacks { IfOk result (λ had. had ≡ false → HavePartners partners.now (node.now ∷ []) → ⊥) }
     ensures pushed { IfOk result (λ had. had ≡ true → parents.new ≡ parents.old ++ partners_at partners.now (node.now ∷ [])) }

@@ -32,7 +32,7 @@ pub fn rows_named(
     ensures { IfOk result (λ found. MatchOption found
         (¬ (IsResidueNamed (map file_of_row rows.now) (carried (residue_below git.now old) (map file_of_row rows.now)) tree.now))
         (λ files. IsResidueNamed (map file_of_row rows.now) (carried (residue_below git.now old) (map file_of_row rows.now)) tree.now
-          × (files ≡ rows_with (items_named (carried (residue_below git.now old) (map file_of_row rows.now)) tree.now) (map file_of_row rows.now)))) }
+        × (files ≡ rows_with (items_named (carried (residue_below git.now old) (map file_of_row rows.now)) tree.now) (map file_of_row rows.now)))) }
 {
     let files = files_of(alloc, rows)?;
     let given = handed_on(alloc, git, old, &files)?;
@@ -72,7 +72,7 @@ fn items_named<'a>(
     ensures { IfOk result (λ found. MatchOption found
         (¬ (AreItemsFit files.now tree.entry.now × (residue_unless (items_named given.entry.now tree.entry.now) given.entry.now ≡ tree.entry.now)))
         (λ items. AreItemsFit files.now tree.entry.now × (residue_unless (items_named given.entry.now tree.entry.now) given.entry.now ≡ tree.entry.now)
-          × (items.now ≡ items_named given.entry.now tree.entry.now))) }
+        × (items.now ≡ items_named given.entry.now tree.entry.now))) }
 {
     match tree {
         Some(items) => {

@@ -25,12 +25,7 @@ const MARK: &[u8] = b"\x01\n";
 
 /// Whether the rule gives for each file of a changeset the same flag and a revision with the same node, parents, metadata and blob.
 /// Nothing is hashed.
-pub fn are_rows_ruled(
-    store: &HgStore,
-    h: &HgDraft,
-    first: &Parent<'_>,
-    second: &Parent<'_>,
-) -> bool
+pub fn are_rows_ruled(store: &HgStore, h: &HgDraft, first: &Parent<'_>, second: &Parent<'_>) -> bool
     ensures { (ps : Parents) (v : ChangesetView) → IsDraftOver store.now h.now first.now second.now ps v
         → (IsTrue result ↔ SameRows (ruled_rows ps (map tree_row_of v.rows)) v.rows) }
 {

@@ -15,8 +15,8 @@ ghost use Rattle.changeset_unmark.specs.Named.{commit_named, IsNamed};
 
 use crate::head::head_named;
 use crate::lists::lists_come_back;
-use crate::octopus::{are_distinct, are_links_known};
 use crate::made::made_of;
+use crate::octopus::{are_distinct, are_links_known};
 use crate::parents::partners_of;
 use crate::residue::rows_named;
 use bridge_text::{Id, IdList, NoMemory};
@@ -29,11 +29,15 @@ use pair_known::{GitDraft, HgDraft, Known};
 use std::alloc::Global;
 
 /// The unmarking of a changeset: the commit whose marked changeset it is, with the links that it names. `None` exactly where there is none.
-pub fn unmark_changeset(alloc: Global, known: &Known, h: &HgDraft) -> Result<Option<GitDraft>, NoMemory>
+pub fn unmark_changeset(
+    alloc: Global,
+    known: &Known,
+    h: &HgDraft,
+) -> Result<Option<GitDraft>, NoMemory>
     requires inside { (blocks : List Block) × (v : ChangesetView) × IsChangesetIn known.now blocks h.now v }
     ensures { IfOk result (λ found. (blocks : List Block) (v : ChangesetView) → IsChangesetIn known.now blocks h.now v
         → MatchOption found ((c : CommitView) → ¬ (UnmarksChangeset blocks (IsHeldView known.now.hg) v c))
-          (λ d. (c : CommitView) × UnmarksChangeset blocks (IsHeldView known.now.hg) v c × (AreShortBodies v.rows → IsMadeCommit known.now.git d c))) }
+        (λ d. (c : CommitView) × UnmarksChangeset blocks (IsHeldView known.now.hg) v c × (AreShortBodies v.rows → IsMadeCommit known.now.git d c))) }
 {
     let Some(marks) = marks_of(alloc, &h.changeset.date)? else {
         return Ok(None);
@@ -66,7 +70,7 @@ fn unmark_two(
     requires few { marks.parents ≡ None }
     ensures { IfOk result (λ found. (blocks : List Block) (v : ChangesetView) → IsChangesetIn known.now blocks h.now v
         → MatchOption found ((c : CommitView) → ¬ (UnmarksChangeset blocks (IsHeldView known.now.hg) v c))
-          (λ d. (c : CommitView) × UnmarksChangeset blocks (IsHeldView known.now.hg) v c × (AreShortBodies v.rows → IsMadeCommit known.now.git d c))) }
+        (λ d. (c : CommitView) × UnmarksChangeset blocks (IsHeldView known.now.hg) v c × (AreShortBodies v.rows → IsMadeCommit known.now.git d c))) }
 {
     known.hg.check();
     known.git.check();
@@ -90,7 +94,7 @@ fn unmark_octopus(
     requires many { marks.parents ≡ Some count }
     ensures { IfOk result (λ found. (blocks : List Block) (v : ChangesetView) → IsChangesetIn known.now blocks h.now v
         → MatchOption found ((c : CommitView) → ¬ (UnmarksChangeset blocks (IsHeldView known.now.hg) v c))
-          (λ d. (c : CommitView) × UnmarksChangeset blocks (IsHeldView known.now.hg) v c × (AreShortBodies v.rows → IsMadeCommit known.now.git d c))) }
+        (λ d. (c : CommitView) × UnmarksChangeset blocks (IsHeldView known.now.hg) v c × (AreShortBodies v.rows → IsMadeCommit known.now.git d c))) }
 {
     known.hg.check();
     known.git.check();
@@ -141,7 +145,7 @@ fn unmark_through(
     requires many { marks.parents ≡ Some (length parents) }
     ensures { IfOk result (λ found. (blocks : List Block) (v : ChangesetView) → IsOctopusOver known.now blocks h.now v parents nodes.now
         → MatchOption found ((c : CommitView) → (c.value).parents ≡ parents → ¬ (UnmarksChangeset blocks (IsHeldView known.now.hg) v c))
-          (λ d. (c : CommitView) × UnmarksChangeset blocks (IsHeldView known.now.hg) v c × (AreShortBodies v.rows → IsMadeCommit known.now.git d c))) }
+        (λ d. (c : CommitView) × UnmarksChangeset blocks (IsHeldView known.now.hg) v c × (AreShortBodies v.rows → IsMadeCommit known.now.git d c))) }
 {
     known.hg.check();
     known.git.check();
@@ -150,7 +154,14 @@ fn unmark_through(
         return Ok(None);
     };
     let manifest = parent_of(&known.hg, first).manifest_node;
-    if !are_links_known(alloc, &known.hg, &made.commit, manifest, nodes.as_slice(), &h.p1)? {
+    if !are_links_known(
+        alloc,
+        &known.hg,
+        &made.commit,
+        manifest,
+        nodes.as_slice(),
+        &h.p1,
+    )? {
         return Ok(None);
     }
     Ok(Some(made))
@@ -169,8 +180,8 @@ fn unmark_over(
     requires date { IsDateOf (date_value h.now.changeset.date) (changeset_marks marks) }
     ensures { IfOk result (λ found. (blocks : List Block) (v : ChangesetView) (ps : Parents) → IsNamedOver known.now blocks h.now v parents node.now ps
         → MatchOption found (¬ (IsNamed blocks parents ps v (changeset_marks marks)))
-          (λ d. IsNamed blocks parents ps v (changeset_marks marks) × ((commit_named blocks parents v (changeset_marks marks)).value ≡ d.commit)
-            × (AreShortBodies v.rows → IsMadeCommit known.now.git d (commit_named blocks parents v (changeset_marks marks))))) }
+        (λ d. IsNamed blocks parents ps v (changeset_marks marks) × ((commit_named blocks parents v (changeset_marks marks)).value ≡ d.commit)
+        × (AreShortBodies v.rows → IsMadeCommit known.now.git d (commit_named blocks parents v (changeset_marks marks))))) }
 {
     known.git.check();
     known.hg.check();

@@ -1,11 +1,10 @@
-use Rattle.std.proofs.Common.{◌≡◌, ◌++◌, true≢false, Some, refl, sym, ap, subst, ◌∙◌}
+use Rattle.std.proofs.Common.{◌≡◌, ◌++◌, true≢false, Some, sym, ap, subst, ◌∙◌}
 use Rattle.text_model.specs.Text.{Bytes}
 use Rattle.text_model.proofs.Options.{none_some}
-use Rattle.git_model.specs.Commit.{Commit, IsCommit, IsCommitText, commit_fault, commit_text}
+use Rattle.git_model.specs.Commit.{IsCommit, commit_fault, commit_text}
 use Rattle.git_model.proofs.CommitLemmas.{commit_fault-text}
 use Rattle.git_model.proofs.OneTextLemmas.{one_commit}
 use Rattle.git_object.specs.Faults.{IsCommitFault}
-use Rattle.git_object.specs.declared.fault.CommitFault.{CommitFault}
 use Rattle.changeset_unmark.proofs.head.is_commit.Goals as goal
 
 pub returns-in-Ok : goal.returns-in-Ok

@@ -15,7 +15,7 @@ returns c =
     let committer = c.are_same_bytes-2.ensures.0 c.if-not-are_same_bytes-2.false in
     let headers = c.are_same_bytes-3.ensures.0 c.if-not-are_same_bytes-3.false in (
       (λ t. sym c.a.view_is
-      ∙ (λ i. record { tree_id = tree i; parents = parents i; author = author i; committer = committer i; headers = headers i; message = c.are_same_bytes-4.ensures.0 t i })
-      ∙ c.b.view_is),
+          ∙ (λ i. record { tree_id = tree i; parents = parents i; author = author i; committer = committer i; headers = headers i; message = c.are_same_bytes-4.ensures.0 t i })
+          ∙ c.b.view_is),
       (λ same. c.are_same_bytes-4.ensures.1 (ap (λ (x : Commit). x.message) (c.a.view_is ∙ same ∙ sym c.b.view_is))),
     )

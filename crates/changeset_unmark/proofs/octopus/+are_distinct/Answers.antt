@@ -1,4 +1,4 @@
-use Rattle.std.proofs.Common.{◌≡◌, sym, ap, ◌∙◌, not, ◌&&◌, ◌-◌, Bool, length, take, drop, refl}
+use Rattle.std.proofs.Common.{sym, ap, ◌∙◌, not, ◌&&◌, ◌-◌, Bool, length, take, drop}
 use Rattle.git_model.specs.Tree.{has_distinct}
 use Rattle.changeset_unmark.proofs.DistinctStep.{distinct-step}
 use Rattle.changeset_unmark.proofs.octopus.+are_distinct.Goals as goal

@@ -1,4 +1,4 @@
-use Rattle.std.proofs.Common.{◌≡◌, ◌-◌, ℕ, List, length, true≢false, sym, ap, subst, ◌∙◌}
+use Rattle.std.proofs.Common.{◌-◌, List, length, true≢false, sym, ap, subst, ◌∙◌}
 use Rattle.std.specs.Prelude.{slice_get}
 use Rattle.std.specs.List.{list_all, AllZip}
 use Rattle.text_model.specs.Id.{Id}

@@ -1,4 +1,4 @@
-use Rattle.std.proofs.Common.{◌≡◌, ◌==◌, true, List, length, sym, ap, ◌∙◌}
+use Rattle.std.proofs.Common.{◌≡◌, true, length, sym, ap, ◌∙◌}
 use Rattle.std.specs.List.{list_all}
 use Rattle.std.proofs.lemmas.Bool.Decides.{Decides-eqb}
 use Rattle.text_model.specs.Path.{is_fit_path}

@@ -1,4 +1,4 @@
-use Rattle.std.proofs.Common.{◌≡◌, true≢false, List, Option, Some, None, refl, sym, ap, subst, ◌∙◌}
+use Rattle.std.proofs.Common.{true≢false, List, Option, refl, sym, ap, subst, ◌∙◌}
 use Rattle.text_model.proofs.Options.{none_some}
 use Rattle.git_model.specs.Residue.{ResidueItem}
 use Rattle.partner_model.specs.Mark.{residue_unless}

@@ -2,9 +2,8 @@ use Rattle.std.proofs.Common.{◌≡◌, Bool, true, false, true≢false, refl, 
 use Rattle.std.specs.Prelude.{◌↔◌, IsTrue, option_map}
 use Rattle.std.specs.Option.{option_or}
 use Rattle.text_model.specs.Text.{Bytes}
-use Rattle.text_model.specs.Id.{Id}
 use Rattle.hg_model.specs.FileText.{IsFileText, file_order}
-use Rattle.view_model.specs.View.{FileRevision, file_node, SameRow}
+use Rattle.view_model.specs.View.{file_node, SameRow}
 use Rattle.pair_model.specs.Rule.{with_body}
 use Rattle.pair_known.specs.Rows.{RowValue}
 use Rattle.pair_known.specs.Fresh.{fresh_revision}

@@ -1,4 +1,4 @@
-use Rattle.std.proofs.Common.{◌≡◌, sym, ap, subst, ◌∙◌}
+use Rattle.std.proofs.Common.{subst}
 use Rattle.text_model.specs.Text.{Bytes}
 use Rattle.hg_store.specs.Known.{AreFileParents}
 use Rattle.pair_known.specs.Rows.{RowValue}

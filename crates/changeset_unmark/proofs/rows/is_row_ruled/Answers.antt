@@ -1,5 +1,5 @@
-use Rattle.std.proofs.Common.{◌≡◌, Option, sym, ap, ◌∙◌}
-use Rattle.hg_model.specs.Revision.{Revision, FilesAt, revision_of}
+use Rattle.std.proofs.Common.{ap, ◌∙◌}
+use Rattle.hg_model.specs.Revision.{FilesAt, revision_of}
 use Rattle.pair_known.specs.Rows.{RowValue}
 use Rattle.pair_known.specs.Fresh.{fresh_revision}
 use Rattle.changeset_unmark.proofs.FreshRows.{fresh_row, held_row}

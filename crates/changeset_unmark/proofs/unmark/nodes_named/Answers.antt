@@ -1,5 +1,4 @@
-use Rattle.std.proofs.Common.{◌≡◌, ◌-◌, ◌++◌, ◌∷◌, [], ℕ, List, true≢false, sym, ap, ◌∙◌}
-use Rattle.text_model.specs.Id.{Id}
+use Rattle.std.proofs.Common.{◌-◌, true≢false, sym, ◌∙◌}
 use Rattle.changeset_unmark.proofs.LinkWalk.{walk-none, walk-some}
 use Rattle.changeset_unmark.proofs.unmark.nodes_named.Goals as goal
 

@@ -1,4 +1,4 @@
-use Rattle.std.proofs.Common.{◌≡◌, sym, ap, subst}
+use Rattle.std.proofs.Common.{subst}
 use Rattle.hg_model.specs.Changeset.{Changeset}
 use Rattle.hg_changeset.specs.Values.{date_value}
 use Rattle.partner_model.specs.Partner.{IsHeldView}

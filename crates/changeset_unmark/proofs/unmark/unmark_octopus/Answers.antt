@@ -1,6 +1,4 @@
-use Rattle.std.proofs.Common.{◌≡◌, ◌≤◌, ℕ, Option, true≢false, List, Some, sym, ap, subst, ◌∙◌}
-use Rattle.std.specs.Prelude.{IsTrue}
-use Rattle.text_model.specs.Id.{Id}
+use Rattle.std.proofs.Common.{◌≤◌, true≢false, Some, sym, ap, subst, ◌∙◌}
 use Rattle.git_model.specs.Tree.{has_distinct}
 use Rattle.hg_model.specs.Changeset.{Changeset}
 use Rattle.mark_code.specs.Values.{changeset_marks}
@@ -61,9 +59,12 @@ unmark_through-requires-clause-over c =
     let bounds : (3 ≤ c.args.count) × (c.args.count ≤ 64) = subst IsParentCount c.requires.many c.requires.date.3.parents in
     let leads = leads-found k.hg c.args.count d.p1 d.p2 c.in_ok-nodes.field-0 c.in-Some.nodes c.in-Some.is c.in_ok-nodes.ensures in
     let found = partners_some k.partners c.as_slice.result.now c.in_ok-parents.field-0 c.in-Some-2.parents c.in-Some-2.is c.in_ok-parents.ensures in
-    let distinct = sym (c.are_distinct.ensures ∙ ap has_distinct c.as_slice-2.ensures) ∙ c.if-not-are_distinct.false in
-    (inside.0, inside.1, octopus-over k c.check.ensures inside.0 d inside.1 inside.2 c.args.count bounds.0 bounds.1 c.in-Some.nodes leads
-    (subst (HavePartners c.args.known.now.partners) c.as_slice.ensures found.0) c.in-Some-2.parents (found.1 ∙ ap (partners_at k.partners) c.as_slice.ensures) distinct)
+    let distinct = sym (c.are_distinct.ensures ∙ ap has_distinct c.as_slice-2.ensures) ∙ c.if-not-are_distinct.false in (
+      inside.0,
+      inside.1,
+      octopus-over k c.check.ensures inside.0 d inside.1 inside.2 c.args.count bounds.0 bounds.1 c.in-Some.nodes leads
+          (subst (HavePartners c.args.known.now.partners) c.as_slice.ensures found.0) c.in-Some-2.parents (found.1 ∙ ap (partners_at k.partners) c.as_slice.ensures) distinct,
+    )
 
 pub unmark_through-requires-clause-many : goal.unmark_through-requires-clause-many
 unmark_through-requires-clause-many c =

@@ -1,4 +1,4 @@
-use Rattle.std.proofs.Common.{◌≡◌, true≢false, List, Option, Some, None, refl, sym, ap, subst, ◌∙◌, map}
+use Rattle.std.proofs.Common.{true≢false, sym, ap, subst, ◌∙◌, map}
 use Rattle.text_model.specs.Id.{null}
 use Rattle.hg_model.specs.Changeset.{Changeset}
 use Rattle.hg_changeset.specs.Values.{changeset_value}
@@ -98,5 +98,5 @@ returns c = λ blocks v ps over.
       named,
       made-value k c.check-2.ensures blocks d v ids node ps over c.check.ensures old is-old m fit c.in-Some.files rows.1 c.in_ok-made.made made.files commit,
       (λ short. made-commit k c.check-2.ensures blocks d v ids node ps over c.check.ensures old is-old m fit c.in-Some.files rows.1 c.in_ok-made.made made.files commit
-      (made.blobs v.rows (rows-of k c.check-2.ensures blocks d v ids node ps over)) made.trees_are made.trees_held view short),
+          (made.blobs v.rows (rows-of k c.check-2.ensures blocks d v ids node ps over)) made.trees_are made.trees_held view short),
     )

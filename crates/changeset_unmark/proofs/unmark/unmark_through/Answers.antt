@@ -1,4 +1,4 @@
-use Rattle.std.proofs.Common.{◌≡◌, ◌≤◌, ℕ, List, length, Some, refl, sym, ap, subst, ◌∙◌, arith}
+use Rattle.std.proofs.Common.{List, length, sym, ap, subst, arith}
 use Rattle.std.specs.Prelude.{◌↔◌, IsTrue}
 use Rattle.std.proofs.lemmas.List.{length-map}
 use Rattle.text_model.specs.Id.{Id, object_id, commit}
@@ -21,9 +21,12 @@ at-first-requires c =
 
 pub unmark_over-requires-clause-over : goal.unmark_over-requires-clause-over
 unmark_over-requires-clause-over c =
-    let over = c.requires.over in
-    (over.0, over.1, own c.args.known.now c.check.ensures over.0 c.args.h.now over.1 c.args.parents c.args.nodes.now over.2,
-    named-over c.args.known.now c.check.ensures over.0 c.args.h.now over.1 c.args.parents c.args.nodes.now over.2 c.at-first.result.now c.at-first.ensures)
+    let over = c.requires.over in (
+      over.0,
+      over.1,
+      own c.args.known.now c.check.ensures over.0 c.args.h.now over.1 c.args.parents c.args.nodes.now over.2,
+      named-over c.args.known.now c.check.ensures over.0 c.args.h.now over.1 c.args.parents c.args.nodes.now over.2 c.at-first.result.now c.at-first.ensures,
+    )
 
 pub returns-in_default : goal.returns-in_default
 returns-in_default c = λ blocks v over.
@@ -40,8 +43,12 @@ returns-in_default c = λ blocks v over.
 pub parent_of-manifest-requires : goal.parent_of-manifest-requires
 parent_of-manifest-requires c =
     let over = c.requires.over in
-    record { known = (base c.args.known.now c.check.ensures over.0 c.args.h.now over.1 c.args.parents c.args.nodes.now over.2,
-    first-at-node c.args.known.now c.check.ensures over.0 c.args.h.now over.1 c.args.parents c.args.nodes.now over.2 c.at-first.result.now c.at-first.ensures) }
+    record {
+      known = (
+        base c.args.known.now c.check.ensures over.0 c.args.h.now over.1 c.args.parents c.args.nodes.now over.2,
+        first-at-node c.args.known.now c.check.ensures over.0 c.args.h.now over.1 c.args.parents c.args.nodes.now over.2 c.at-first.result.now c.at-first.ensures,
+      );
+    }
 
 pub returns-then-not-branch : goal.returns-then-not-branch
 returns-then-not-branch c = λ blocks v over.

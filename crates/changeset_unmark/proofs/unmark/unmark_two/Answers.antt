@@ -1,7 +1,6 @@
-use Rattle.std.proofs.Common.{◌≡◌, List, [], ◌∷◌, refl, sym, ap, subst, ◌∙◌}
+use Rattle.std.proofs.Common.{[], ◌∷◌, refl, sym, subst, ◌∙◌}
 use Rattle.text_model.specs.Lists.{Each}
 use Rattle.hg_model.specs.Changeset.{Changeset}
-use Rattle.view_model.specs.View.{ChangesetView}
 use Rattle.mark_code.specs.Values.{changeset_marks}
 use Rattle.partner_model.specs.Mark.{parents_of_changeset}
 use Rattle.partner_model.specs.Partner.{IsHeldView, IsKnownAs}
