@@ -10,7 +10,7 @@ use Rattle.text_model.proofs.Options.{none_some, some_is}
 use Rattle.hg_model.specs.Revision.{Revision, Changesets, revision_of}
 use Rattle.view_model.specs.View.{ChangesetView, changeset_node}
 use Rattle.link_rule.specs.Links.{IsLinkOf}
-use Rattle.link_rule.specs.declared.octopus.Link.{Link}
+use Rattle.link_rule.specs.declared.link.Link.{Link}
 use Rattle.changeset_unmark.specs.Links.{is_its, is_known_link, has_node, IsKnownLink, AreLinksThere}
 
 -- ---- one link

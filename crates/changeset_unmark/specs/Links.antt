@@ -5,7 +5,7 @@ use Rattle.text_model.specs.Id.{Id}
 use Rattle.hg_model.specs.Changeset.{IsDateLine, changeset_text}
 use Rattle.hg_model.specs.Revision.{Revision, Changesets, revision_of}
 use Rattle.view_model.specs.View.{ChangesetView, changeset_node}
-use Rattle.link_rule.specs.declared.octopus.Link.{Link}
+use Rattle.link_rule.specs.declared.link.Link.{Link}
 
 -- the revision has the parents and the text of the link
 abbrev pub is_its : Link → Option Revision → Bool

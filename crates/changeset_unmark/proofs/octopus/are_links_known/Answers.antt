@@ -3,7 +3,7 @@ use Rattle.std.specs.Prelude.{slice_get}
 use Rattle.std.specs.List.{list_all, AllZip}
 use Rattle.text_model.specs.Id.{Id}
 use Rattle.link_rule.specs.Links.{IsLinkOf, links_along}
-use Rattle.link_rule.specs.declared.octopus.Link.{Link}
+use Rattle.link_rule.specs.declared.link.Link.{Link}
 use Rattle.changeset_unmark.specs.Links.{is_known_link, has_node}
 use Rattle.changeset_unmark.proofs.OctopusLemmas.{there, all-there, last-there}
 use Rattle.changeset_unmark.proofs.octopus.are_links_known.Goals as goal
