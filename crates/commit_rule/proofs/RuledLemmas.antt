@@ -73,7 +73,7 @@ pub same-root : (rows : List TreeRow) → root_of_rows rows ≡ root_of (map fil
 unfolding root_of_rows root_of
 same-root rows = ap (λ es. object_id tree (tree_text es)) (same-entries shape_depth rows)
 
-IsId-root : (rows : List TreeRow) → IsId (root_of_rows rows)
+pub IsId-root : (rows : List TreeRow) → IsId (root_of_rows rows)
 unfolding root_of_rows
 IsId-root rows = IsId-object_id tree _
 
@@ -142,7 +142,7 @@ commit-held known (x ∷ blocks) b h i = elim i [
 ]
 
 -- the rows of a tree, where there is one
-rows_below : List Object → Option Id → List FileRow
+pub rows_below : List Object → Option Id → List FileRow
 rows_below known None = []
 rows_below known (Some root) = tree_rows known root
 
@@ -173,7 +173,7 @@ module _ (k : Known) (blocks : List Block) (held : AreBlocksHeld k blocks) (are 
       ap (λ (o : Option Block). unwrap_or (option_map (λ b. residue_of (map file_row_of (b.commit).rows)) o) []) is.1
       ∙ ap residue_of (same-rows is.0 is.1 ∙ ap (tree_rows k.git) (sym is.2))
 
-  are-old : (old : Option Id) → IsOld blocks node old → AreOld (rows_below k.git old)
+  pub are-old : (old : Option Id) → IsOld blocks node old → AreOld (rows_below k.git old)
   unfolding rows_below
   are-old None is = record { files = record { each = tt; in_order = refl }; apart = λ a b i j. absurd i }
   are-old (Some root) is =
@@ -183,7 +183,7 @@ module _ (k : Known) (blocks : List Block) (held : AreBlocksHeld k blocks) (are 
         apart = λ a b i j. apart k.git are.are root (tree_rows k.git root) (unfolds k.git root are.are none) b a j i;
       }
 
-  residue-below : (old : Option Id) → residue_below k.git old ≡ residue_of (rows_below k.git old)
+  pub residue-below : (old : Option Id) → residue_below k.git old ≡ residue_of (rows_below k.git old)
   unfolding rows_below
   residue-below None = refl
   residue-below (Some root) = refl
@@ -230,11 +230,11 @@ pub clear-too : (known : List Revision) (d : HgDraft) (v w : ChangesetView) → 
 clear-too known d v w a b h =
     ap has_clash (sym (draft-paths w.rows) ∙ ap (map (λ (r : RowValue). r.path)) (sym b.rows ∙ a.rows) ∙ draft-paths v.rows) ∙ h
 
-some-mapped : (o : Object) (items : List ResidueItem) (ts : List TreeRow) → SomeOf ts (λ row. o ≡ blob_of_row row) → SomeOf (map (tree_row_with items) ts) (λ row. o ≡ blob_of_row row)
+pub some-mapped : (o : Object) (items : List ResidueItem) (ts : List TreeRow) → SomeOf ts (λ row. o ≡ blob_of_row row) → SomeOf (map (tree_row_with items) ts) (λ row. o ≡ blob_of_row row)
 some-mapped o items [] h = h
 some-mapped o items (t ∷ ts) h = elim h [ inl q ↦ inl q | inr r ↦ inr (some-mapped o items ts r) ]
 
-all-mapped : (known : List Object) (items : List ResidueItem) (ts : List TreeRow) → Each (λ row. IsTrue (knows_object known row.id)) ts → Each (λ row. IsTrue (knows_object known row.id)) (map (tree_row_with items) ts)
+pub all-mapped : (known : List Object) (items : List ResidueItem) (ts : List TreeRow) → Each (λ row. IsTrue (knows_object known row.id)) ts → Each (λ row. IsTrue (knows_object known row.id)) (map (tree_row_with items) ts)
 all-mapped known items [] h = tt
 all-mapped known items (t ∷ ts) h = (h.0, all-mapped known items ts h.1)
 

@@ -75,7 +75,7 @@ same_items_own : (items : List ResidueItem) → same_items items items ≡ true
 same_items_own [] = refl
 same_items_own (i ∷ is) = rw ((bytes_eq-Decides i.path i.path).1 refl, same_item_kind_own i.kind, same_items_own is) refl
 
-residue_none : (a g : List ResidueItem) → a ≡ g → residue_unless a g ≡ None
+pub residue_none : (a g : List ResidueItem) → a ≡ g → residue_unless a g ≡ None
 residue_none a g e = rw (ap (same_items a) (sym e) ∙ same_items_own a) refl
 
 -- a commit all of whose parts are the given ones has no extras

@@ -10,5 +10,7 @@ mod parts;
 mod walk;
 
 pub use form::is_link;
+pub use link::Link;
 pub use links::{link_nodes, links_of};
+pub use octopus::Octopus;
 pub use walk::walk_links;

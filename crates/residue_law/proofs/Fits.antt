@@ -89,7 +89,7 @@ residue_fits blocks Known h c m items k e u =
 
 -- ---- a marked commit's files and residue
 
-bodies_with : (items : List ResidueItem) (hs : List Row) → HaveSameBodies hs (map (tree_row_with items) (map tree_row_of hs))
+pub bodies_with : (items : List ResidueItem) (hs : List Row) → HaveSameBodies hs (map (tree_row_with items) (map tree_row_of hs))
 bodies_with items [] = tt
 bodies_with items (h ∷ hs) = (refl, refl, bodies_with items hs)
 
@@ -178,7 +178,7 @@ view_items (i ∷ is) b f = by i.path i.kind f.0 b.0.0 b.0.1 (view_items is b.1 
     by path (Link id) g p k go = ((g, p, tt, (k, refl)), go)
     by path Empty g p k go = ((g, p, tt, (refl, refl)), go)
 
-view_rows : (items : List ResidueItem) (hs : List Row) → Each (λ row. IsTrue (is_fit_path row.path) × IsBytes row.path × IsRevision row.revision) hs → Each IsItem items → Each (λ i. IsTrue (is_fit_path i.path)) items → Each IsViewRow (tree_rows_with items (map tree_row_of hs))
+pub view_rows : (items : List ResidueItem) (hs : List Row) → Each (λ row. IsTrue (is_fit_path row.path) × IsBytes row.path × IsRevision row.revision) hs → Each IsItem items → Each (λ i. IsTrue (is_fit_path i.path)) items → Each IsViewRow (tree_rows_with items (map tree_row_of hs))
 unfolding tree_rows_with
 view_rows items hs v b f =
     each_ordered IsViewRow (λ (x y : TreeRow). is_below x.path y.path) (map (tree_row_with items) (map tree_row_of hs) ++ map no_content (filter_map row_of_item items))
