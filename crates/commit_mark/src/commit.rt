@@ -9,7 +9,7 @@ ghost use Rattle.partner_model.specs.Mark as mark;
 
 use crate::marks::marks_of;
 use bridge_text::{Bytes, NoMemory};
-use commit_rule::{commit_fits, rule_commit};
+use commit_rule::{bodies_fit, commit_fits, make_commit};
 use mark_code::CommitMarks;
 use pair_known::{GitDraft, HgDraft, Known, PairFault};
 use std::alloc::Global;
@@ -23,7 +23,11 @@ pub fn mark_commit(alloc: Global, known: &Known, h: &HgDraft) -> Result<GitDraft
     ensures limit { result ≡ Err PairLimit → (blocks : List Block) (v : ChangesetView) → IsChangesetOver known.now blocks h.now v
         → CommitFits (mark.mark_commit blocks v) → ⊥ }
 {
-    let plain = rule_commit(alloc, known, h)?;
+    known.git.check();
+    if !bodies_fit(known, h) {
+        return Err(PairFault::PairLimit);
+    }
+    let plain = make_commit(alloc, known, h)?;
     let marks = marks_of(alloc, known, h)?;
     let marked = with_headers(plain, headers_of(alloc, &marks)?);
     if !commit_fits(alloc, &marked)? {

@@ -9,7 +9,7 @@ mod rule;
 mod trees;
 
 pub use fields::author_of;
-pub use fits::commit_fits;
+pub use fits::{bodies_fit, commit_fits};
 pub use fresh::fresh_blobs;
 pub use rows::files_of;
 pub use rule::{make_commit, rule_commit};
