@@ -181,10 +181,10 @@ module _ (k : Known) (blocks : List Block) (d : GitDraft) (v : CommitView) (over
       flipped true b e = ap not (sym e)
       flipped false b e = ap not (sym e)
 
-  right-first : Each (IsRightRow k.hg) (ps.first).rows
+  pub right-first : Each (IsRightRow k.hg) (ps.first).rows
   right-first = rows-at k.hg added _ ps.first in-first
 
-  right-second : Each (IsRightRow k.hg) (ps.second).rows
+  pub right-second : Each (IsRightRow k.hg) (ps.second).rows
   right-second = rows-at k.hg added _ ps.second in-second
 
   abbrev IsRow : Row → Type 0
@@ -211,7 +211,7 @@ module _ (k : Known) (blocks : List Block) (d : GitDraft) (v : CommitView) (over
       }
 
   -- the parents of the commit differ, so the changeset's do
-  whole : length (v.value).parents ≤ 2 → ArePartners (pairs_of blocks) → IsLooseView (changeset_by_rule blocks v) → IsChangesetView (changeset_by_rule blocks v)
+  pub whole : length (v.value).parents ≤ 2 → ArePartners (pairs_of blocks) → IsLooseView (changeset_by_rule blocks v) → IsChangesetView (changeset_by_rule blocks v)
   unfolding rule_changeset
   whole few are view =
       let p-is : ps.p ≡ first_of (map (hg_partner blocks) (v.value).parents) = ap (λ (x : Parents). x.p) (parents-are blocks v few) in

@@ -7,5 +7,5 @@ mod parents;
 mod rule;
 
 pub use fits::changeset_fits;
-pub use parents::parents_of;
+pub use parents::{ParentNodes, parent_nodes, parent_with};
 pub use rule::{make_changeset, rule_changeset};

@@ -1,9 +1,9 @@
 -- The changeset that marks name, part by part.
-use Rattle.std.proofs.Common.{◌≡◌, ◌≤◌, ◌++◌, Bool, true, false, List, [], ◌∷◌, length, map, Option, Some, None, refl, sym, ap, subst, ◌∙◌}
+use Rattle.std.proofs.Common.{◌≡◌, ◌≤◌, ◌++◌, Bool, true, false, not, List, [], ◌∷◌, length, map, Option, Some, None, refl, sym, ap, subst, ◌∙◌}
 use Rattle.std.specs.Prelude.{IfSome, IsTrue}
 use Rattle.text_model.specs.Lists.{Each, rises}
 use Rattle.text_model.specs.Text.{Bytes, IsBytes, is_below}
-use Rattle.text_model.specs.Id.{Id}
+use Rattle.text_model.specs.Id.{Id, is_null}
 use Rattle.text_model.specs.Path.{is_fit_path}
 use Rattle.text_model.proofs.Options.{some_is}
 use Rattle.git_model.specs.Tree.{is_blob_mode}
@@ -26,14 +26,15 @@ use Rattle.pair_known.specs.Over.{IsCommitOver}
 use Rattle.pair_known.specs.declared.known.Known.{Known}
 use Rattle.pair_known.specs.declared.git_draft.GitDraft.{GitDraft}
 use Rattle.pair_known.specs.declared.draft_texts.DraftTexts.{DraftTexts}
+use Rattle.pair_known.specs.Rows.{RowValue, row_value}
 use Rattle.file_rule.specs.Parents.{IsParent}
 use Rattle.file_rule.specs.declared.parents.Parent.{Parent}
 use Rattle.file_rule.specs.declared.rows.RuledRows.{RuledRows}
+use Rattle.manifest_rule.specs.Listed.{AreListedOver}
 use Rattle.manifest_rule.specs.declared.manifest.RuledManifest.{RuledManifest}
-use Rattle.changeset_rule.proofs.ParentLemmas.{parents-are}
+use Rattle.changeset_rule.proofs.ParentLemmas.{parents-are, ids}
 use Rattle.changeset_rule.proofs.RowViews.{row-revision}
-use Rattle.changeset_rule.proofs.ViewLemmas.{parent-id}
-use Rattle.changeset_rule.proofs.RuledLemmas.{first-view, second-view, are-rows, right-first, right-second, null-first, one-parent}
+use Rattle.changeset_rule.proofs.RuledLemmas.{are-rows, right-first, right-second, null-first, one-parent}
 use Rattle.commit_unmark.specs.Named.{AreFilesOver, AreRight, AreBroughtRows, NamesNoRows}
 use Rattle.commit_unmark.specs.Parts.{manifest_by, files_by, fields_by, IsManifestWith}
 use Rattle.commit_unmark.specs.Changesets.{NamesNoChangeset, NamesChangeset}
@@ -55,9 +56,9 @@ module _ (k : Known) (blocks : List Block) (d : GitDraft) (v : CommitView) (over
 
   pub files-over : (first second : Parent) → IsParent k.hg first ps.first → IsParent k.hg second ps.second → AreFilesOver k.hg (d.fresh ++ k.git) d.files first second ps v.rows
   files-over first second a b = record {
-    rows = are-rows k blocks d v over few added first second a b;
+    rows = are-rows k blocks d v over first second a b;
     ruled = each-of _ (λ (t : TreeRow). is_blob_mode t.mode ≡ true → IsRevision (ruled_row ps t).revision) v.rows
-        (λ t h file. row-revision k.hg added ps (right-first k blocks d v over few added) (right-second k blocks d v over few added) t h.2) (over.view).rows;
+        (λ t h file. row-revision k.hg added ps (right-first k blocks d v over) (right-second k blocks d v over) t h.2) (over.view).rows;
   }
 
   pub no-rows : NamesNoRows ps marks v.rows → NamesNoChangeset blocks v marks
@@ -82,6 +83,20 @@ module _ (k : Known) (blocks : List Block) (d : GitDraft) (v : CommitView) (over
         let up = files-rise v.rows (over.view).in_order in
         let zip = rows-files ps (files_among v.rows) marks rows (file_rows v.rows (over.view).rows) (walked ps (files_among v.rows) marks list.1 up ∙ filled) in
         subst (λ (x : List Bytes). IsTrue (rises is_below x)) (sym (paths-are rows (files_among v.rows) zip)) up
+
+    flipped : (null there : Bool) → there ≡ not null → null ≡ not there
+    flipped true there e = ap not (sym e)
+    flipped false there e = ap not (sym e)
+
+    pub are-listed : IsMarkList marks → (values : List RowValue) → values ≡ map row_value rows → (first second : Parent) → IsParent k.hg first ps.first → IsParent k.hg second ps.second
+        → first.is_there ≡ not (is_null ps.p) → second.is_there ≡ not (is_null ps.q) → AreListedOver values first second ps rows
+    are-listed list values of_rows first second a b there1 there2 = record {
+      of_rows = of_rows;
+      rising = paths-rise list;
+      there = (flipped (is_null ps.p) first.is_there there1, flipped (is_null ps.q) second.is_there there2);
+      in_first = sym a.entries;
+      in_second = sym b.entries;
+    }
 
     module _ (list : IsMarkList marks) (right : AreRight rows) (manifest : AreManifestParents (manifest_by ps marks rows) rows)
         (fields : IsChangeset (fields_by v.value marks (manifest_node (manifest_by ps marks rows) rows) (files_by ps marks rows))) where
@@ -109,9 +124,9 @@ module _ (k : Known) (blocks : List Block) (d : GitDraft) (v : CommitView) (over
           let are = subst ArePartners (over.history.held).partners over.history.partners in
           let zip = rows-files ps (files_among v.rows) marks rows (file_rows v.rows (over.view).rows) (walked ps (files_among v.rows) marks list.1 (files-rise v.rows (over.view).in_order) ∙ filled) in
           record {
-            parents = (parent-id k.hg added ps.p ps.first (first-view k blocks d v over few added), parent-id k.hg added ps.q ps.second (second-view k blocks d v over few added));
-            first = λ e. q-is ∙ null-first k blocks d v over few added (v.value).parents few over.parents (sym p-is ∙ e);
-            distinct = λ e. p-is ∙ one-parent k blocks d v over few added are (v.value).parents few over.parents (over.view).distinct (sym p-is ∙ e ∙ q-is);
+            parents = ids k blocks d v over;
+            first = λ e. q-is ∙ null-first k blocks v over.history (v.value).parents few over.parents (sym p-is ∙ e);
+            distinct = λ e. p-is ∙ one-parent k blocks v over.history are (v.value).parents few over.parents (over.view).distinct (sym p-is ∙ e ∙ q-is);
             fields = fields;
             manifest = manifest;
             rows = row-views (files_among v.rows) rows (among v.rows (each-of _ _ v.rows (λ t h. (h.0, h.1, h.2)) (over.view).rows)) (paths-are rows (files_among v.rows) zip) right;

@@ -5,7 +5,7 @@ ghost use Rattle.pair_model.specs.Block.{Parents};
 ghost use Rattle.partner_model.specs.Filled.{manifest_mark, files_mark, first_mark};
 ghost use Rattle.mark_code.specs.Values.{manifest_value, mark_value};
 ghost use Rattle.pair_known.specs.Rows.{row_value};
-ghost use Rattle.manifest_rule.specs.Listed.{AreListed};
+ghost use Rattle.manifest_rule.specs.Listed.{AreListedOver};
 ghost use Rattle.manifest_rule.specs.Over.{AreRowsOver};
 ghost use Rattle.commit_unmark.specs.Parts.{manifest_by, files_by, IsManifestWith};
 
@@ -13,9 +13,8 @@ use crate::marks::{Kind, first_of};
 use bridge_text::{Bytes, Id, NoMemory, Paths, node_id};
 use file_rule::Parent;
 use hg_filelog::canonical_pair;
-use hg_manifest::Manifest;
 use hg_store::HgStore;
-use manifest_rule::{RuledManifest, lines_of, make_manifest, ruled_files};
+use manifest_rule::{RuledManifest, files_over, lines_of, make_manifest};
 use mark_code::{CommitMarks, ManifestRev, Mark};
 use pair_known::HgRows;
 use std::alloc::Global;
@@ -120,15 +119,14 @@ pub fn named_files(
     alloc: Global,
     marks: &CommitMarks,
     rows: &HgRows,
-    first: Option<&Manifest>,
-    second: Option<&Manifest>,
+    first: &Parent<'_>,
+    second: &Parent<'_>,
 ) -> Result<Paths, NoMemory>
-    ensures { IfOk result (λ files. (ps : Parents) (hs : List Row)
-        → AreListed rows.now (option_map (λ m. m.now) first.entry) (option_map (λ m. m.now) second.entry) ps hs → files ≡ files_by ps marks.now hs) }
+    ensures { IfOk result (λ files. (ps : Parents) (hs : List Row) → AreListedOver rows.now first.now second.now ps hs → files ≡ files_by ps marks.now hs) }
 {
     match marked_files(marks) {
         Some(paths) => copy_of(alloc, paths),
-        None => ruled_files(alloc, rows, first, second),
+        None => files_over(alloc, rows, first, second),
     }
 }
 

@@ -9,8 +9,7 @@ use crate::fields::named_fields;
 use crate::manifest::{named_files, named_manifest};
 use crate::rows::named_rows;
 use bridge_text::NoMemory;
-use changeset_rule::parents_of;
-use file_rule::parent_of;
+use changeset_rule::{parent_nodes, parent_with};
 use mark_code::CommitMarks;
 use pair_known::{DraftTexts, GitDraft, HgDraft, Known};
 use std::alloc::Global;
@@ -29,9 +28,9 @@ pub fn named_changeset(
         → MatchOption found (NamesNoChangeset blocks v marks.now) (NamesChangeset known.now.hg blocks v marks.now)) }
 {
     marks.are_marks();
-    let (p1, p2) = parents_of(known, c);
-    let first = parent_of(&known.hg, &p1);
-    let second = parent_of(&known.hg, &p2);
+    let nodes = parent_nodes(alloc, known, c)?;
+    let first = parent_with(&known.hg, &nodes.p1, &nodes.first);
+    let second = parent_with(&known.hg, &nodes.p2, &nodes.second);
     let Some(made) = named_rows(alloc, known, c, marks, &first, &second)? else {
         return Ok(None);
     };
@@ -39,13 +38,13 @@ pub fn named_changeset(
     else {
         return Ok(None);
     };
-    let files = named_files(alloc, marks, &made.rows, first.entries(), second.entries())?;
+    let files = named_files(alloc, marks, &made.rows, &first, &second)?;
     let Some(changeset) = named_fields(alloc, &c.commit, marks, manifest.node, files)? else {
         return Ok(None);
     };
     Ok(Some(HgDraft {
-        p1,
-        p2,
+        p1: nodes.p1,
+        p2: nodes.p2,
         changeset,
         manifest: manifest.manifest,
         rows: made.rows,

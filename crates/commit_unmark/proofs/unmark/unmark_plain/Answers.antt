@@ -21,5 +21,5 @@ returns c = λ blocks v over.
     let few = few-of k blocks d v over c.requires.few in
     let plain = (c.in_ok-is_plain_commit.ensures blocks v over).0 c.if-not-branch.false in
     let made = c.in_ok-changeset.ensures blocks v over in
-    let view = whole k blocks d v over few over.history.added (subst ArePartners (over.history.held).partners over.history.partners) made.view in
+    let view = whole k blocks d v over few (subst ArePartners (over.history.held).partners over.history.partners) made.view in
     (changeset_by_rule blocks v, plain-is_unmarked blocks t v (narrow-of k blocks d v over c.requires.few) plain view, made)
