@@ -6,7 +6,7 @@ use Rattle.text_model.specs.Path.{is_fit_path}
 use Rattle.text_model.specs.Id.{Id, is_null, null}
 use Rattle.text_model.proofs.EachLemmas.{Each-weaker}
 use Rattle.git_model.specs.Commit.{Commit}
-use Rattle.git_model.specs.Object.{knows_object}
+use Rattle.git_model.specs.Object.{Object, knows_object}
 use Rattle.git_model.specs.Unfold.{FileRow}
 use Rattle.git_model.specs.Shape.{root_of, trees_of}
 use Rattle.git_model.specs.Residue.{ResidueItem, fits, carried, residue_of, rows_with}
