@@ -19,6 +19,7 @@ use Rattle.pair_known.specs.Ruled.{IsMadeCommit}
 use Rattle.commit_rule.specs.Parts.{AreShortBodies}
 use Rattle.commit_rule.proofs.RuledLemmas.{some-old}
 use Rattle.link_rule.specs.Links.{links_along}
+use Rattle.changeset_unmark.specs.Drafts.{IsBuiltCommit}
 use Rattle.changeset_unmark.specs.Heads.{IsDateOf}
 use Rattle.changeset_unmark.specs.Over.{IsOctopusOver}
 use Rattle.changeset_unmark.specs.Named.{count_of, commit_named, IsNamed}
@@ -33,7 +34,7 @@ pub over-none : (k : Known) (blocks : List Block) (v : ChangesetView) (ids : Lis
 over-none k blocks v ids ps m o e h = subst (λ (x : Option GitDraft). OverAnswer k blocks v ids ps m x) e h
 
 pub over-some : (k : Known) (blocks : List Block) (v : ChangesetView) (ids : List Id) (ps : Parents) (m : ChangesetMarks) (o : Option GitDraft) (made : GitDraft) → o ≡ Some made → OverAnswer k blocks v ids ps m o
-    → IsNamed blocks ids ps v m × ((commit_named blocks ids v m).value ≡ made.commit) × (AreShortBodies v.rows → IsMadeCommit k.git made (commit_named blocks ids v m))
+    → IsNamed blocks ids ps v m × IsBuiltCommit k.git made (commit_named blocks ids v m) × (AreShortBodies v.rows → IsMadeCommit k.git made (commit_named blocks ids v m))
 over-some k blocks v ids ps m o made e h = subst (λ (x : Option GitDraft). OverAnswer k blocks v ids ps m x) e h
 
 many-count : (ids : List Id) → 3 ≤ length ids → count_of ids ≡ Some (length ids)
@@ -88,7 +89,7 @@ module _ (k : Known) (added : AreAdded k.hg) (are : AreKnown k.git) (blocks : Li
 
 -- what is answered over the parents is answered of the changeset, whose unmarking has no others
 pub through-whole : (k : Known) (blocks : List Block) (v : ChangesetView) (ids : List Id) → ((c : CommitView) → UnmarksChangeset blocks (IsHeldView k.hg) v c → (c.value).parents ≡ ids) → (o : Option GitDraft)
-    → MatchOption o ((c : CommitView) → (c.value).parents ≡ ids → ¬ (UnmarksChangeset blocks (IsHeldView k.hg) v c)) (λ d. (c : CommitView) × UnmarksChangeset blocks (IsHeldView k.hg) v c × (AreShortBodies v.rows → IsMadeCommit k.git d c))
+    → MatchOption o ((c : CommitView) → (c.value).parents ≡ ids → ¬ (UnmarksChangeset blocks (IsHeldView k.hg) v c)) (λ d. (c : CommitView) × UnmarksChangeset blocks (IsHeldView k.hg) v c × IsBuiltCommit k.git d c × (AreShortBodies v.rows → IsMadeCommit k.git d c))
     → Answer k blocks v o
 through-whole k blocks v ids only None h = λ c u. h c (only c u) u
 through-whole k blocks v ids only (Some made) h = h

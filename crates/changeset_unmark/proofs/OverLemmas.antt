@@ -6,7 +6,7 @@ use Rattle.text_model.specs.Path.{is_fit_path}
 use Rattle.text_model.specs.Id.{Id, is_null, null}
 use Rattle.text_model.proofs.EachLemmas.{Each-weaker}
 use Rattle.git_model.specs.Commit.{Commit}
-use Rattle.git_model.specs.Object.{knows_object}
+use Rattle.git_model.specs.Object.{Object, knows_object}
 use Rattle.git_model.specs.Unfold.{FileRow}
 use Rattle.git_model.specs.Shape.{root_of, trees_of}
 use Rattle.git_model.specs.Residue.{ResidueItem, fits, carried, residue_of, rows_with}
@@ -34,6 +34,7 @@ use Rattle.commit_rule.specs.Parts.{file_of_row, residue_below, AreRowsOf, AreSh
 use Rattle.commit_rule.proofs.FileLemmas.{view-files, same-files}
 use Rattle.commit_rule.proofs.Handed.{short-rows}
 use Rattle.commit_rule.proofs.RuledLemmas.{IsOld, rows_below, are-old, residue-below, residue-old, some-mapped, all-mapped, same-root}
+use Rattle.changeset_unmark.specs.Drafts.{IsBuiltCommit}
 use Rattle.changeset_unmark.specs.Heads.{IsHead, head_named}
 use Rattle.changeset_unmark.specs.Residues.{items_named, AreItemsFit, IsResidueNamed}
 use Rattle.changeset_unmark.specs.Over.{IsDraftOver, IsLike, IsNamedOver}
@@ -125,7 +126,7 @@ module _ (k : Known) (added : AreAdded k.hg) (blocks : List Block) (d : HgDraft)
           files-is ∙ files-are ∙ (λ i. rows_with (items_named (handed i) m.tree) (files-of i))
           ∙ sym (joined v over.inside.view (items_named (handed_on blocks ids v.rows) m.tree) fit)
 
-      pub made-value : made.commit ≡ record (head_named null ids (changeset_value d.changeset) m) { tree_id = root_of files } → (commit_named blocks ids v m).value ≡ made.commit
+      made-value : made.commit ≡ record (head_named null ids (changeset_value d.changeset) m) { tree_id = root_of files } → (commit_named blocks ids v m).value ≡ made.commit
       made-value commit =
           let root : root_of_rows (commit_named blocks ids v m).rows ≡ root_of files = same-root (commit_named blocks ids v m).rows ∙ ap root_of (sym made-files ∙ files-is) in
           (λ i. head_named (root i) ids (over.inside.draft.fields i) m) ∙ sym commit
@@ -133,10 +134,11 @@ module _ (k : Known) (added : AreAdded k.hg) (blocks : List Block) (d : HgDraft)
       among : map (tree_row_with (items_named (handed_on blocks ids v.rows) m.tree)) (map tree_row_of v.rows) ≡ files_among (commit_named blocks ids v m).rows
       among = sym (files_with (items_named (handed_on blocks ids v.rows) m.tree) v.rows over.inside.view.in_order)
 
-      pub made-commit : made.commit ≡ record (head_named null ids (changeset_value d.changeset) m) { tree_id = root_of files } → AreBrought k.git made.fresh (map tree_row_of v.rows)
-          → Each (λ o. In o (trees_of files)) made.trees → Each (λ o. In o (made.trees ++ k.git)) (trees_of files) → IsCommitView (commit_named blocks ids v m) → AreShortBodies v.rows
-          → IsMadeCommit k.git made (commit_named blocks ids v m)
-      made-commit commit brought trees-are trees-held view short =
+      -- the draft, whatever the lengths of the bodies
+      pub built-commit : made.commit ≡ record (head_named null ids (changeset_value d.changeset) m) { tree_id = root_of files } → AreBrought k.git made.fresh (map tree_row_of v.rows)
+          → Each (λ o. In o (trees_of files)) made.trees → Each (λ o. In o (made.trees ++ k.git)) (trees_of files) → IsCommitView (commit_named blocks ids v m)
+          → IsBuiltCommit k.git made (commit_named blocks ids v m)
+      built-commit commit brought trees-are trees-held view =
           let items = items_named (handed_on blocks ids v.rows) m.tree in
           record {
             value = made-value commit;
@@ -147,9 +149,23 @@ module _ (k : Known) (added : AreAdded k.hg) (blocks : List Block) (d : HgDraft)
                 (λ o h. subst (λ (rs : List TreeRow). SomeOf rs (λ row. o ≡ blob_of_row row)) among (some-mapped o items (map tree_row_of v.rows) h)) made.fresh brought.blobs;
             are_new = brought.are_new;
             all = subst (Each (λ row. IsTrue (knows_object (made.fresh ++ k.git) row.id))) among (all-mapped (made.fresh ++ k.git) items (map tree_row_of v.rows) brought.all);
-            short = short-rows items v.rows short;
             view = view;
           }
+
+-- with short bodies it is all of a made commit
+pub made-commit : (known : List Object) (d : GitDraft) (blocks : List Block) (ids : List Id) (v : ChangesetView) (m : ChangesetMarks) → IsBuiltCommit known d (commit_named blocks ids v m) → AreShortBodies v.rows
+    → IsMadeCommit known d (commit_named blocks ids v m)
+made-commit known d blocks ids v m built short = record {
+  value = built.value;
+  files = built.files;
+  trees_are = built.trees_are;
+  trees_held = built.trees_held;
+  blobs = built.blobs;
+  are_new = built.are_new;
+  all = built.all;
+  short = short-rows (items_named (handed_on blocks ids v.rows) m.tree) v.rows short;
+  view = built.view;
+}
 
 -- ---- what is found, or not
 

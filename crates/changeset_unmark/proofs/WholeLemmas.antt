@@ -21,6 +21,7 @@ use Rattle.pair_known.specs.declared.git_draft.GitDraft.{GitDraft}
 use Rattle.pair_known.specs.Ruled.{IsMadeCommit}
 use Rattle.commit_rule.specs.Parts.{AreShortBodies}
 use Rattle.commit_rule.proofs.RuledLemmas.{some-old}
+use Rattle.changeset_unmark.specs.Drafts.{IsBuiltCommit}
 use Rattle.changeset_unmark.specs.Heads.{IsDateOf}
 use Rattle.changeset_unmark.specs.Over.{IsNamedOver}
 use Rattle.changeset_unmark.specs.Named.{count_of, commit_named, IsNamed}
@@ -31,12 +32,12 @@ use Rattle.changeset_unmark.proofs.OverLemmas.{items-right}
 -- what is answered over given parents
 abbrev pub OverAnswer : Known → List Block → ChangesetView → List Id → Parents → ChangesetMarks → Option GitDraft → Type 0
 OverAnswer k blocks v ids ps m found =
-    MatchOption found (¬ (IsNamed blocks ids ps v m)) (λ d. IsNamed blocks ids ps v m × ((commit_named blocks ids v m).value ≡ d.commit) × (AreShortBodies v.rows → IsMadeCommit k.git d (commit_named blocks ids v m)))
+    MatchOption found (¬ (IsNamed blocks ids ps v m)) (λ d. IsNamed blocks ids ps v m × IsBuiltCommit k.git d (commit_named blocks ids v m) × (AreShortBodies v.rows → IsMadeCommit k.git d (commit_named blocks ids v m)))
 
 -- what is answered of the changeset
 abbrev pub Answer : Known → List Block → ChangesetView → Option GitDraft → Type 0
 Answer k blocks v found =
-    MatchOption found ((c : CommitView) → ¬ (UnmarksChangeset blocks (IsHeldView k.hg) v c)) (λ d. (c : CommitView) × UnmarksChangeset blocks (IsHeldView k.hg) v c × (AreShortBodies v.rows → IsMadeCommit k.git d c))
+    MatchOption found ((c : CommitView) → ¬ (UnmarksChangeset blocks (IsHeldView k.hg) v c)) (λ d. (c : CommitView) × UnmarksChangeset blocks (IsHeldView k.hg) v c × IsBuiltCommit k.git d c × (AreShortBodies v.rows → IsMadeCommit k.git d c))
 
 module _ (k : Known) (added : AreAdded k.hg) (are : AreKnown k.git) (blocks : List Block) (d : HgDraft) (v : ChangesetView) (ids : List Id) (node : Id) (ps : Parents) (over : IsNamedOver k blocks d v ids node ps)
     (m : ChangesetMarks) (date : IsDateOf (v.fields).date m) (count : count_of ids ≡ m.parents) where
@@ -51,6 +52,7 @@ module _ (k : Known) (added : AreAdded k.hg) (are : AreKnown k.git) (blocks : Li
       let c = commit_named blocks ids v m in (
         commit_named blocks ids v m,
         unmarks blocks (IsHeldView k.hg) v over.inside.view m date ids ps fit (parents (commit_named blocks ids v m) refl) over.parents.0 over.parents.1 over.paired over.few over.distinct count (walked some.0) some.0,
+        some.1,
         some.2,
       )
 

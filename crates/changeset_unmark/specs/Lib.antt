@@ -5,3 +5,4 @@ pub mod Parents
 pub mod Over
 pub mod Named
 pub mod Links
+pub mod Drafts

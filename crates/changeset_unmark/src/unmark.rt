@@ -9,6 +9,7 @@ ghost use Rattle.pair_known.specs.Over.{IsChangesetIn};
 ghost use Rattle.pair_known.specs.Ruled.{IsMadeCommit};
 ghost use Rattle.mark_code.specs.Values.{changeset_marks};
 ghost use Rattle.commit_rule.specs.Parts.{AreShortBodies};
+ghost use Rattle.changeset_unmark.specs.Drafts.{IsBuiltCommit};
 ghost use Rattle.changeset_unmark.specs.Heads.{IsDateOf};
 ghost use Rattle.changeset_unmark.specs.Over.{IsNamedOver, IsOctopusOver, LeadsTo};
 ghost use Rattle.changeset_unmark.specs.Named.{commit_named, IsNamed};
@@ -37,7 +38,8 @@ pub fn unmark_changeset(
     requires inside { (blocks : List Block) × (v : ChangesetView) × IsChangesetIn known.now blocks h.now v }
     ensures { IfOk result (λ found. (blocks : List Block) (v : ChangesetView) → IsChangesetIn known.now blocks h.now v
         → MatchOption found ((c : CommitView) → ¬ (UnmarksChangeset blocks (IsHeldView known.now.hg) v c))
-        (λ d. (c : CommitView) × UnmarksChangeset blocks (IsHeldView known.now.hg) v c × (AreShortBodies v.rows → IsMadeCommit known.now.git d c))) }
+        (λ d. (c : CommitView) × UnmarksChangeset blocks (IsHeldView known.now.hg) v c × IsBuiltCommit known.now.git d c
+        × (AreShortBodies v.rows → IsMadeCommit known.now.git d c))) }
 {
     let Some(marks) = marks_of(alloc, &h.changeset.date)? else {
         return Ok(None);
@@ -70,7 +72,8 @@ fn unmark_two(
     requires few { marks.parents ≡ None }
     ensures { IfOk result (λ found. (blocks : List Block) (v : ChangesetView) → IsChangesetIn known.now blocks h.now v
         → MatchOption found ((c : CommitView) → ¬ (UnmarksChangeset blocks (IsHeldView known.now.hg) v c))
-        (λ d. (c : CommitView) × UnmarksChangeset blocks (IsHeldView known.now.hg) v c × (AreShortBodies v.rows → IsMadeCommit known.now.git d c))) }
+        (λ d. (c : CommitView) × UnmarksChangeset blocks (IsHeldView known.now.hg) v c × IsBuiltCommit known.now.git d c
+        × (AreShortBodies v.rows → IsMadeCommit known.now.git d c))) }
 {
     known.hg.check();
     known.git.check();
@@ -94,7 +97,8 @@ fn unmark_octopus(
     requires many { marks.parents ≡ Some count }
     ensures { IfOk result (λ found. (blocks : List Block) (v : ChangesetView) → IsChangesetIn known.now blocks h.now v
         → MatchOption found ((c : CommitView) → ¬ (UnmarksChangeset blocks (IsHeldView known.now.hg) v c))
-        (λ d. (c : CommitView) × UnmarksChangeset blocks (IsHeldView known.now.hg) v c × (AreShortBodies v.rows → IsMadeCommit known.now.git d c))) }
+        (λ d. (c : CommitView) × UnmarksChangeset blocks (IsHeldView known.now.hg) v c × IsBuiltCommit known.now.git d c
+        × (AreShortBodies v.rows → IsMadeCommit known.now.git d c))) }
 {
     known.hg.check();
     known.git.check();
@@ -145,7 +149,8 @@ fn unmark_through(
     requires many { marks.parents ≡ Some (length parents) }
     ensures { IfOk result (λ found. (blocks : List Block) (v : ChangesetView) → IsOctopusOver known.now blocks h.now v parents nodes.now
         → MatchOption found ((c : CommitView) → (c.value).parents ≡ parents → ¬ (UnmarksChangeset blocks (IsHeldView known.now.hg) v c))
-        (λ d. (c : CommitView) × UnmarksChangeset blocks (IsHeldView known.now.hg) v c × (AreShortBodies v.rows → IsMadeCommit known.now.git d c))) }
+        (λ d. (c : CommitView) × UnmarksChangeset blocks (IsHeldView known.now.hg) v c × IsBuiltCommit known.now.git d c
+        × (AreShortBodies v.rows → IsMadeCommit known.now.git d c))) }
 {
     known.hg.check();
     known.git.check();
@@ -180,7 +185,8 @@ fn unmark_over(
     requires date { IsDateOf (date_value h.now.changeset.date) (changeset_marks marks) }
     ensures { IfOk result (λ found. (blocks : List Block) (v : ChangesetView) (ps : Parents) → IsNamedOver known.now blocks h.now v parents node.now ps
         → MatchOption found (¬ (IsNamed blocks parents ps v (changeset_marks marks)))
-        (λ d. IsNamed blocks parents ps v (changeset_marks marks) × ((commit_named blocks parents v (changeset_marks marks)).value ≡ d.commit)
+        (λ d. IsNamed blocks parents ps v (changeset_marks marks)
+        × IsBuiltCommit known.now.git d (commit_named blocks parents v (changeset_marks marks))
         × (AreShortBodies v.rows → IsMadeCommit known.now.git d (commit_named blocks parents v (changeset_marks marks))))) }
 {
     known.git.check();

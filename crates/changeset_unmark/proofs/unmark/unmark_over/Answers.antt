@@ -12,7 +12,7 @@ use Rattle.commit_rule.proofs.RuledLemmas.{walks-old}
 use Rattle.changeset_unmark.specs.Heads.{IsDateOf, IsHead}
 use Rattle.changeset_unmark.specs.Named.{IsNamed}
 use Rattle.changeset_unmark.proofs.Built.{is_view}
-use Rattle.changeset_unmark.proofs.OverLemmas.{second-view, draft-over, rows-of, are-rows, items-right, rows-right, residue-named, named-residue, made-value, made-commit, rows_none, rows_some, head_none, head_some}
+use Rattle.changeset_unmark.proofs.OverLemmas.{second-view, draft-over, rows-of, are-rows, items-right, rows-right, residue-named, named-residue, built-commit, made-commit, rows_none, rows_some, head_none, head_some}
 use Rattle.changeset_unmark.proofs.unmark.unmark_over.Goals as goal
 
 pub parent_of-first-requires : goal.parent_of-first-requires
@@ -94,9 +94,8 @@ returns c = λ blocks v ps over.
     let date = subst (λ (x : Changeset). IsDateOf x.date m) (sym over.inside.draft.fields) c.requires.date in
     let view = is_view blocks (IsHeldView k.hg) v over.inside.view m date ids ps fit over.few over.distinct named in
     let made = c.in_ok-made.ensures in
-    let commit = made.commit ∙ ap (λ (x : Commit). record x { tree_id = root_of c.in-Some.files }) head.1 in (
-      named,
-      made-value k c.check-2.ensures blocks d v ids node ps over c.check.ensures old is-old m fit c.in-Some.files rows.1 c.in_ok-made.made made.files commit,
-      (λ short. made-commit k c.check-2.ensures blocks d v ids node ps over c.check.ensures old is-old m fit c.in-Some.files rows.1 c.in_ok-made.made made.files commit
-          (made.blobs v.rows (rows-of k c.check-2.ensures blocks d v ids node ps over)) made.trees_are made.trees_held view short),
-    )
+    let commit = made.commit ∙ ap (λ (x : Commit). record x { tree_id = root_of c.in-Some.files }) head.1 in
+    let built =
+    built-commit k c.check-2.ensures blocks d v ids node ps over c.check.ensures old is-old m fit c.in-Some.files rows.1 c.in_ok-made.made made.files commit
+    (made.blobs v.rows (rows-of k c.check-2.ensures blocks d v ids node ps over)) made.trees_are made.trees_held view in
+    (named, built, made-commit k.git c.in_ok-made.made blocks ids v m built)

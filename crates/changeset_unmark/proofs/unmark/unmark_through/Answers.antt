@@ -65,7 +65,7 @@ returns-then-not-branch c = λ blocks v over.
     let parent = c.parent_of-manifest.ensures.view first (first-at-node k c.check.ensures blocks d v ids nodes over c.at-first.result.now c.at-first.ensures) in
     let test = subst (λ (xs : List Id). IsTrue c.in_ok-are_links_known.field-0 ↔ AreLinksThere c.args.known.now.hg c.args.h.now.p1 (links_along (object_id commit (commit_text c.in-Some.made.commit)) (base c.args.known.now c.check.ensures blocks c.args.h.now v c.args.parents c.args.nodes.now over) (length xs) xs))
     c.as_slice.ensures (c.in_ok-are_links_known.ensures first parent.node) in
-    octopus-apart k c.check.ensures c.check-2.ensures blocks d v ids nodes over m date c.requires.many c.in-Some.made.commit some.1 c.in_ok-are_links_known.field-0 test c.if-not-branch.true
+    octopus-apart k c.check.ensures c.check-2.ensures blocks d v ids nodes over m date c.requires.many c.in-Some.made.commit some.1.value c.in_ok-are_links_known.field-0 test c.if-not-branch.true
 
 pub returns : goal.returns
 returns c = λ blocks v over.
@@ -83,6 +83,7 @@ returns c = λ blocks v over.
     let test = subst (λ (xs : List Id). IsTrue c.in_ok-are_links_known.field-0 ↔ AreLinksThere c.args.known.now.hg c.args.h.now.p1 (links_along (object_id commit (commit_text c.in-Some.made.commit)) (base c.args.known.now c.check.ensures blocks c.args.h.now v c.args.parents c.args.nodes.now over) (length xs) xs))
     c.as_slice.ensures (c.in_ok-are_links_known.ensures first parent.node) in (
       commit_named blocks ids v m,
-      octopus-some k c.check.ensures c.check-2.ensures blocks d v ids nodes over m date c.requires.many c.in-Some.made.commit some.1 c.in_ok-are_links_known.field-0 test c.if-not-branch.false some.0,
+      octopus-some k c.check.ensures c.check-2.ensures blocks d v ids nodes over m date c.requires.many c.in-Some.made.commit some.1.value c.in_ok-are_links_known.field-0 test c.if-not-branch.false some.0,
+      some.1,
       some.2,
     )
