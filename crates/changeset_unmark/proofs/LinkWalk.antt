@@ -1,29 +1,26 @@
 -- Known links lead from a changeset's first parent to the partners of its commit's parents.
 use Rattle.std.proofs.Common.{◌≡◌, ◌≤◌, ◌<◌, ◌+◌, ◌-◌, ◌^◌, ℕ, zero, suc, Bool, true, false, true≢false, List, [], ◌∷◌, ◌++◌, length, length-append, map, Option, Some, None, refl, sym, ap, subst, ◌∙◌, arith, append_assoc, le-leb}
-use Rattle.std.specs.Prelude.{◌&&◌, ◌==◌, nat_le, is_some, MatchOption, bytes_eq, decimal}
-use Rattle.std.specs.List.{list_all}
+use Rattle.std.specs.Prelude.{◌&&◌, ◌==◌, nat_le, MatchOption, bytes_eq, decimal}
+use Rattle.std.specs.List.{slice_split, list_all}
 use Rattle.std.proofs.lemmas.Bool.{and_parts}
 use Rattle.std.proofs.lemmas.Slice.Eq.{bytes_eq-Decides}
-use Rattle.text_model.specs.Cuts.{Lacks, cut_of}
+use Rattle.text_model.specs.Cuts.{Lacks}
 use Rattle.text_model.specs.Lists.{Each}
 use Rattle.text_model.specs.Text.{Bytes, is_digit}
 use Rattle.text_model.specs.Id.{Id, IsId, is_null, node_id, hex, is_lower_digit}
-use Rattle.text_model.proofs.CutLemmas.{cut_of-at}
 use Rattle.text_model.proofs.EachLemmas.{Each-append}
 use Rattle.text_model.proofs.DecimalLemmas.{number_of-decimal, is_decimal-decimal, digits-is_decimal}
 use Rattle.text_model.proofs.HexLemmas.{is_hex_id-hex}
 use Rattle.text_model.proofs.Options.{some_is}
+use Rattle.text_model.proofs.TestLemmas.{differs}
 use Rattle.hg_model.specs.Changeset.{Changeset, IsChangesetText, changeset_text}
 use Rattle.hg_model.specs.Revision.{Revision, Changesets, revision_of}
 use Rattle.hg_store.specs.Known.{AreAdded}
-use Rattle.mark_code.proofs.WordLemmas.{cut-none}
 use Rattle.pair_known.proofs.HeldViews.{held-as}
 use Rattle.view_model.specs.View.{Row, SameRows, ChangesetView, changeset_node, SameChangeset}
 use Rattle.pair_model.specs.Octopus.{link_value, link_view, links_over, is_link, is_link_value, last_id}
 use Rattle.partner_model.specs.Filled.{is_numbered, Walks}
 use Rattle.partner_model.specs.Partner.{IsHeldView, IsKnownAs}
-use Rattle.link_rule.specs.Form.{parts_of}
-use Rattle.link_rule.proofs.FormLemmas.{three, parts-are}
 
 -- ---- one walk leads to one list
 
@@ -36,6 +33,14 @@ one-walk known n (suc k) node a b h j =
     h.7 ∙ (λ i. front i ++ (same i).q ∷ []) ∙ sym j.7
 
 -- ---- the value of a link
+
+split-at : (front rest : Bytes) → Lacks 58 front → slice_split (λ b. b == 58) (front ++ 58 ∷ rest) ≡ front ∷ slice_split (λ b. b == 58) rest
+split-at [] rest h = refl
+split-at (x ∷ xs) rest h = rw (differs x 58 h.0, split-at xs rest h.1) refl
+
+split-one : (part : Bytes) → Lacks 58 part → slice_split (λ b. b == 58) part ≡ part ∷ []
+split-one [] h = refl
+split-one (x ∷ xs) h = rw (differs x 58 h.0, split-one xs h.1) refl
 
 lower-lacks : (text : Bytes) → list_all is_lower_digit text ≡ true → Lacks 58 text
 lower-lacks [] h = tt
@@ -55,12 +60,11 @@ digits-lack (b ∷ text) h =
 decimal-lacks : (n : ℕ) → n < 2 ^ 64 → Lacks 58 (decimal n)
 decimal-lacks n h = digits-lack (decimal n) (digits-is_decimal (decimal n) (is_decimal-decimal n h)).digits
 
-value-parts : (id : Id) → IsId id → (k n : ℕ) → k < 2 ^ 64 → n < 2 ^ 64 → parts_of (link_value id k n) ≡ hex id ∷ decimal k ∷ decimal n ∷ []
+value-parts : (id : Id) → IsId id → (k n : ℕ) → k < 2 ^ 64 → n < 2 ^ 64 → slice_split (λ b. b == 58) (link_value id k n) ≡ hex id ∷ decimal k ∷ decimal n ∷ []
 value-parts id is k n hk hn =
-    parts-are (parts_of (link_value id k n)) (hex id) (decimal k) (decimal n)
-    (three (link_value id k n) (hex id) (decimal k ++ 58 ∷ decimal n) (decimal k) (decimal n)
-    (ap (cut_of 58) (append_assoc (hex id) (58 ∷ decimal k) (58 ∷ decimal n)) ∙ cut_of-at 58 (hex id) (decimal k ++ 58 ∷ decimal n) (hex-lacks id is))
-    (cut_of-at 58 (decimal k) (decimal n) (decimal-lacks k hk)) (ap is_some (cut-none 58 (decimal n) (decimal-lacks n hn))))
+    ap (slice_split (λ b. b == 58)) (append_assoc (hex id) (58 ∷ decimal k) (58 ∷ decimal n))
+    ∙ split-at (hex id) (decimal k ++ 58 ∷ decimal n) (hex-lacks id is)
+    ∙ ap (λ (l : List Bytes). hex id ∷ l) (split-at (decimal k) (decimal n) (decimal-lacks k hk) ∙ ap (λ (l : List Bytes). decimal k ∷ l) (split-one (decimal n) (decimal-lacks n hn)))
 
 own : (x : Bytes) → bytes_eq x x ≡ true
 own x = (bytes_eq-Decides x x).1 refl

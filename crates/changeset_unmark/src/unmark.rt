@@ -52,8 +52,7 @@ pub fn unmark_changeset(
 
 // The marks that the extras of a date line are. `None` exactly where they are no marks.
 fn marks_of(alloc: Global, date: &DateLine) -> Result<Option<ChangesetMarks>, NoMemory>
-    ensures { IfOk result (λ found. MatchOption found ((m : model.ChangesetMarks) → ¬ (IsDateOf (date_value date.now) m))
-        (λ marks. IsDateOf (date_value date.now) (changeset_marks marks))) }
+    ensures { IfOk result (λ found. MatchOption found ((m : model.ChangesetMarks) → ¬ (IsDateOf (date_value date.now) m)) (λ marks. IsDateOf (date_value date.now) (changeset_marks marks))) }
 {
     match date {
         DateLine::Plain { extras, .. } => ChangesetMarks::read(alloc, extras),
