@@ -11,8 +11,9 @@ ghost use Rattle.hg_changeset.specs.Values.{changeset_value};
 use bridge_text::NoMemory;
 use commit_mark::marks_of;
 use commit_rule::author_of;
+use link_rule::is_link;
 use pair_known::{GitDraft, HgDraft, Known};
-use plain_rule::{has_what_is_handed_on, is_link};
+use plain_rule::has_what_is_handed_on;
 use std::alloc::Global;
 
 /// Whether a changeset that the marks of a commit name is no link, and its marked commit is the commit: its author's line, the message, what

@@ -1,15 +1,12 @@
 -- Files of a changeset that is held, of which it is asked whether the rule gives them back.
-use Rattle.std.specs.Prelude.{◌≡◌, List, map, Option}
-use Rattle.text_model.specs.Lists.{Each}
+use Rattle.std.specs.Prelude.{◌≡◌, List, Option}
 use Rattle.hg_model.specs.Manifest.{ManifestEntry}
 use Rattle.hg_model.specs.Revision.{Revision}
 use Rattle.view_model.specs.View.{FileRevision, Row}
 use Rattle.view_model.specs.Held.{IsFileHeld}
-use Rattle.pair_model.specs.Block.{Parents}
 use Rattle.pair_model.specs.Rule.{tree_row_of, mode_of_flag, flag_of_mode, ruled_revision}
 use Rattle.pair_known.specs.Rows.{RowValue, row_value}
-use Rattle.file_rule.specs.Parents.{row_with, IsRevisionAt, IsParent}
-use Rattle.file_rule.specs.declared.parents.Parent.{Parent}
+use Rattle.file_rule.specs.Parents.{row_with, IsRevisionAt}
 
 -- the row is that of a file that is held, and these are the revisions of its path in the parents
 pub record IsHeldRow (known : List Revision) (row : RowValue) (first second : Option ManifestEntry) (r s : Option FileRevision) (w : Row) : Type 0 where
@@ -21,10 +18,3 @@ pub record IsHeldRow (known : List Revision) (row : RowValue) (first second : Op
 -- the file that the rule gives for the file that the rule gives for it
 abbrev pub row_again : Option FileRevision → Option FileRevision → Row → Row
 row_again r s w = row_with w.path (flag_of_mode (mode_of_flag w.flag)) (ruled_revision r s (tree_row_of w))
-
--- the rows are those of files that are held, and the parents are held too
-pub record AreHeldRows (known : List Revision) (rows : List RowValue) (first second : Parent) (ps : Parents) (hs : List Row) : Type 0 where
-  pub of_rows : rows ≡ map row_value hs
-  pub files : Each (IsFileHeld known) hs
-  pub in_first : IsParent known first ps.first
-  pub in_second : IsParent known second ps.second

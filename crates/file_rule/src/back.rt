@@ -1,42 +1,21 @@
-ghost use Rattle.std.specs.Prelude.{◌≡◌, ◌↔◌, ℕ, List, map, Option, Some, option_map, IsTrue};
+ghost use Rattle.std.specs.Prelude.{◌≡◌, ◌↔◌, Option, Some, option_map, IsTrue};
 ghost use Rattle.std.specs.Option.{option_copied};
 ghost use Rattle.hg_model.specs.FileText.{IsFile, plain_meta, manifest_order};
 ghost use Rattle.hg_manifest.specs.Values.{manifest_entry};
-ghost use Rattle.view_model.specs.View.{FileRevision, file_node, Row, SameRow, SameRows};
+ghost use Rattle.view_model.specs.View.{FileRevision, file_node, Row, SameRow};
 ghost use Rattle.view_model.specs.Held.{IsFileHeld};
-ghost use Rattle.pair_model.specs.Block.{Parents};
 ghost use Rattle.pair_model.specs.Rule as rule;
-ghost use Rattle.file_rule.specs.Back.{IsHeldRow, AreHeldRows, row_again};
+ghost use Rattle.file_rule.specs.Back.{IsHeldRow, row_again};
 
-use crate::parents::Parent;
 use crate::revision::{has_parents, kept_node, node_or_null, parents_over};
 use bridge_text::Id;
 use hg_filelog::split;
 use hg_manifest::Entry;
 use hg_store::HgStore;
-use pair_known::{Cursor, HgRow, HgRows};
+use pair_known::HgRow;
 
 /// What stands before and behind metadata.
 const MARK: &[u8] = b"\x01\n";
-
-/// Whether the files of a changeset that is held come back from their commit: the rule gives for each the same flag and a revision with
-/// the same node, parents, metadata and body. Nothing is hashed.
-pub fn are_ruled(store: &HgStore, rows: &HgRows, first: &Parent<'_>, second: &Parent<'_>) -> bool
-    ensures { (ps : Parents) (hs : List Row) → AreHeldRows store.now rows.now first.now second.now ps hs
-        → (IsTrue result ↔ SameRows (rule.ruled_rows ps (map rule.tree_row_of hs)) hs) }
-{
-    let mut first_walk = Cursor::new(first.manifest);
-    let mut second_walk = Cursor::new(second.manifest);
-    let rows = rows.as_slice();
-    for row in rows {
-        let in_first = first_walk.get(row.path.as_slice());
-        let in_second = second_walk.get(row.path.as_slice());
-        if !is_ruled(store, row, in_first, in_second) {
-            return false;
-        }
-    }
-    true
-}
 
 /// Whether a file that is held comes back from its commit, where these are the entries of its path in the parents. Nothing is hashed.
 pub fn is_ruled(store: &HgStore, row: &HgRow, first: Option<&Entry>, second: Option<&Entry>) -> bool

@@ -1,5 +1,5 @@
 //! The files of a changeset by the plain rule: for each file of a commit the revision of a parent, or a new one over those of
-//! the parents. And whether the files of a changeset come back so.
+//! the parents. And whether a file of a changeset comes back so.
 #![tactic(auto)]
 
 mod back;
@@ -7,7 +7,7 @@ mod parents;
 mod revision;
 mod rows;
 
-pub use back::{are_ruled, is_ruled};
+pub use back::is_ruled;
 pub use parents::{Parent, parent_of};
 pub use revision::{
     RuledRow, content_of, has_parents, kept_node, make_row, node_or_null, parents_over,

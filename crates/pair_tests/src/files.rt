@@ -1,16 +1,16 @@
-// Whether files of changesets are those that the rule gives.
+// Whether a file of a changeset is the one that the rule gives.
 use crate::sides::{NULL, Revision, id, store_of};
 use bridge_text::{Bytes, Id};
-use file_rule::{Parent, are_ruled, parents_over};
+use file_rule::{is_ruled, parents_over};
 use hg_manifest::{Flag, Manifest};
 use hg_store::{Group, HgStore};
-use pair_known::{HgRow, HgRows};
+use pair_known::HgRow;
 use std::alloc::Global;
 use std::test::Fail;
 
 const ONE: &[u8] = b"b470b8df2f97b19e505a12557fca38e48d59561c";
 
-/// Revisions of the files `a`, `b` and `c`: x, y over x, and z over both; and of `a` alone w, which names a copy.
+/// Revisions of the file `a`: x, y over x, z over both, and w, which names a copy.
 const X: &[u8] = b"d00600e0b09ff8a1909934023a08399f084bc6bc";
 
 const Y: &[u8] = b"c4cb1824dbcc4c8bfed5b6ade3c31783a979f9ec";
@@ -32,33 +32,17 @@ const REVISIONS: &[Revision] = &[
     Revision(Group::FilesAt(b"a"), [X, NULL, NULL], ONE, b"x"),
     Revision(Group::FilesAt(b"a"), [Y, X, NULL], ONE, b"y"),
     Revision(Group::FilesAt(b"a"), [Z, X, Y], ONE, b"z"),
-    Revision(Group::FilesAt(b"b"), [X, NULL, NULL], ONE, b"x"),
-    Revision(Group::FilesAt(b"b"), [Y, X, NULL], ONE, b"y"),
-    Revision(Group::FilesAt(b"b"), [Z, X, Y], ONE, b"z"),
-    Revision(Group::FilesAt(b"c"), [X, NULL, NULL], ONE, b"x"),
-    Revision(Group::FilesAt(b"c"), [Y, X, NULL], ONE, b"y"),
-    Revision(Group::FilesAt(b"c"), [Z, X, Y], ONE, b"z"),
     Revision(Group::FilesAt(b"a"), [COPY, X, NULL], ONE, COPY_TEXT),
 ];
 
-/// A file: its path and its node.
-type File = (&'static [u8], &'static [u8]);
-
-// The line of a file in a manifest; none of the null id.
-fn put_line(text: &mut Vec<u8>, path: &[u8], node: &[u8]) -> Result<(), Fail> {
-    if node == NULL {
-        return Ok(());
-    }
-    text.extend_from_slice(path)?;
-    text.push(b'\0')?;
-    text.extend_from_slice(node)?;
-    Ok(text.push(b'\n')?)
-}
-
-fn manifest_of(alloc: Global, files: &[File]) -> Result<Manifest, Fail> {
+// The manifest of one file; of none for the null id.
+fn manifest_of(alloc: Global, path: &[u8], node: &[u8]) -> Result<Manifest, Fail> {
     let mut text = Vec::new(alloc);
-    for (path, node) in files {
-        put_line(&mut text, path, node)?;
+    if node != NULL {
+        text.extend_from_slice(path)?;
+        text.push(b'\0')?;
+        text.extend_from_slice(node)?;
+        text.push(b'\n')?;
     }
     Ok(Manifest::read(alloc, text.as_slice()).map_err(|_| "a manifest")?)
 }
@@ -74,16 +58,6 @@ fn row_of(alloc: Global, store: &HgStore, path: &[u8], node: Id) -> Result<HgRow
         }),
         None => Err("a file revision that is known")?,
     }
-}
-
-fn rows_of(alloc: Global, store: &HgStore, files: &[File]) -> Result<HgRows, Fail> {
-    let mut rows = HgRows::new(alloc);
-    for (path, node) in files {
-        let node = id(node)?;
-        let row = row_of(alloc, store, path, node)?;
-        rows.push(row)?;
-    }
-    Ok(rows)
 }
 
 /// The node of a file, those of its path in the parents, and whether the file comes back.
@@ -103,73 +77,6 @@ const CASES: &[(&'static [u8], [&'static [u8]; 2], bool)] = &[
     (COPY, [COPY, NULL], true),
 ];
 
-/// The files of a changeset, those of its parents, and whether all of the changeset's come back.
-const LISTS: &[([&'static [File]; 3], bool)] = &[
-    ([&[], &[], &[]], true),
-    ([&[], &[(b"a", X), (b"b", X)], &[(b"c", X)]], true),
-    (
-        [
-            &[(b"a", Y), (b"b", X), (b"c", Y)],
-            &[(b"a", Y), (b"c", Y)],
-            &[],
-        ],
-        true,
-    ),
-    (
-        [
-            &[(b"a", X), (b"c", Y)],
-            &[(b"a", X), (b"b", X), (b"c", X)],
-            &[],
-        ],
-        true,
-    ),
-    (
-        [&[(b"a", X), (b"c", Y)], &[(b"a", X), (b"b", X)], &[]],
-        false,
-    ),
-    (
-        [
-            &[(b"b", Z), (b"c", Y)],
-            &[(b"a", X), (b"b", X), (b"c", X)],
-            &[(b"a", Y), (b"b", Y), (b"c", Y)],
-        ],
-        true,
-    ),
-    (
-        [
-            &[(b"a", Y), (b"b", Y), (b"c", Y)],
-            &[(b"a", X), (b"c", X)],
-            &[(b"b", X), (b"c", Y)],
-        ],
-        true,
-    ),
-    (
-        [
-            &[(b"a", Y), (b"b", Y), (b"c", Z)],
-            &[(b"a", X), (b"c", X)],
-            &[(b"b", Y)],
-        ],
-        false,
-    ),
-];
-
-// A parent with this manifest, whose node isn't asked for.
-fn parent_with(manifest: &Manifest) -> Parent<'_> {
-    Parent {
-        is_there: true,
-        manifest_node: Id::NULL,
-        manifest,
-    }
-}
-
-fn come_back(alloc: Global, store: &HgStore, lists: &[&[File]; 3]) -> Result<bool, Fail> {
-    let [files, first, second] = *lists;
-    let rows = rows_of(alloc, store, files)?;
-    let first = manifest_of(alloc, first)?;
-    let second = manifest_of(alloc, second)?;
-    Ok(are_ruled(store, &rows, &parent_with(&first), &parent_with(&second)))
-}
-
 // Whether the file `a` comes back.
 fn comes_back(
     alloc: Global,
@@ -178,11 +85,10 @@ fn comes_back(
     parents: &[&'static [u8]; 2],
 ) -> Result<bool, Fail> {
     let [first, second] = *parents;
-    come_back(
-        alloc,
-        store,
-        &[&[(b"a", node)], &[(b"a", first)], &[(b"a", second)]],
-    )
+    let row = row_of(alloc, store, b"a", id(node)?)?;
+    let first = manifest_of(alloc, b"a", first)?;
+    let second = manifest_of(alloc, b"a", second)?;
+    Ok(is_ruled(store, &row, first.get(b"a"), second.get(b"a")))
 }
 
 #[test]
@@ -191,16 +97,6 @@ fn files_that_come_back(rt: HostRuntime) -> Result<(), Fail> {
     for (node, parents, want) in CASES {
         let comes_back = comes_back(rt.alloc(), &store, node, parents)?;
         assert!(rt; comes_back == *want);
-    }
-    Ok(())
-}
-
-#[test]
-fn lists_that_come_back(rt: HostRuntime) -> Result<(), Fail> {
-    let store = store_of(&rt, rt.alloc(), REVISIONS)?;
-    for (lists, want) in LISTS {
-        let come_back = come_back(rt.alloc(), &store, lists)?;
-        assert!(rt; come_back == *want);
     }
     Ok(())
 }

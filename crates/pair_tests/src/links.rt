@@ -1,7 +1,7 @@
 // Changesets that are links.
 use bridge_text::Id;
 use hg_changeset::Changeset;
-use plain_rule::is_link;
+use link_rule::is_link;
 use std::alloc::Global;
 use std::process::Abort;
 use std::test::Fail;

@@ -1,5 +1,4 @@
 pub mod HandedRows
-pub mod BackLemmas
 pub mod BlockLemmas
 pub mod OverLemmas
 pub mod PlainRows

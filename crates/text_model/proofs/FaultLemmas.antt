@@ -44,7 +44,6 @@ fault_word-short fault.FileParentLate = omega arith
 fault_word-short fault.ManifestParentLate = omega arith
 fault_word-short fault.NestLimit = omega arith
 fault_word-short fault.PairLimit = omega arith
-fault_word-short fault.NotPlain = omega arith
 fault_word-short fault.Orphan = omega arith
 fault_word-short fault.DanglingLink = omega arith
 fault_word-short fault.StateLimit = omega arith

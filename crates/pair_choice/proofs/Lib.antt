@@ -1,0 +1,12 @@
+pub mod ClashRows
+pub mod Histories
+pub mod BodyLemmas
+pub mod Collisions
+pub mod Contents
+pub mod ParentLemmas
+pub mod DepthLemmas
+pub mod LimitLemmas
+pub mod CommitLemmas
+pub mod UnmarkedLemmas
+pub mod ChangesetLemmas
+pub mod Meets
