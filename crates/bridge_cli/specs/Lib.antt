@@ -4,3 +4,4 @@ pub mod Makes
 pub mod Outside
 pub mod Report
 pub mod Status
+pub mod Steps

@@ -9,6 +9,7 @@ ghost use Rattle.bridge_cli.specs.Ends.{Ends, EndsBy};
 ghost use Rattle.bridge_cli.specs.Outside.{InputCause, ListingEnds, OutputCause, TakesOrFails, WritesOut};
 ghost use Rattle.bridge_cli.specs.Report.{report_value};
 ghost use Rattle.bridge_cli.specs.Status.{command_value, status_of};
+ghost use Rattle.bridge_cli.specs.Steps.{StepsOf, StepsOfRun};
 
 use crate::line::line_of;
 use crate::output::output_of;
@@ -53,7 +54,9 @@ pub fn run<I: Source, O: Sink, E: Sink, K: Slot, L: Ledger>(
     ensures flushed { result ≡ Status.Done → IsOut (O.flushed output.new) (O.taken output.new) }
 
     ensures slot { slot.new ≡ slot.old }
-    ensures steps { steps.new ≡ steps.old }
+
+    // A step is counted for each time that a pull unmarks a member.
+    ensures steps { StepsOfRun (command_of words.now) (I.left input.old) steps.old steps.new }
 {
     let report = match words.command() {
         Some(command) => perform(alloc, command, input, output, steps),
@@ -79,7 +82,7 @@ fn perform<I: Source, O: Sink, L: Ledger>(
     ensures output { OutputCause (O.faults output.old) (O.faults output.new) (status_of (report_value result)) }
     ensures unwritten { result ≢ Report.Done → result ≢ Report.WriteFault → output.new ≡ output.old }
     ensures flushed { status_of (report_value result) ≡ Status.Done → IsOut (O.flushed output.new) (O.taken output.new) }
-    ensures steps { steps.new ≡ steps.old }
+    ensures steps { StepsOf (command_value command) (I.left input.old) steps.old steps.new }
 {
     match output_of(alloc, command, input, steps) {
         Ok(bytes) => write_out(output, &bytes),

@@ -3,6 +3,7 @@ ghost use Rattle.std.specs.Prelude.{◌≡◌};
 ghost use Rattle.history_model.specs.Command as model;
 ghost use Rattle.bridge_cli.specs.Makes.{LeavesCount, ListsTheBundle, Makes};
 ghost use Rattle.bridge_cli.specs.Status.{command_value};
+ghost use Rattle.bridge_cli.specs.Steps.{StepsOf};
 
 use crate::counts::{object_counts, revision_counts};
 use crate::report::Report;
@@ -25,7 +26,7 @@ pub fn output_of<I: Source, L: Ledger>(
     ensures makes { Makes (command_value command) (I.left input.old) (I.left input.new) result }
     ensures bundle { command_value command ≡ model.ListHg → ListsTheBundle (I.left input.old) result }
     ensures input { LeavesCount (I.faults input.old) (I.faults input.new) result }
-    ensures steps { steps.new ≡ steps.old }
+    ensures steps { StepsOf (command_value command) (I.left input.old) steps.old steps.new }
 {
     match command {
         Command::ListHg => bundle_lines(alloc, input),
@@ -92,7 +93,7 @@ fn commits_of_bundle<I: Source, L: Ledger>(
 ) -> Result<Vec<u8>, Report>
     ensures makes { Makes model.PullHg (I.left input.old) (I.left input.new) result }
     ensures input { LeavesCount (I.faults input.old) (I.faults input.new) result }
-    ensures steps { steps.new ≡ steps.old }
+    ensures steps { StepsOf model.PullHg (I.left input.old) steps.old steps.new }
 {
     match pull_hg(State::empty(alloc), input, steps) {
         Ok(pulled) => Ok(pulled.made.into_vec()),
@@ -108,7 +109,7 @@ fn changesets_of_stream<I: Source, L: Ledger>(
 ) -> Result<Vec<u8>, Report>
     ensures makes { Makes model.PullGit (I.left input.old) (I.left input.new) result }
     ensures input { LeavesCount (I.faults input.old) (I.faults input.new) result }
-    ensures steps { steps.new ≡ steps.old }
+    ensures steps { StepsOf model.PullGit (I.left input.old) steps.old steps.new }
 {
     match pull_git(State::empty(alloc), input, steps) {
         Ok(pulled) => Ok(pulled.made.into_vec()),

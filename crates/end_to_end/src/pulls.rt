@@ -167,6 +167,28 @@ const WITHOUT_ITS_TREE: &[u8] =
     b"fb8491d27293299d600326567e91d35289f99b8d commit 108\ntree 0976950c1fdbcb52435a433913017b\
     f044b3a58f\nauthor Ann <ann@x> 0 +0000\ncommitter Ann <ann@x> 0 +0000\n\none\n\n";
 
+// The objects of the commit of `WITH_EXTRAS`.
+const BRANCH_COMMIT: &[u8] =
+    b"ce013625030ba8dba906f756967f9e9ca394464a blob 6\nhello\n\n0976950c1fdbcb52435a433913\
+    017bf044b3a58f tree 29\n100644 a\0\xce\x016%\x03\x0b\xa8\xdb\xa9\x06\xf7V\x96\x7f\x9e\
+    \x9c\xa3\x94FJ\ne1e531e8507d6787ca4d870bc2bb9c7d89fec081 commit 131\ntree 0976950c1fdb\
+    cb52435a433913017bf044b3a58f\nauthor Ann <ann@x> 0 +0000\ncommitter Ann <ann@x> 0 +000\
+    0\nHG:extra branch stable\n\none\n\n";
+
+// The changeset of `WITHOUT_LF`.
+const MESSAGE_CHANGESET: &[u8] =
+    b"HG10UN\0\0\0\xb2\xabl\xe6\x8d\x12\xec\x0c\xbe\xf4}\xed\x0d\x8bJ\x95:\xa5\xe2xW\0\0\0\
+    \0\0\0\0\0\0\0\0\0\0\0\0\0\0\0\0\0\0\0\0\0\0\0\0\0\0\0\0\0\0\0\0\0\0\0\0\0\xabl\xe6\
+    \x8d\x12\xec\x0c\xbe\xf4}\xed\x0d\x8bJ\x95:\xa5\xe2xW\0\0\0\0\0\0\0\0\0\0\0Rd51f7835c8\
+    978f5a11f9a33e09d3852ff4979e7c\nAnn <ann@x>\n0 0 hg-git-message:one\na\n\none\0\0\0\0\
+    \0\0\0\x8b\xd5\x1fx5\xc8\x97\x8fZ\x11\xf9\xa3>\x09\xd3\x85/\xf4\x97\x9e|\0\0\0\0\0\0\0\
+    \0\0\0\0\0\0\0\0\0\0\0\0\0\0\0\0\0\0\0\0\0\0\0\0\0\0\0\0\0\0\0\0\0\xabl\xe6\x8d\x12\
+    \xec\x0c\xbe\xf4}\xed\x0d\x8bJ\x95:\xa5\xe2xW\0\0\0\0\0\0\0\0\0\0\0+a\02c186c8c5bc0df5\
+    af5b951afe407d803f9e6b8c9\n\0\0\0\0\0\0\0\x05a\0\0\0f,\x18l\x8c[\xc0\xdfZ\xf5\xb9Q\xaf\
+    \xe4\x07\xd8\x03\xf9\xe6\xb8\xc9\0\0\0\0\0\0\0\0\0\0\0\0\0\0\0\0\0\0\0\0\0\0\0\0\0\0\0\
+    \0\0\0\0\0\0\0\0\0\0\0\0\0\xabl\xe6\x8d\x12\xec\x0c\xbe\xf4}\xed\x0d\x8bJ\x95:\xa5\xe2\
+    xW\0\0\0\0\0\0\0\0\0\0\0\x06hello\n\0\0\0\0\0\0\0\0";
+
 const PLAIN: &[Row] = &[
     Row(PULL_HG, LEAST, Answer::Done(b"")),
     Row(PULL_HG, ONE_CHANGESET, Answer::Done(ONE_COMMIT)),
@@ -191,12 +213,19 @@ fn children_merges_and_no_files_come_over(rt: HostRuntime) -> Result<(), Fail> {
     check(&rt, MEMBERS)
 }
 
-const NOT_PLAIN: &[Row] = &[
-    Row(
-        PULL_HG,
-        WITH_EXTRAS,
-        Answer::Refused(b"refused NotPlain 45c7141784653c7f12d7a569ba6504af920be34a 6\n"),
-    ),
+const MARKED: &[Row] = &[
+    Row(PULL_HG, WITH_EXTRAS, Answer::Done(BRANCH_COMMIT)),
+    Row(PULL_GIT, BRANCH_COMMIT, Answer::Done(WITH_EXTRAS)),
+    Row(PULL_GIT, WITHOUT_LF, Answer::Done(MESSAGE_CHANGESET)),
+    Row(PULL_HG, MESSAGE_CHANGESET, Answer::Done(WITHOUT_LF)),
+];
+
+#[test]
+fn what_needs_marks_comes_over(rt: HostRuntime) -> Result<(), Fail> {
+    check(&rt, MARKED)
+}
+
+const REFUSED: &[Row] = &[
     Row(
         PULL_HG,
         WITH_AN_ORPHAN,
@@ -214,11 +243,6 @@ const NOT_PLAIN: &[Row] = &[
     ),
     Row(
         PULL_GIT,
-        WITHOUT_LF,
-        Answer::Refused(b"refused NotPlain 55c7a7f71b0080e5f0c2ba9f3ff592b78fda111d 134\n"),
-    ),
-    Row(
-        PULL_GIT,
         WITHOUT_ITS_PARENT,
         Answer::Refused(b"refused ParentUnknown a47772f89b9be616fd157b1f69f047eda3254b08 134\n"),
     ),
@@ -230,6 +254,6 @@ const NOT_PLAIN: &[Row] = &[
 ];
 
 #[test]
-fn what_is_not_plain_is_refused(rt: HostRuntime) -> Result<(), Fail> {
-    check(&rt, NOT_PLAIN)
+fn what_lacks_a_part_is_refused(rt: HostRuntime) -> Result<(), Fail> {
+    check(&rt, REFUSED)
 }

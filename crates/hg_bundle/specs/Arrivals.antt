@@ -1,9 +1,9 @@
 -- What reading a bundle brings: its entries as this crate lists them, and the revisions that are known then.
-use Rattle.std.specs.Prelude.{◌≡◌, ℕ, Bool, true, false, List, [], ◌∷◌, map, count_by, Option, Some, None, Result, Ok, Err}
+use Rattle.std.specs.Prelude.{◌≡◌, ℕ, Bool, true, false, not, List, [], ◌∷◌, map, count_by, Option, Some, None, Result, Ok, Err, ⊤}
 use Rattle.text_model.specs.Text.{Bytes}
 use Rattle.text_model.specs.Fault.{Refusal}
 use Rattle.hg_model.specs.Revision as model
-use Rattle.hg_model.specs.Revision.{Revision, known_after, known_after_all}
+use Rattle.hg_model.specs.Revision.{Revision, knows, known_after, known_after_all}
 use Rattle.hg_model.specs.Reading as reading
 use Rattle.hg_model.specs.Reading.{bundle_reading}
 use Rattle.hg_bundle.specs.declared.arrival.RevKind.{RevKind}
@@ -41,9 +41,16 @@ count_of_kind kind arrivals = count_by (λ a. same_kind kind a.kind) arrivals
 abbrev pub revisions_of : List reading.Arrival → List Revision
 revisions_of arrivals = map (λ a. a.revision) arrivals
 
--- the arrivals that are listed were added to the known revisions one after the other, and the store holds what is known then
+-- each is fresh just where its revision wasn't known before it
+abbrev pub AreMarked : List Revision → List reading.Arrival → Type 0
+AreMarked known [] = ⊤
+AreMarked known (a ∷ arrivals) = (a.fresh ≡ not (knows known (a.revision).group (a.revision).node)) × AreMarked (known_after known a.revision) arrivals
+
+-- The arrivals that are listed were added to the known revisions one after the other, each marked as fresh or not, and the store holds what is
+-- known then.
 abbrev pub AreArrivals : List Revision → List Revision → List Arrival → Type 0
-AreArrivals known store listed = (arrivals : List reading.Arrival) × (listed ≡ map arrival_of arrivals) × (store ≡ known_after_all known (revisions_of arrivals))
+AreArrivals known store listed =
+    (arrivals : List reading.Arrival) × (listed ≡ map arrival_of arrivals) × (store ≡ known_after_all known (revisions_of arrivals)) × AreMarked known arrivals
 
 -- why a reading is refused
 abbrev pub refused : Result (List reading.Arrival) Refusal → Option Refusal

@@ -36,7 +36,7 @@ pub fn read_into<S: Source>(
     ensures names { IfErr result IsReadFault }
     // exactly what was listed, and why the bytes are refused
     ensures reads { IfSome (S.left src.old) (λ bytes. Reads store bytes result) }
-    // what was listed was added, also where the source doesn't tell its bytes
+    // what was listed was added, and marked as fresh or not, also where the source doesn't tell its bytes
     ensures grown { IfOk result (λ read. AreArrivals store read.0 read.1) }
     ensures end { OnOk result (IsAtEnd (S.left src.new)) }
     ensures cause { AnswerCause (S.faults src.old) (S.faults src.new) result }

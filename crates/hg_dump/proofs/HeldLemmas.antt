@@ -83,6 +83,10 @@ module _ (known : List Revision) (added : AreAdded known) (node : Id) (h : Chang
       ∙ (λ i. manifest-marks h.manifest held.manifest i ++ file-marks (changeset_node h) h.rows i))
       ∙ (λ i. view_marks (node-is i) (sym manifest i) (sym entries i))
 
+  -- the lines of its manifest
+  pub held-entries : (p q : Id) (x : Changeset) (es : List ManifestEntry) → IsChangesetOf known node p q x → IsManifestOf known x.manifest es → map entry_of_row h.rows ≡ es
+  held-entries p q x es changeset of = sym (same_entries x.manifest es (ap (λ (y : Changeset). y.manifest) (same_fields p q x changeset)) of)
+
   -- ---- no fault
 
   known-at : (rows : List Row) → Each (IsFileHeld known) rows → (k : ℕ) (d : ManifestEntry) → k < length (map entry_of_row rows) → is_unknown known (get_or (map entry_of_row rows) k d) ≡ false

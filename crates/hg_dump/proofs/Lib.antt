@@ -4,5 +4,7 @@ pub mod FileLemmas
 pub mod GroupLemmas
 pub mod HeldLemmas
 pub mod MeetLemmas
+pub mod NamedLemmas
 pub mod OnceLemmas
 pub mod PathLemmas
+pub mod RefersLemmas

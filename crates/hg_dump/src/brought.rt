@@ -29,7 +29,8 @@ pub struct Brought {
 }
 
 impl Brought {
-    fn new(alloc: Global) -> Brought
+    /// Nothing was met.
+    pub fn new(alloc: Global) -> Brought
         ensures { (group : model.Group) → referred_in result group ≡ nothing }
     {
         Brought {
@@ -70,17 +71,16 @@ impl Brought {
         }
     }
 
-    // Adds what changesets refer to, in their order. It is written only if they are new.
-    fn refer_all<'a>(
+    /// Adds what changesets refer to, in their order. It is written only if they are new. Each line of the manifest before was met.
+    pub fn refer_all<'a>(
         &mut self,
         store: &'a HgStore,
         nodes: &[Id],
         mut previous: &'a Manifest,
         is_new: bool,
     ) -> Result<(), NoMemory>
-        requires previous { previous.now ≡ [] }
         requires held { (hs : List ChangesetView) × AreChangesetsHeld store.now nodes.now hs }
-        ensures { OnOk result ((hs : List ChangesetView) → AreChangesetsHeld store.now nodes.now hs → Steps is_new (marks_in hs) self.old self.new) }
+        ensures { OnOk result ((hs : List ChangesetView) → AreChangesetsHeld store.now nodes.now hs → StepsAfter previous.now is_new (marks_in hs) self.old self.new) }
     {
         for node in nodes {
             let (manifest_node, manifest) = manifest_of(store, node);
@@ -106,8 +106,8 @@ impl Brought {
         self.refer_files(manifest, previous, node, is_new)
     }
 
-    // The null manifest is no revision.
-    fn refer_manifest(
+    /// Adds a manifest. The null one is no revision.
+    pub fn refer_manifest(
         &mut self,
         manifest_node: &Id,
         link: &Id,
@@ -121,8 +121,8 @@ impl Brought {
         self.refer(Group::Manifests, manifest_node, link, is_new)
     }
 
-    // A line that stands in the manifest before, whose lines were met, needs no look-up.
-    fn refer_files(
+    /// Adds the file revisions that a manifest names. A line that stands in the manifest before, whose lines were met, needs no look-up.
+    pub fn refer_files(
         &mut self,
         manifest: &Manifest,
         previous: &Manifest,

@@ -1,14 +1,15 @@
 // Whether changesets refer to a revision.
-ghost use Rattle.std.specs.Prelude.{◌≡◌, List, IfOk};
+ghost use Rattle.std.specs.Prelude.{◌≡◌, ◌++◌, List, map, IfOk, IfSome, OnOk};
 ghost use Rattle.hg_model.specs.Revision.{Revision, knows};
 ghost use Rattle.hg_store.specs.Groups.{group_value};
-ghost use Rattle.view_model.specs.View.{ChangesetView};
-ghost use Rattle.view_model.specs.Held.{AreChangesetsHeld};
+ghost use Rattle.view_model.specs.View.{ChangesetView, entry_of_row};
+ghost use Rattle.view_model.specs.Held.{IsChangesetHeld, AreChangesetsHeld};
 ghost use Rattle.view_model.specs.Dump.{revisions_in};
-ghost use Rattle.hg_dump.specs.Refers.{RefersTo};
+ghost use Rattle.hg_dump.specs.Refers.{RefersTo, HasFilesOf, AreNamedBy};
 
 use crate::brought::Brought;
 use bridge_text::{Id, NoMemory};
+use hg_manifest::Manifest;
 use hg_store::{Group, HgStore};
 use std::alloc::Global;
 
@@ -24,9 +25,49 @@ impl Refers {
         requires held { (hs : List ChangesetView) × AreChangesetsHeld store.now nodes.now hs }
         ensures { IfOk result (λ refers. (hs : List ChangesetView) → AreChangesetsHeld store.now nodes.now hs → RefersTo refers (revisions_in hs)) }
     {
-        Ok(Refers {
-            brought: Brought::collect(alloc, store, nodes, nodes.len())?,
-        })
+        let mut refers = Refers {
+            brought: Brought::new(alloc),
+        };
+        refers.add(alloc, store, nodes, None)?;
+        Ok(refers)
+    }
+
+    /// Adds those of more changesets, all of which are in the store. Each line of the manifest of the changeset that is near was added before, so
+    /// that a line which is the same needs no look-up.
+    pub fn add(
+        &mut self,
+        alloc: Global,
+        store: &HgStore,
+        nodes: &[Id],
+        near: Option<&Id>,
+    ) -> Result<(), NoMemory>
+        requires held { (hs : List ChangesetView) × AreChangesetsHeld store.now nodes.now hs }
+        requires near { IfSome near (λ node. (v : ChangesetView) × IsChangesetHeld store.now node.now v × ((rs : List Revision) → RefersTo self.old rs → HasFilesOf rs v)) }
+        ensures { OnOk result ((hs : List ChangesetView) (rs : List Revision) → AreChangesetsHeld store.now nodes.now hs → RefersTo self.old rs → RefersTo self.new (rs ++ revisions_in hs)) }
+    {
+        let empty = Manifest::new(alloc);
+        let lines = match near {
+            Some(node) => lines_of(store, node),
+            None => &empty,
+        };
+        self.brought.refer_all(store, nodes, lines, false)
+    }
+
+    /// Adds what a changeset names that is known, though the store may lack it: its manifest, and the file revisions that this names where
+    /// it is known. Of an unknown one nothing. The changeset itself isn't added.
+    pub fn add_named(&mut self, alloc: Global, store: &HgStore, node: &Id) -> Result<(), NoMemory>
+        ensures { OnOk result ((rs : List Revision) → RefersTo self.old rs → (more : List Revision) × AreNamedBy store.now node.now more × RefersTo self.new (rs ++ more)) }
+    {
+        let Some((_, _, changeset)) = store.changeset(node) else {
+            return Ok(());
+        };
+        self.brought
+            .refer_manifest(&changeset.manifest, node, false)?;
+        let Some(manifest) = store.manifest(&changeset.manifest) else {
+            return Ok(());
+        };
+        self.brought
+            .refer_files(manifest, &Manifest::new(alloc), node, false)
     }
 
     /// Whether one of the changesets refers to the revision of a group with this node.
@@ -34,5 +75,16 @@ impl Refers {
         ensures { (rs : List Revision) → RefersTo self.now rs → result ≡ knows rs (group_value group.entry) node.now }
     {
         self.brought.has(group, node)
+    }
+}
+
+// The lines of the manifest of a changeset that is held.
+fn lines_of<'a>(store: &'a HgStore, node: &Id) -> &'a Manifest
+    requires held { (h : ChangesetView) × IsChangesetHeld store.now node.now h }
+    ensures { (h : ChangesetView) → IsChangesetHeld store.now node.now h → map entry_of_row h.rows ≡ result.now }
+{
+    match store.manifest_of_changeset(node) {
+        Some((_, manifest)) => manifest,
+        None => unreachable!(),
     }
 }

@@ -1,5 +1,5 @@
 -- Blocks that are stored, with one more behind them.
-use Rattle.std.proofs.Common.{◌≡◌, Bool, true, false, true≢false, ◌||◌, List, [], ◌∷◌, ◌++◌, length, map, Option, Some, None, refl, sym, ap, subst, ◌∙◌, append-nil}
+use Rattle.std.proofs.Common.{◌≡◌, Bool, true, false, ◌||◌, List, [], ◌∷◌, ◌++◌, length, map, Some, None, refl, sym, ap, subst, ◌∙◌, append-nil}
 use Rattle.std.specs.Prelude.{bytes_eq, option_map, is_some, if◌then◌else◌, IsTrue}
 use Rattle.std.specs.List.{find, list_any}
 use Rattle.std.proofs.lemmas.List.{length-map}
@@ -154,12 +154,6 @@ module _ (old next : StateParts) (blocks : List Block) (b : Block) (of : IsState
     commits = has.commits ∙ ap (λ (l : List Id). l ++ id_of b ∷ []) of.commits ∙ sym (map-push id_of blocks b);
     agreed = has.agreed;
   }
-
--- the nodes of the state's changesets, with those of one more block
-pub nodes-more : (s next : StateParts) (blocks : List Block) (b : Block) → IsStateOf s blocks → IsStateOf next (blocks ++ b ∷ []) → next.changesets ≡ s.changesets ++ map changeset_node (parts_of b)
-nodes-more s next blocks b of state =
-    state.changesets ∙ ap (map changeset_node) (changesets-push blocks b) ∙ map_append changeset_node (changesets_in blocks) (parts_of b)
-    ∙ ap (λ (l : List Id). l ++ map changeset_node (parts_of b)) (sym of.changesets)
 
 -- the nodes of the changesets of blocks and of others behind them
 pub nodes-append : (blocks new : List Block) → map changeset_node (changesets_in (blocks ++ new)) ≡ map changeset_node (changesets_in blocks) ++ map changeset_node (changesets_in new)

@@ -1,21 +1,20 @@
 -- Changesets that a store holds with more revisions too, and one whose revisions have come.
-use Rattle.std.proofs.Common.{◌≡◌, ◌⊎◌, Bool, true, false, true≢false, not, ◌&&◌, ◌||◌, List, [], ◌∷◌, ◌++◌, map, Option, Some, None, refl, sym, ap, subst, ◌∙◌, inl, inr}
+use Rattle.std.proofs.Common.{◌≡◌, ◌⊎◌, Bool, true, false, not, ◌&&◌, ◌||◌, List, [], ◌∷◌, ◌++◌, map, Option, Some, None, refl, sym, ap, subst, ◌∙◌, inl, inr}
 use Rattle.std.specs.Prelude.{bytes_eq, is_some, IsTrue, if◌then◌else◌}
 use Rattle.std.specs.List.{find, list_any}
 use Rattle.std.proofs.lemmas.Slice.Eq.{bytes_eq-Decides}
 use Rattle.text_model.specs.Lists.{In, Each}
-use Rattle.text_model.specs.Text.{Bytes, IsBytes, is_below}
+use Rattle.text_model.specs.Text.{IsBytes}
 use Rattle.text_model.specs.Path.{is_fit_path}
 use Rattle.text_model.specs.Id.{Id, null, is_null}
 use Rattle.text_model.proofs.EachLemmas.{Each-front, Each-rest, Each-weaker}
-use Rattle.text_model.proofs.OrderLemmas.{is_below-one_way, is_below-same}
 use Rattle.text_model.proofs.TestLemmas.{both, bytes_eq-self as self}
 use Rattle.text_model.proofs.Elements.{none_in}
 use Rattle.text_model.proofs.Options.{not_false, or_parts}
 use Rattle.hg_model.specs.Changeset.{changeset_text}
-use Rattle.hg_model.specs.FileText.{file_text, names_copy, file_order, manifest_order}
-use Rattle.hg_model.specs.Revision.{Revision, Group, Changesets, Manifests, FilesAt, same_group, is_of, revision_of, known_after, is_otherwise, same_parents, known_after_all}
-use Rattle.hg_model.proofs.RevisionLemmas.{same_group-self, is_of-self}
+use Rattle.hg_model.specs.FileText.{file_text, file_order, manifest_order}
+use Rattle.hg_model.specs.Revision.{Revision, Group, Changesets, Manifests, FilesAt, is_of, revision_of, known_after, is_otherwise, same_parents, known_after_all}
+use Rattle.hg_model.proofs.RevisionLemmas.{is_of-self}
 use Rattle.hg_model.proofs.ParentOrder.{manifest_order-turned, file_order-turned}
 use Rattle.pair_known.specs.Ruled.{IsLooseView}
 use Rattle.view_model.specs.View.{Row, ChangesetView, IsRevision, AreManifestParents, ManifestParents, NoManifest, Over, changeset_node, manifest_node, file_node, rows_text}
@@ -66,7 +65,7 @@ same-parents Changesets p q = rw (self p, self q) refl
 same-parents Manifests p q = rw (self p, self q) refl
 same-parents (FilesAt path) p q = rw (self p, self q) refl
 
-found-of : (test : Revision → Bool) (xs : List Revision) (x : Revision) → find test xs ≡ Some x → In x xs × (test x ≡ true)
+pub found-of : (test : Revision → Bool) (xs : List Revision) (x : Revision) → find test xs ≡ Some x → In x xs × (test x ≡ true)
 found-of test [] x e = cc
 found-of test (y ∷ xs) x e = by (test y) refl e (found-of test xs x)
   where

@@ -17,5 +17,8 @@ pub mod ParentManifest
 pub mod PartLemmas
 pub mod PushChangeset
 pub mod PushBlock
+pub mod Refers
 pub mod AllBlocks
+pub mod KnownParents
+pub mod Referred
 pub mod PushState

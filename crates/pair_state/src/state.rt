@@ -13,7 +13,8 @@ use std::marker::Model;
 
 /// What both sides hold, the pairs of their history in its order, and the tags and names that are kept.
 ///
-/// Each changeset that it holds stands in a block of its history. Contracts see its parts.
+/// Each changeset that it holds stands in a block of its history, and each manifest and file revision is that of one of these changesets. Contracts
+/// see its parts.
 #[derive(Drop)]
 pub struct State {
     parts: StateParts,
@@ -45,7 +46,7 @@ impl State {
         State::from_parts(StateParts::empty(alloc))
     }
 
-    /// The state of these parts, which stand for a history that has each of their changesets.
+    /// The state of these parts, which stand for a history that refers to each of their revisions.
     pub fn from_parts(parts: StateParts) -> State
         requires history { (blocks : List Block) × HasAllBlocks parts blocks }
         ensures { result ≡ parts }
@@ -80,6 +81,20 @@ impl State {
         ensures { result.now ≡ self.now.blocks }
     {
         &self.parts.blocks
+    }
+
+    /// The nodes of the changesets, links just before their changeset, in the order of the history.
+    pub fn changesets(&self) -> &IdList
+        ensures { result.now ≡ self.now.changesets }
+    {
+        self.parts.changesets.as_list()
+    }
+
+    /// The ids of the commits, in the order of the history.
+    pub fn commits(&self) -> &IdList
+        ensures { result.now ≡ self.now.commits }
+    {
+        &self.parts.commits
     }
 
     /// The ids of the kept tags, in the order in which they came.

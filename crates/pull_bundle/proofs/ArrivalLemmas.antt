@@ -1,9 +1,10 @@
 -- The entries of a bundle, one after the other.
-use Rattle.std.proofs.Common.{◌≡◌, ◌+◌, ℕ, zero, suc, inl, inr, true, false, true≢false, List, [], ◌∷◌, ◌++◌, take, drop, map, Some, refl, sym, ap, subst, ◌∙◌, append_assoc, append-nil}
-use Rattle.std.specs.Prelude.{slice_get}
+use Rattle.std.proofs.Common.{◌≡◌, ◌⊎◌, ◌+◌, ℕ, zero, suc, inl, inr, true, false, true≢false, List, [], ◌∷◌, ◌++◌, take, drop, map, Some, refl, sym, ap, subst, ◌∙◌, append_assoc, append-nil}
+use Rattle.std.specs.Prelude.{slice_get, IsTrue}
 use Rattle.std.proofs.lemmas.List.{take-append-drop}
 use Rattle.std.proofs.lemmas.List.Elements.{filter-append}
-use Rattle.text_model.specs.Fault.{Refusal}
+use Rattle.text_model.specs.Id.{Id}
+use Rattle.text_model.specs.Fault.{FaultName, Refusal}
 use Rattle.text_model.proofs.Elements.{drop_next, map_append, take_push}
 use Rattle.hg_model.specs.Revision.{Group, Changesets, Manifests, FilesAt, Revision, known_after, known_after_all}
 use Rattle.hg_model.specs.Reading.{Arrival}
@@ -17,9 +18,7 @@ use Rattle.hg_bundle.specs.Arrivals.{arrival_of, kind_of}
 use Rattle.hg_dump.proofs.HeldLemmas.{node-is}
 use Rattle.view_model.specs.Dump.{objects_in}
 use Rattle.pair_model.specs.Block.{Block, node_of, commits_in}
-use Rattle.history_model.specs.Pull.{BringBlocks, ChangesetRefused, IsChangesetRefusal, changesets_among, revisions_among, is_changesets}
-use Rattle.pair_state.specs.declared.state_parts.StateParts.{StateParts}
-use Rattle.pair_state.specs.Blocks.{IsStateOf}
+use Rattle.history_model.specs.Pull.{BringBlocks, GivesBlock, IsKnownLink, ChangesetRefused, IsChangesetRefusal, changesets_among, revisions_among, is_changesets}
 use Rattle.pair_state.specs.Push.{HaveSame}
 use Rattle.pull_outcome.specs.declared.refused.PullFault.{PullFault}
 use Rattle.pull_outcome.specs.declared.refused.PullFault.TheVariants.{Refused, Read, Memory}
@@ -27,7 +26,8 @@ use Rattle.pull_outcome.specs.Refused.{IsRefusedBy}
 use Rattle.bridge_text.specs.Refusals.{refusal_value}
 use Rattle.pair_state.specs.AllBlocks.{state_value, stands_in}
 use Rattle.pair_state.proofs.AllBlocks.{stands-more, saved-stands}
-use Rattle.pull_bundle.specs.Takes.{AreStanding, Comes, Takes, TakesArrivals, IsRefusedArrival, Starts}
+use Rattle.pull_bundle.specs.declared.taking.Taking.{Taking}
+use Rattle.pull_bundle.specs.Takes.{IsTaking, AreStanding, Comes, Takes, TakesArrivals, IsRefusedNew, IsRefusedArrival, Starts}
 use Rattle.pull_bundle.proofs.Known.{grown, standing-more, standing-after, saved-last}
 use Rattle.pull_bundle.proofs.Blocks.{brings-none, brings-append, brings-same, objects_in-more, same-more, same-then, refused-same}
 
@@ -61,68 +61,82 @@ among-one a rest h = rw h refl
 
 -- ---- one entry
 
-abbrev takes-at : (s next : StateParts) (blocks : List Block) (rs rs' : List Revision) → rs ≡ rs' → Takes s next blocks rs → Takes s next blocks rs'
-takes-at s next blocks rs rs' e t = record {
-  new = t.new;
-  brings = subst (λ (l : List Revision). BringBlocks s.known.hg s.known.git blocks l t.new) e t.brings;
-  state = t.state;
-  revisions = t.revisions;
-  objects = t.objects;
-  tags = t.tags;
-  names = t.names;
+-- why a changeset that comes is refused
+abbrev pub ComesDue : Taking → Id → FaultName → Type 0
+ComesDue t node name = (blocks : List Block) (before : List Revision) (r : Revision) → r.node ≡ node → r.group ≡ Changesets → Comes t blocks before r → IsRefusedNew t blocks r name
+
+abbrev takes-at : (t next : Taking) (blocks : List Block) (rs rs' : List Revision) → rs ≡ rs' → Takes t next blocks rs → Takes t next blocks rs'
+takes-at t next blocks rs rs' e took = record {
+  new = took.new;
+  brings = subst (λ (l : List Revision). BringBlocks (t.state).known.hg (t.state).known.git blocks l took.new) e took.brings;
+  taking = took.taking;
+  revisions = took.revisions;
+  objects = took.objects;
+  tags = took.tags;
+  names = took.names;
 }
 
-abbrev takes-none : (s : StateParts) (blocks : List Block) → IsStateOf s blocks → Takes s s blocks []
-takes-none s blocks state = record {
+abbrev takes-none : (t : Taking) (blocks : List Block) → IsTaking t blocks → Takes t t blocks []
+takes-none t blocks taking = record {
   new = [];
-  brings = brings-none s.known.hg s.known.git blocks;
-  state = subst (IsStateOf s) (sym (append-nil blocks)) state;
+  brings = brings-none (t.state).known.hg (t.state).known.git blocks;
+  taking = subst (IsTaking t) (sym (append-nil blocks)) taking;
   revisions = refl;
-  objects = subst (HaveSame s.known.git) (sym (append-nil s.known.git)) ((λ x i. i), (λ x i. i));
+  objects = subst (HaveSame (t.state).known.git) (sym (append-nil (t.state).known.git)) ((λ x i. i), (λ x i. i));
   tags = refl;
   names = refl;
 }
 
-pub none-taken : (s : StateParts) (base : List Revision) (blocks : List Block) → IsStateOf s blocks → AreStanding blocks base → TakesArrivals s s base blocks []
-none-taken s base blocks state saved = record { takes = takes-none s blocks state; saved = standing-more blocks [] base saved }
+pub none-taken : (t : Taking) (base : List Revision) (blocks : List Block) → IsTaking t blocks → AreStanding (t.state).known.hg blocks base → TakesArrivals t t base blocks []
+none-taken t base blocks taking saved = record { takes = takes-none t blocks taking; saved = standing-more (t.state).known.hg blocks [] base saved }
 
-pub other-taken : (s : StateParts) (before : List Revision) (blocks : List Block) (a : Arrival) → is_changesets (a.revision).group ≡ false → Comes s blocks before a.revision → TakesArrivals s s before blocks (a ∷ [])
-other-taken s before blocks a other comes = record {
-  takes = takes-at s s blocks [] (revisions_among (changesets_among (a ∷ []))) (sym (ap revisions_among (among-other a other))) (takes-none s blocks comes.state);
-  saved = standing-after (blocks ++ []) before a.revision (standing-more blocks [] before comes.saved) (λ g. absurd (true≢false (sym (ap is_changesets g) ∙ other)));
-}
+pub other-taken : (t : Taking) (before : List Revision) (blocks : List Block) (a : Arrival) → is_changesets (a.revision).group ≡ false → Comes t blocks before a.revision → TakesArrivals t t before blocks (a ∷ [])
+other-taken t before blocks a other comes =
+    let known = (t.state).known.hg in
+    record {
+      takes = takes-at t t blocks [] (revisions_among (changesets_among (a ∷ []))) (sym (ap revisions_among (among-other a other))) (takes-none t blocks comes.taking);
+      saved = standing-after known (blocks ++ []) before a.revision (standing-more known blocks [] before comes.saved) (λ g. absurd (true≢false (sym (ap is_changesets g) ∙ other)));
+    }
 
-brings-saves : (s : StateParts) → AreAdded s.known.hg → (objects : List Object) (blocks : List Block) (r : Revision) (new : List Block) → BringBlocks s.known.hg objects blocks (r ∷ []) new → stands_in (blocks ++ new) r.node ≡ true
+-- the block of a changeset is that of its node
+pub gives-node : (known : List Revision) (objects : List Object) (blocks : List Block) (node : Id) (b : Block) → AreAdded known → GivesBlock known objects blocks node b → node_of b ≡ node
+gives-node known objects blocks node b added g = ap node_of ((g.passes).block.2) ∙ node-is known added node g.view g.is_held
+
+brings-saves : (known : List Revision) → AreAdded known → (objects : List Object) (blocks : List Block) (r : Revision) (new : List Block) → BringBlocks known objects blocks (r ∷ []) new
+    → IsTrue (stands_in (blocks ++ new) r.node) ⊎ IsKnownLink known r.node
 unfolding BringBlocks
-brings-saves s added objects blocks r new (inl h) = stands-more blocks new r.node (saved-stands blocks r.node h.0)
-brings-saves s added objects blocks r new (inr (free, b, rest, is, gives, later)) =
-    let node : node_of b ≡ r.node = ap node_of gives.block ∙ node-is s.known.hg added r.node gives.view gives.is_held in
+brings-saves known added objects blocks r new (inl h) = inr h.0
+brings-saves known added objects blocks r new (inr (inl h)) = inl (stands-more blocks new r.node (saved-stands blocks r.node h.1))
+brings-saves known added objects blocks r new (inr (inr (no_link, free, b, rest, is, gives, later))) =
     let one : new ≡ b ∷ [] = is ∙ ap (λ (l : List Block). b ∷ l) later in
-    ap (λ (l : List Block). stands_in (blocks ++ l) r.node) one ∙ saved-stands (blocks ++ b ∷ []) r.node (saved-last blocks b r.node node)
+    inl (ap (λ (l : List Block). stands_in (blocks ++ l) r.node) one ∙ saved-stands (blocks ++ b ∷ []) r.node (saved-last blocks b r.node (gives-node known objects blocks r.node b added gives)))
 
-pub changeset-taken : (s next : StateParts) (before : List Revision) (blocks : List Block) (a : Arrival) → is_changesets (a.revision).group ≡ true → Comes s blocks before a.revision → Takes s next blocks (a.revision ∷ [])
-    → TakesArrivals s next before blocks (a ∷ [])
-changeset-taken s next before blocks a one comes t = record {
-  takes = takes-at s next blocks (a.revision ∷ []) (revisions_among (changesets_among (a ∷ []))) (sym (ap revisions_among (among-one a [] one))) t;
-  saved = standing-after (blocks ++ t.new) before a.revision (standing-more blocks t.new before comes.saved) (λ g. brings-saves s comes.state.held.added s.known.git blocks a.revision t.new t.brings);
-}
+pub changeset-taken : (t next : Taking) (before : List Revision) (blocks : List Block) (a : Arrival) → is_changesets (a.revision).group ≡ true → Comes t blocks before a.revision → Takes t next blocks (a.revision ∷ [])
+    → TakesArrivals t next before blocks (a ∷ [])
+changeset-taken t next before blocks a one comes took =
+    let known = (t.state).known.hg in
+    record {
+      takes = takes-at t next blocks (a.revision ∷ []) (revisions_among (changesets_among (a ∷ []))) (sym (ap revisions_among (among-one a [] one))) took;
+      saved = standing-after known (blocks ++ took.new) before a.revision (standing-more known blocks took.new before comes.saved)
+          (λ g. brings-saves known comes.taking.state.held.added (t.state).known.git blocks a.revision took.new took.brings);
+    }
 
 -- ---- one entry behind others
 
-takes-append : (start mid next : StateParts) (blocks : List Block) (rs rs' : List Revision) (t : Takes start mid blocks rs) (u : Takes mid next (blocks ++ t.new) rs')
-    → BringBlocks start.known.hg start.known.git blocks (rs ++ rs') (t.new ++ u.new)
+takes-append : (start mid next : Taking) (blocks : List Block) (rs rs' : List Revision) (t : Takes start mid blocks rs) (u : Takes mid next (blocks ++ t.new) rs')
+    → BringBlocks (start.state).known.hg (start.state).known.git blocks (rs ++ rs') (t.new ++ u.new)
 takes-append start mid next blocks rs rs' t u =
-    brings-append start.known.hg start.known.git blocks rs rs' t.new u.new t.brings
-    (brings-same start.known.hg mid.known.git (start.known.git ++ objects_in (commits_in t.new)) (blocks ++ t.new) rs' u.new t.objects
-    (subst (λ (l : List Revision). BringBlocks l mid.known.git (blocks ++ t.new) rs' u.new) t.revisions u.brings))
+    brings-append (start.state).known.hg (start.state).known.git blocks rs rs' t.new u.new t.brings
+    (brings-same (start.state).known.hg (mid.state).known.git ((start.state).known.git ++ objects_in (commits_in t.new)) (blocks ++ t.new) rs' u.new t.objects
+    (subst (λ (l : List Revision). BringBlocks l (mid.state).known.git (blocks ++ t.new) rs' u.new) t.revisions u.brings))
 
-takes-objects : (start mid next : StateParts) (blocks : List Block) (rs rs' : List Revision) (t : Takes start mid blocks rs) (u : Takes mid next (blocks ++ t.new) rs')
-    → HaveSame next.known.git (start.known.git ++ objects_in (commits_in (t.new ++ u.new)))
+takes-objects : (start mid next : Taking) (blocks : List Block) (rs rs' : List Revision) (t : Takes start mid blocks rs) (u : Takes mid next (blocks ++ t.new) rs')
+    → HaveSame (next.state).known.git ((start.state).known.git ++ objects_in (commits_in (t.new ++ u.new)))
 takes-objects start mid next blocks rs rs' t u =
     let mine = objects_in (commits_in t.new) in
     let more = objects_in (commits_in u.new) in
-    subst (HaveSame next.known.git) (append_assoc start.known.git mine more ∙ ap (λ (l : List Object). start.known.git ++ l) (sym (objects_in-more t.new u.new)))
-    (same-then next.known.git (mid.known.git ++ more) ((start.known.git ++ mine) ++ more) u.objects (same-more mid.known.git (start.known.git ++ mine) more t.objects))
+    subst (HaveSame (next.state).known.git) (append_assoc (start.state).known.git mine more ∙ ap (λ (l : List Object). (start.state).known.git ++ l) (sym (objects_in-more t.new u.new)))
+    (same-then (next.state).known.git ((mid.state).known.git ++ more) (((start.state).known.git ++ mine) ++ more) u.objects (same-more (mid.state).known.git ((start.state).known.git ++ mine) more t.objects))
 
 among-more : (came more : List Arrival) → revisions_among (changesets_among came) ++ revisions_among (changesets_among more) ≡ revisions_among (changesets_among (came ++ more))
 among-more came more =
@@ -132,21 +146,22 @@ among-more came more =
 known-more : (base : List Revision) (came : List Arrival) (a : Arrival) → known_after (known_after_all base (revisions_among came)) a.revision ≡ known_after_all base (revisions_among (came ++ a ∷ []))
 known-more base came a = sym (ap (known_after_all base) (map_append (λ x. x.revision) came (a ∷ [])) ∙ known_after_all-append base (revisions_among came) (a.revision ∷ []))
 
-pub arrivals-append : (start mid next : StateParts) (base : List Revision) (blocks : List Block) (came : List Arrival) (a : Arrival) (t : TakesArrivals start mid base blocks came)
+pub arrivals-append : (start mid next : Taking) (base : List Revision) (blocks : List Block) (came : List Arrival) (a : Arrival) (t : TakesArrivals start mid base blocks came)
     → TakesArrivals mid next (known_after_all base (revisions_among came)) (blocks ++ (t.takes).new) (a ∷ []) → TakesArrivals start next base blocks (came ++ a ∷ [])
 arrivals-append start mid next base blocks came a t u = record {
   takes = record {
     new = (t.takes).new ++ (u.takes).new;
-    brings = subst (λ (l : List Revision). BringBlocks start.known.hg start.known.git blocks l ((t.takes).new ++ (u.takes).new)) (among-more came (a ∷ []))
+    brings = subst (λ (l : List Revision). BringBlocks (start.state).known.hg (start.state).known.git blocks l ((t.takes).new ++ (u.takes).new)) (among-more came (a ∷ []))
         (takes-append start mid next blocks (revisions_among (changesets_among came)) (revisions_among (changesets_among (a ∷ []))) t.takes u.takes);
-    state = subst (IsStateOf next) (append_assoc blocks (t.takes).new (u.takes).new) (u.takes).state;
+    taking = subst (IsTaking next) (append_assoc blocks (t.takes).new (u.takes).new) (u.takes).taking;
     revisions = (u.takes).revisions ∙ (t.takes).revisions;
     objects = takes-objects start mid next blocks (revisions_among (changesets_among came)) (revisions_among (changesets_among (a ∷ []))) t.takes u.takes;
     tags = (u.takes).tags ∙ (t.takes).tags;
     names = (u.takes).names ∙ (t.takes).names;
   };
-  saved = subst (λ (l : List Block). AreStanding l (known_after_all base (revisions_among (came ++ a ∷ [])))) (append_assoc blocks (t.takes).new (u.takes).new)
-      (subst (AreStanding ((blocks ++ (t.takes).new) ++ (u.takes).new)) (known-more base came a) u.saved);
+  saved = subst (λ (l : List Block). AreStanding (start.state).known.hg l (known_after_all base (revisions_among (came ++ a ∷ [])))) (append_assoc blocks (t.takes).new (u.takes).new)
+      (subst (AreStanding (start.state).known.hg ((blocks ++ (t.takes).new) ++ (u.takes).new)) (known-more base came a)
+      (subst (λ (l : List Revision). AreStanding l ((blocks ++ (t.takes).new) ++ (u.takes).new) (known_after (known_after_all base (revisions_among came)) a.revision)) (t.takes).revisions u.saved));
 }
 
 -- ---- the entry at a place
@@ -167,15 +182,15 @@ entry-at (a ∷ came) (suc i) list h = let r = entry-at came i list h in record 
 parted : (came : List Arrival) (i : ℕ) (a : Arrival) → slice_get came i ≡ Some a → came ≡ take i came ++ a ∷ drop (i + 1) came
 parted came i a at = sym (take-append-drop i came) ∙ ap (λ (l : List Arrival). take i came ++ l) (drop_next came i a at)
 
-module _ (start mid : StateParts) (base : List Revision) (blocks : List Block) (list : List listed.Arrival) (came : List Arrival) (starts : Starts start base blocks list came) (i : ℕ) (a : Arrival) (at : slice_get came i ≡ Some a) (t : TakesArrivals start mid base blocks (take i came)) where
+module _ (start mid : Taking) (base : List Revision) (blocks : List Block) (list : List listed.Arrival) (came : List Arrival) (starts : Starts start base blocks list came) (i : ℕ) (a : Arrival) (at : slice_get came i ≡ Some a) (t : TakesArrivals start mid base blocks (take i came)) where
   pub comes-next : Comes mid (blocks ++ (t.takes).new) (known_after_all base (revisions_among (take i came))) a.revision
   comes-next =
       let rest = revisions_among (drop (i + 1) came) in
       let before = known_after_all base (revisions_among (take i came)) in
       let later = grown (known_after before a.revision) rest in
       record {
-        state = (t.takes).state;
-        saved = t.saved;
+        taking = (t.takes).taking;
+        saved = subst (λ (l : List Revision). AreStanding l (blocks ++ (t.takes).new) before) (sym (t.takes).revisions) t.saved;
         later = later.0;
         store =
             (t.takes).revisions ∙ starts.store ∙ ap (λ (l : List Arrival). known_after_all base (revisions_among l)) (parted came i a at)
@@ -183,10 +198,10 @@ module _ (start mid : StateParts) (base : List Revision) (blocks : List Block) (
             ∙ known_after_all-append base (revisions_among (take i came)) (a.revision ∷ rest) ∙ later.1;
       }
 
-  pub taken-next : (next : StateParts) → TakesArrivals mid next (known_after_all base (revisions_among (take i came))) (blocks ++ (t.takes).new) (a ∷ []) → TakesArrivals start next base blocks (take (i + 1) came)
+  pub taken-next : (next : Taking) → TakesArrivals mid next (known_after_all base (revisions_among (take i came))) (blocks ++ (t.takes).new) (a ∷ []) → TakesArrivals start next base blocks (take (i + 1) came)
   taken-next next u = subst (TakesArrivals start next base blocks) (sym (take_push came i a at)) (arrivals-append start mid next base blocks (take i came) a t u)
 
-  refusal-next : (why : Refusal) → IsRefusedArrival mid (blocks ++ (t.takes).new) a why → IsChangesetRefusal start.known.hg (state_value start blocks) (changesets_among came) why
+  refusal-next : (why : Refusal) → IsRefusedArrival mid (blocks ++ (t.takes).new) a why → IsChangesetRefusal (start.state).known.hg (state_value start.state blocks) (changesets_among came) why
   refusal-next why x = record {
     before = changesets_among (take i came);
     refused = a;
@@ -196,14 +211,15 @@ module _ (start mid : StateParts) (base : List Revision) (blocks : List Block) (
         ∙ ap (λ (l : List Arrival). changesets_among (take i came) ++ l) (among-one a (drop (i + 1) came) x.changeset);
     new = (t.takes).new;
     brings = (t.takes).brings;
+    no_link = λ link. x.refused.no_link (subst (λ (l : List Revision). IsKnownLink l (a.revision).node) (sym (t.takes).revisions) link);
     is_new = x.refused.is_new;
     name = x.name;
-    fault = refused-same mid.known.git (start.known.git ++ objects_in (commits_in (t.takes).new)) (t.takes).objects start.known.hg (blocks ++ (t.takes).new) (a.revision).node x.name
-        (subst (λ (l : List Revision). ChangesetRefused l mid.known.git (blocks ++ (t.takes).new) (a.revision).node x.name) (t.takes).revisions x.refused.fault);
+    fault = refused-same (mid.state).known.git ((start.state).known.git ++ objects_in (commits_in (t.takes).new)) (t.takes).objects (start.state).known.hg (blocks ++ (t.takes).new) (a.revision).node x.name
+        (subst (λ (l : List Revision). ChangesetRefused l (mid.state).known.git (blocks ++ (t.takes).new) (a.revision).node x.name) (t.takes).revisions x.refused.fault);
     is = x.is;
   }
 
-  pub refused-next : (e : PullFault) → IsRefusedBy (IsRefusedArrival mid (blocks ++ (t.takes).new) a) e → IsRefusedBy (IsChangesetRefusal start.known.hg (state_value start blocks) (changesets_among came)) e
+  pub refused-next : (e : PullFault) → IsRefusedBy (IsRefusedArrival mid (blocks ++ (t.takes).new) a) e → IsRefusedBy (IsChangesetRefusal (start.state).known.hg (state_value start.state blocks) (changesets_among came)) e
   refused-next (Refused why) h = refusal-next (refusal_value why) h
   refused-next Read h = tt
   refused-next Memory h = tt

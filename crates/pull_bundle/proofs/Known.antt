@@ -1,5 +1,5 @@
 -- Known revisions, and what stays held as more come.
-use Rattle.std.proofs.Common.{◌≡◌, Bool, true, false, true≢false, List, [], ◌∷◌, ◌++◌, Option, Some, None, refl, sym, ap, ◌∙◌, append_assoc, append-nil}
+use Rattle.std.proofs.Common.{◌≡◌, ◌⊎◌, inl, inr, Bool, true, false, true≢false, List, [], ◌∷◌, ◌++◌, Option, Some, None, refl, sym, ap, ◌∙◌, append_assoc, append-nil}
 use Rattle.std.specs.Prelude.{is_some, bytes_eq, IsTrue}
 use Rattle.std.proofs.lemmas.Slice.Eq.{bytes_eq-Decides}
 use Rattle.text_model.specs.Id.{Id}
@@ -9,7 +9,7 @@ use Rattle.hg_model.proofs.RevisionLemmas.{is_of-self}
 use Rattle.view_model.specs.View.{Row, file_node, ManifestParents, NoManifest, Over, ChangesetView}
 use Rattle.view_model.specs.Held.{IsFileHeld, IsManifestHeld, IsChangesetHeld, AreChangesetsHeld}
 use Rattle.pair_model.specs.Block.{Block, node_of}
-use Rattle.history_model.specs.Pull.{is_saved}
+use Rattle.history_model.specs.Pull.{IsKnownLink, is_saved}
 use Rattle.pair_state.specs.AllBlocks.{stands_in}
 use Rattle.pair_state.proofs.AllBlocks.{stands-more}
 use Rattle.pair_state.proofs.CameLemmas.{find-front}
@@ -31,7 +31,7 @@ grown known (r ∷ rs) =
 
 -- ---- looking up among more
 
-revision-last : (known : List Revision) (group : Group) (node : Id) (r : Revision) → knows known group node ≡ false → is_of group node r ≡ true → revision_of (known ++ r ∷ []) group node ≡ Some r
+pub revision-last : (known : List Revision) (group : Group) (node : Id) (r : Revision) → knows known group node ≡ false → is_of group node r ≡ true → revision_of (known ++ r ∷ []) group node ≡ Some r
 revision-last [] group node r h is = rw is refl
 revision-last (x ∷ known) group node r h is = by (is_of group node x) refl (revision-last known group node r)
   where
@@ -75,16 +75,24 @@ saved-last (x ∷ blocks) b node is = by (bytes_eq (node_of x) node) refl (saved
     by true e later = rw e refl
     by false e later = rw e later
 
-pub standing-more : (blocks new : List Block) (known : List Revision) → AreStanding blocks known → AreStanding (blocks ++ new) known
-standing-more blocks new known h =
-    Each-weaker (λ r. r.group ≡ Changesets → IsTrue (stands_in blocks r.node)) (λ r. r.group ≡ Changesets → IsTrue (stands_in (blocks ++ new) r.node)) (λ r f g. stands-more blocks new r.node (f g)) known h
+-- the changeset stands in a block, or has the form of a link
+abbrev Stands : List Revision → List Block → Revision → Type 0
+Stands known blocks r = r.group ≡ Changesets → IsTrue (stands_in blocks r.node) ⊎ IsKnownLink known r.node
 
-pub standing-after : (blocks : List Block) (known : List Revision) (r : Revision) → AreStanding blocks known → (r.group ≡ Changesets → IsTrue (stands_in blocks r.node)) → AreStanding blocks (known_after known r)
-standing-after blocks known r h f = by (knows known r.group r.node) refl
+pub standing-more : (known : List Revision) (blocks new : List Block) (rs : List Revision) → AreStanding known blocks rs → AreStanding known (blocks ++ new) rs
+standing-more known blocks new rs h = Each-weaker (Stands known blocks) (Stands known (blocks ++ new)) (λ r f g. more r (f g)) rs h
   where
-    by : (b : Bool) → knows known r.group r.node ≡ b → AreStanding blocks (known_after known r)
+    more : (r : Revision) → IsTrue (stands_in blocks r.node) ⊎ IsKnownLink known r.node → IsTrue (stands_in (blocks ++ new) r.node) ⊎ IsKnownLink known r.node
+    more r (inl there) = inl (stands-more blocks new r.node there)
+    more r (inr link) = inr link
+
+pub standing-after : (known : List Revision) (blocks : List Block) (rs : List Revision) (r : Revision) → AreStanding known blocks rs → (r.group ≡ Changesets → IsTrue (stands_in blocks r.node) ⊎ IsKnownLink known r.node)
+    → AreStanding known blocks (known_after rs r)
+standing-after known blocks rs r h f = by (knows rs r.group r.node) refl
+  where
+    by : (b : Bool) → knows rs r.group r.node ≡ b → AreStanding known blocks (known_after rs r)
     by true e = rw e h
-    by false e = rw e (Each-append (λ r. r.group ≡ Changesets → IsTrue (stands_in blocks r.node)) known (r ∷ []) h (f, tt))
+    by false e = rw e (Each-append (Stands known blocks) rs (r ∷ []) h (f, tt))
 
 -- ---- a revision that came is known
 

@@ -1,18 +1,21 @@
 -- What the reading of a bundle leaves of a state.
-use Rattle.std.proofs.Common.{◌≡◌, ◌++◌, ℕ, inl, List, Option, Some, None, Ok, Err, refl, sym, ap, subst, ◌∙◌, map}
-use Rattle.std.specs.Prelude.{IfSome, IsTrue, Result}
+use Rattle.std.proofs.Common.{◌≡◌, ◌⊎◌, ◌++◌, ℕ, Bool, true, false, not, inl, inr, List, [], ◌∷◌, Option, Some, None, Ok, Err, refl, sym, ap, subst, ◌∙◌, map}
+use Rattle.std.specs.Prelude.{IfSome, IsTrue, Result, if◌then◌else◌}
+use Rattle.text_model.specs.Lists.{Each, In, SomeOf}
 use Rattle.text_model.specs.Text.{Bytes}
 use Rattle.text_model.specs.Id.{Id, has_id}
 use Rattle.text_model.specs.Fault.{Refusal}
+use Rattle.text_model.proofs.Elements.{each_from}
 use Rattle.text_model.proofs.Options.{some_is, none_some}
+use Rattle.tree_shape.proofs.Elements.{in-append}
 use Rattle.bridge_text.specs.Refusals.{refusal_value}
-use Rattle.hg_model.specs.Revision.{Revision, known_after_all}
+use Rattle.hg_model.specs.Revision.{Revision, knows, known_after, known_after_all}
 use Rattle.hg_model.specs.Reading.{Arrival, bundle_reading}
 use Rattle.hg_bundle.specs.declared.arrival.Arrival as listed
 use Rattle.hg_bundle.specs.declared.fault.BundleFault.{BundleFault}
 use Rattle.hg_bundle.specs.declared.fault.BundleFault.TheVariants as bundle
 use Rattle.hg_bundle.specs.Faults as read
-use Rattle.hg_bundle.specs.Arrivals.{Reads, refused, arrival_of, revisions_of}
+use Rattle.hg_bundle.specs.Arrivals.{Reads, AreArrivals, AreMarked, refused, arrival_of, revisions_of}
 use Rattle.git_store.specs.Known.{AreKnown}
 use Rattle.hg_store.specs.Known.{AreAdded}
 use Rattle.view_model.specs.View.{changeset_node}
@@ -24,8 +27,39 @@ use Rattle.pair_state.specs.declared.state_parts.StateParts.{StateParts}
 use Rattle.pair_state.specs.Blocks.{IsAgreed, IsStateOf, value_of}
 use Rattle.pull_outcome.specs.Names.{IsOfPullHg}
 use Rattle.pull_outcome.specs.Refused.{IsRefusedBy, FaultCause, bundle_refused}
-use Rattle.pull_bundle.specs.Takes.{HasRead}
+use Rattle.pull_bundle.specs.Takes.{HasRead, IsListed}
 use Rattle.pull_bundle.proofs.Known.{grown, changeset-more, changesets-more}
+
+-- ---- entries that are fresh
+
+-- a revision that wasn't known is listed as fresh
+abbrev pub IsFreshOf : List Revision → List listed.Arrival → Revision → Type 0
+IsFreshOf known list r = In r known ⊎ SomeOf list (λ e. (e.fresh ≡ true) × IsListed r e)
+
+marked-fresh : (known : List Revision) (came : List Arrival) → AreMarked known came → (r : Revision) → In r (known_after_all known (revisions_of came)) → IsFreshOf known (map arrival_of came) r
+marked-fresh known [] marked r i = inl i
+marked-fresh known (a ∷ came) marked r i = by (marked-fresh (known_after known a.revision) came marked.1 r i)
+  where
+    old : In r known ⊎ In r (a.revision ∷ []) → a.fresh ≡ true → IsFreshOf known (map arrival_of (a ∷ came)) r
+    old (inl j) fresh = inl j
+    old (inr (inl e)) fresh = inr (inl (fresh, subst (λ (x : Revision). IsListed x (arrival_of a)) (sym e) (refl, refl, refl)))
+    old (inr (inr j)) fresh = absurd j
+
+    after : (b : Bool) → knows known (a.revision).group (a.revision).node ≡ b → In r (if b then known else known ++ a.revision ∷ []) → IsFreshOf known (map arrival_of (a ∷ came)) r
+    after true e j = inl j
+    after false e j = old (in-append r known (a.revision ∷ []) j) (marked.0 ∙ ap not e)
+
+    by : IsFreshOf (known_after known a.revision) (map arrival_of came) r → IsFreshOf known (map arrival_of (a ∷ came)) r
+    by (inl j) = after (knows known (a.revision).group (a.revision).node) refl j
+    by (inr some) = inr (inr some)
+
+pub grown-fresh : (before known hg : List Revision) (list : List listed.Arrival) → AreArrivals before hg list → before ≡ known → Each (IsFreshOf known list) hg
+grown-fresh before known hg list grown same =
+    each_from (IsFreshOf known list) hg (λ r i.
+    subst (λ (l : List listed.Arrival). IsFreshOf known l r) (sym grown.1)
+    (subst (λ (l : List Revision). IsFreshOf l (map arrival_of grown.0) r) same (marked-fresh before grown.0 grown.3 r (subst (λ (l : List Revision). In r l) grown.2 i))))
+
+-- ---- the next state
 
 -- the next state has another store of revisions, and all else as it was
 pub record HasStore (s next : StateParts) (hg : List Revision) : Type 0 where
@@ -73,10 +107,11 @@ module _ (s next : StateParts) (hg rs : List Revision) (has : HasStore s next hg
         agreed = λ node in_it. agreed-more node (state.agreed node (subst (λ (l : List Id). IsTrue (has_id l node)) has.agreed in_it));
       }
 
-  pub has-read : (list : List listed.Arrival) (came : List Arrival) → list ≡ map arrival_of came → rs ≡ revisions_of came → HasRead s next list came
-  has-read list came are revisions = record {
+  pub has-read : (list : List listed.Arrival) (came : List Arrival) → list ≡ map arrival_of came → rs ≡ revisions_of came → Each (IsFreshOf s.known.hg list) hg → HasRead s next list came
+  has-read list came are revisions fresh = record {
     are = are;
     store = ap (λ (k : Known). k.hg) has.known ∙ is ∙ ap (known_after_all s.known.hg) revisions;
+    fresh = subst (λ (k : Known). Each (IsFreshOf s.known.hg list) k.hg) (sym has.known) fresh;
     git = ap (λ (k : Known). k.git) has.known;
     state = state-more;
     blocks = has.blocks;
@@ -84,10 +119,11 @@ module _ (s next : StateParts) (hg rs : List Revision) (has : HasStore s next hg
     names = has.names;
   }
 
-pub told : (o : Option Bytes) (s next : StateParts) (hg : List Revision) (list : List listed.Arrival) → HasStore s next hg → AreAdded hg → IfSome o (λ bytes. Reads s.known.hg bytes (Ok (hg, list)))
+pub told : (o : Option Bytes) (s next : StateParts) (hg : List Revision) (list : List listed.Arrival) → HasStore s next hg → AreAdded hg → Each (IsFreshOf s.known.hg list) hg
+    → IfSome o (λ bytes. Reads s.known.hg bytes (Ok (hg, list)))
     → IfSome o (λ bytes. (came : List Arrival) × (bundle_reading s.known.hg bytes ≡ Ok came) × HasRead s next list came)
-told None s next hg list has added h = h
-told (Some bytes) s next hg list has added h = (h.0, h.1, has-read s next hg (revisions_of h.0) has h.3 added list h.0 h.2 refl)
+told None s next hg list has added fresh h = h
+told (Some bytes) s next hg list has added fresh h = (h.0, h.1, has-read s next hg (revisions_of h.0) has h.3 added list h.0 h.2 refl fresh)
 
 -- ---- why it isn't read
 

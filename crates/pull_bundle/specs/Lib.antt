@@ -1,4 +1,5 @@
 pub mod Faults
 pub mod Takes
-pub mod Orphans
-pub mod Clash
+pub mod Late
+pub mod LeftOver
+pub mod Puts

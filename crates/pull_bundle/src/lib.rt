@@ -2,13 +2,14 @@
 #![tactic(auto)]
 
 mod arrivals;
-mod clash;
-mod commit;
 mod draft;
 mod fault;
-mod orphan;
+mod late;
+mod left_over;
+mod link;
 mod pull;
 mod read;
 mod take;
+mod taking;
 
 pub use pull::pull_hg;

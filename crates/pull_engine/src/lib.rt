@@ -2,5 +2,5 @@
 #![tactic(auto)]
 
 pub use pull_bundle::pull_hg;
-pub use pull_outcome::{Fault, PullFault, Pulled};
+pub use pull_outcome::{Fault, GitPulled, HgPulled, PullFault};
 pub use pull_stream::pull_git;

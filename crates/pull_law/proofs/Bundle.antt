@@ -1,11 +1,10 @@
 -- A pull of a bundle comes to one thing.
 use Rattle.std.proofs.Common.{◌≡◌, inl, inr, false, List, [], ◌∷◌, ◌++◌, Result, Ok, Err, sym, ap, subst, ◌∙◌, arith}
-use Rattle.std.specs.List.{find}
 use Rattle.std.proofs.lemmas.List.{map-append}
 use Rattle.text_model.specs.Text.{Bytes}
+use Rattle.text_model.specs.Lists.{Each}
 use Rattle.text_model.specs.Fault.{FaultName, Refusal, refusal}
 use Rattle.text_model.specs.Fault as fault
-use Rattle.text_model.proofs.Options.{some_is, none_some}
 use Rattle.hg_model.specs.Revision.{Revision}
 use Rattle.hg_model.specs.Bundle.{bundle_framing}
 use Rattle.hg_model.specs.Reading.{Arrival, bundle_reading}
@@ -14,34 +13,37 @@ use Rattle.hg_bundle.proofs.Reading.{reading_is}
 use Rattle.hg_bundle.proofs.Taken.{all_taken}
 use Rattle.view_model.specs.Dump.{objects_in, git_increment}
 use Rattle.pair_model.specs.Block.{Block, commits_in}
-use Rattle.history_model.specs.Pull.{State, BringBlocks, ChangesetRefused, IsChangesetRefusal, BundleBrings, BundleRefused, PullHgMakes, PullHgRefuses, is_saved, is_orphan, changesets_among, revisions_among, known_with}
-use Rattle.pull_law.specs.Sound.{IsSoundState}
-use Rattle.pull_law.proofs.Known.{HasNoNull, no-null}
+use Rattle.partner_model.specs.Table.{IsTable}
+use Rattle.history_model.specs.Pull.{State, BringBlocks, IsKnownLink, ChangesetRefused, IsChangesetRefusal, IsOrphan, Dangles, LeftOver, BundleBrings, BundleRefused, PullHgMakes, PullHgRefuses, is_saved, changesets_among, revisions_among, known_with}
+use Rattle.pull_law.specs.Sound.{HasOwnNode, IsSoundState}
+use Rattle.pull_law.proofs.Known.{no-null, own-some, own-after}
+use Rattle.pull_law.proofs.Searches.{first-one, none-first}
 use Rattle.pull_law.proofs.Splits.{Splits, Same, First, Second, splits}
 use Rattle.pull_law.proofs.Views.{refusal-one, gives-or_refused}
-use Rattle.pull_law.proofs.Blocks.{blocks-one, gives-behind}
+use Rattle.pull_law.proofs.Blocks.{brings-table, blocks-one, gives-behind}
 
 -- ---- one state and the changesets of one bundle
 
-module _ (known : List Revision) (none : HasNoNull known) (s : State) (came : List Arrival) where
+module _ (known : List Revision) (own : Each HasOwnNode known) (s : State) (table : IsTable s.blocks) (came : List Arrival) where
   -- the first changeset that is refused, and the blocks of those before it, give no more blocks
   stops : (before : List Arrival) (refused : Arrival) (after : List Arrival) (new all : List Block) (name : FaultName)
       → BringBlocks known s.objects s.blocks (revisions_among (before ++ refused ∷ after)) all
       → BringBlocks known s.objects s.blocks (revisions_among before) new
-      → is_saved (s.blocks ++ new) (refused.revision).node ≡ false
+      → ¬ (IsKnownLink known (refused.revision).node) → is_saved (s.blocks ++ new) (refused.revision).node ≡ false
       → ChangesetRefused known (s.objects ++ objects_in (commits_in new)) (s.blocks ++ new) (refused.revision).node name → ⊥
-  stops before refused after new all name h k free why =
+  stops before refused after new all name h k no_link free why =
       let r = refused.revision in
       let whole = subst (λ (l : List Revision). BringBlocks known s.objects s.blocks l all)
       (map-append (λ (a : Arrival). a.revision) before (refused ∷ after)) h in
-      let gives = gives-behind known none s.objects s.blocks (revisions_among before) r (revisions_among after) new all whole k free in
-      gives-or_refused known none (s.objects ++ objects_in (commits_in new)) (s.blocks ++ new) r.node gives.0 name gives.1 why
+      let gives = gives-behind known own s.objects s.blocks (revisions_among before) r (revisions_among after) new all table whole k no_link free in
+      gives-or_refused known (no-null known (own-some known own)) (s.objects ++ objects_in (commits_in new)) (s.blocks ++ new)
+      (brings-table known own s.objects s.blocks (revisions_among before) new table k) r.node gives.0 name gives.1 why
 
   pub brings-or_refused : (all : List Block) (why : Refusal) → BringBlocks known s.objects s.blocks (revisions_among came) all
       → IsChangesetRefusal known s came why → ⊥
   brings-or_refused all why h x =
       stops x.before x.refused x.after x.new all x.name
-      (subst (λ (l : List Arrival). BringBlocks known s.objects s.blocks (revisions_among l) all) x.split h) x.brings x.is_new x.fault
+      (subst (λ (l : List Arrival). BringBlocks known s.objects s.blocks (revisions_among l) all) x.split h) x.brings x.no_link x.is_new x.fault
 
   pub changeset-refusal_one : (a b : Refusal) → IsChangesetRefusal known s came a → IsChangesetRefusal known s came b → a ≡ b
   changeset-refusal_one a b x y = by (splits x.before y.before x.refused y.refused x.after y.after (sym x.split ∙ y.split))
@@ -49,18 +51,35 @@ module _ (known : List Revision) (none : HasNoNull known) (s : State) (came : Li
       by : Splits x.before y.before x.refused y.refused → a ≡ b
       by (First between is) =
           absurd (stops x.before x.refused between x.new y.new x.name
-          (subst (λ (l : List Arrival). BringBlocks known s.objects s.blocks (revisions_among l) y.new) is y.brings) x.brings x.is_new x.fault)
+          (subst (λ (l : List Arrival). BringBlocks known s.objects s.blocks (revisions_among l) y.new) is y.brings) x.brings x.no_link x.is_new x.fault)
       by (Second between is) =
           absurd (stops y.before y.refused between y.new x.new y.name
-          (subst (λ (l : List Arrival). BringBlocks known s.objects s.blocks (revisions_among l) x.new) is x.brings) y.brings y.is_new y.fault)
+          (subst (λ (l : List Arrival). BringBlocks known s.objects s.blocks (revisions_among l) x.new) is x.brings) y.brings y.no_link y.is_new y.fault)
       by (Same fronts elements) =
-          let new : x.new ≡ y.new = blocks-one known none s.objects s.blocks (revisions_among x.before) x.new y.new x.brings
+          let new : x.new ≡ y.new = blocks-one known own s.objects s.blocks (revisions_among x.before) x.new y.new table x.brings
           (subst (λ (l : List Arrival). BringBlocks known s.objects s.blocks (revisions_among l) y.new) (sym fronts) y.brings) in
           let there = λ (l : List Block) (r : Arrival). ChangesetRefused known (s.objects ++ objects_in (commits_in l)) (s.blocks ++ l) (r.revision).node y.name in
           let fault = subst (λ (r : Arrival). there x.new r) (sym elements) (subst (λ (l : List Block). there l y.refused) (sym new) y.fault) in
-          let name : x.name ≡ y.name = refusal-one known none (s.objects ++ objects_in (commits_in x.new)) (s.blocks ++ x.new)
-          ((x.refused).revision).node x.name y.name x.fault fault in
+          let name : x.name ≡ y.name =
+          refusal-one known (no-null known (own-some known own)) (s.objects ++ objects_in (commits_in x.new)) (s.blocks ++ x.new)
+          (brings-table known own s.objects s.blocks (revisions_among x.before) x.new table x.brings) ((x.refused).revision).node x.name y.name x.fault fault in
           x.is ∙ (λ i. refusal (name i) ((elements i).revision).node (elements i).at) ∙ sym y.is
+
+-- ---- what is left over of a bundle
+
+left_over-one : (known : List Revision) (blocks : List Block) (arrivals : List Arrival) (a b : Refusal) → LeftOver known blocks arrivals a
+    → LeftOver known blocks arrivals b → a ≡ b
+left_over-one known blocks arrivals a b (inl (x, first, is)) (inl (y, first', is')) =
+    is ∙ ap (λ (z : Arrival). refusal fault.Orphan (z.revision).node z.at) (first-one (IsOrphan known) arrivals x y first first') ∙ sym is'
+left_over-one known blocks arrivals a b (inl (x, first, is)) (inr (none, y, first', is')) = absurd (none-first (IsOrphan known) arrivals x none first)
+left_over-one known blocks arrivals a b (inr (none, x, first, is)) (inl (y, first', is')) = absurd (none-first (IsOrphan known) arrivals y none first')
+left_over-one known blocks arrivals a b (inr (none, x, first, is)) (inr (none', y, first', is')) =
+    is ∙ ap (λ (z : Arrival). refusal fault.DanglingLink (z.revision).node z.at) (first-one (Dangles known blocks) arrivals x y first first') ∙ sym is'
+
+nothing-left_over : (known : List Revision) (blocks : List Block) (arrivals : List Arrival) (why : Refusal) → Each (λ a. ¬ (IsOrphan known a)) arrivals
+    → Each (λ a. ¬ (Dangles known blocks a)) arrivals → LeftOver known blocks arrivals why → ⊥
+nothing-left_over known blocks arrivals why no_orphan no_dangling (inl (x, first, is)) = none-first (IsOrphan known) arrivals x no_orphan first
+nothing-left_over known blocks arrivals why no_orphan no_dangling (inr (none, x, first, is)) = none-first (Dangles known blocks) arrivals x no_dangling first
 
 -- ---- one state and one bundle that is read
 
@@ -70,28 +89,30 @@ module _ (s : State) (sound : IsSoundState s) (bundle : Bytes) (arrivals : List 
       let f = bundle_framing bundle in
       (all_taken s.revisions [] 0 f.items f.bad arrivals (omega arith) (sym (reading_is s.revisions bundle) ∙ reads)).additions
 
-  none : HasNoNull (known_with s arrivals)
-  none = no-null s.revisions 0 (revisions_among arrivals) sound.no_null additions
+  own : Each HasOwnNode (known_with s arrivals)
+  own = own-after s.revisions 0 (revisions_among arrivals) sound.revisions additions
+
+  same-new : (xs ys : List Block) → BringBlocks (known_with s arrivals) s.objects s.blocks (revisions_among (changesets_among arrivals)) xs
+      → BringBlocks (known_with s arrivals) s.objects s.blocks (revisions_among (changesets_among arrivals)) ys → xs ≡ ys
+  same-new xs ys = blocks-one (known_with s arrivals) own s.objects s.blocks (revisions_among (changesets_among arrivals)) xs ys sound.blocks
 
   pub new-one : (xs ys : List Block) → BundleBrings s arrivals xs → BundleBrings s arrivals ys → xs ≡ ys
-  new-one xs ys x y = blocks-one (known_with s arrivals) none s.objects s.blocks (revisions_among (changesets_among arrivals)) xs ys x.brings y.brings
+  new-one xs ys x y = same-new xs ys x.brings y.brings
 
   pub brought-or_refused : (new : List Block) (why : Refusal) → BundleBrings s arrivals new → BundleRefused s arrivals why → ⊥
-  brought-or_refused new why x (inl y) = brings-or_refused (known_with s arrivals) none s (changesets_among arrivals) new why x.brings y
-  brought-or_refused new why x (inr (other, brings, a, found, is)) =
-      let same : new ≡ other = blocks-one (known_with s arrivals) none s.objects s.blocks
-      (revisions_among (changesets_among arrivals)) new other x.brings brings in
-      none_some (sym x.no_orphan ∙ ap (λ (l : List Block). find (is_orphan (s.blocks ++ l)) arrivals) same ∙ found)
+  brought-or_refused new why x (inl y) =
+      brings-or_refused (known_with s arrivals) own s sound.blocks (changesets_among arrivals) new why x.brings y
+  brought-or_refused new why x (inr (other, brings, left)) =
+      nothing-left_over (known_with s arrivals) (s.blocks ++ new) arrivals why x.no_orphan x.no_dangling
+      (subst (λ (l : List Block). LeftOver (known_with s arrivals) (s.blocks ++ l) arrivals why) (same-new other new brings x.brings) left)
 
   pub bundle-refusal_one : (a b : Refusal) → BundleRefused s arrivals a → BundleRefused s arrivals b → a ≡ b
-  bundle-refusal_one a b (inl x) (inl y) = changeset-refusal_one (known_with s arrivals) none s (changesets_among arrivals) a b x y
-  bundle-refusal_one a b (inl x) (inr y) = absurd (brings-or_refused (known_with s arrivals) none s (changesets_among arrivals) y.0 a y.1 x)
-  bundle-refusal_one a b (inr x) (inl y) = absurd (brings-or_refused (known_with s arrivals) none s (changesets_among arrivals) x.0 b x.1 y)
-  bundle-refusal_one a b (inr (new, brings, o, found, is)) (inr (new', brings', o', found', is')) =
-      let same : new ≡ new' = blocks-one (known_with s arrivals) none s.objects s.blocks
-      (revisions_among (changesets_among arrivals)) new new' brings brings' in
-      let orphan : o ≡ o' = some_is (sym found ∙ ap (λ (l : List Block). find (is_orphan (s.blocks ++ l)) arrivals) same ∙ found') in
-      is ∙ ap (λ (x : Arrival). refusal fault.Orphan (x.revision).node x.at) orphan ∙ sym is'
+  bundle-refusal_one a b (inl x) (inl y) = changeset-refusal_one (known_with s arrivals) own s sound.blocks (changesets_among arrivals) a b x y
+  bundle-refusal_one a b (inl x) (inr y) = absurd (brings-or_refused (known_with s arrivals) own s sound.blocks (changesets_among arrivals) y.0 a y.1 x)
+  bundle-refusal_one a b (inr x) (inl y) = absurd (brings-or_refused (known_with s arrivals) own s sound.blocks (changesets_among arrivals) x.0 b x.1 y)
+  bundle-refusal_one a b (inr (new, brings, left)) (inr (new', brings', left')) =
+      left_over-one (known_with s arrivals) (s.blocks ++ new) arrivals a b left
+      (subst (λ (l : List Block). LeftOver (known_with s arrivals) (s.blocks ++ l) arrivals b) (same-new new' new brings' brings) left')
 
 -- ---- the law
 

@@ -1,5 +1,5 @@
 -- A name that is chosen by statements of which the first that holds decides is one.
-use Rattle.std.proofs.Common.{◌≡◌, sym, ◌∙◌, inl, inr}
+use Rattle.std.proofs.Common.{◌≡◌, Bool, true, false, true≢false, sym, ◌∙◌, inl, inr}
 use Rattle.text_model.specs.Fault.{FaultName}
 use Rattle.history_model.specs.Pull.{Unless, Nothing}
 
@@ -24,3 +24,6 @@ unless-none Holds name Later never none found (inr h) = none found h.1
 
 pub nothing-none : (found : FaultName) → Nothing found → ⊥
 nothing-none found h = h
+
+pub not-true : {b : Bool} → b ≡ false → b ≡ true → ⊥
+not-true e h = true≢false (sym h ∙ e)

@@ -1,44 +1,45 @@
--- A commit that gives a block isn't refused, and one that is refused has one name. The blocks that commits bring are one list.
-use Rattle.std.proofs.Common.{◌≡◌, ◌<◌, ◌≤◌, inl, inr, Bool, true, false, true≢false, List, [], ◌∷◌, ◌++◌, length, Option, Some, None, refl, sym, ap, subst, ◌∙◌, arith, append_assoc, append-nil}
-use Rattle.std.specs.Prelude.{IsSomeAnd}
+-- A commit that gives a block isn't refused, and one that is refused has one name.
+use Rattle.std.proofs.Common.{◌≡◌, List, Option, Some, None, sym, ap, subst, ◌∙◌, inl, inr}
+use Rattle.std.specs.Prelude.{IsSomeAnd, IsTrue}
 use Rattle.text_model.specs.Id.{Id}
 use Rattle.text_model.specs.Fault.{FaultName}
 use Rattle.text_model.specs.Fault as fault
 use Rattle.text_model.proofs.Options.{some_is}
-use Rattle.hg_model.specs.Revision.{Revision, known_after, known_after_all}
-use Rattle.hg_model.proofs.RevisionLemmas.{known_after_all-append}
+use Rattle.hg_model.specs.Revision.{Revision}
 use Rattle.git_model.specs.Commit.{Commit, IsCommitText}
 use Rattle.git_model.specs.Object.{Object, object_at}
 use Rattle.git_model.specs.Unfold.{WalkFault, walk_fault}
 use Rattle.git_model.proofs.OneTextLemmas.{one_commit}
 use Rattle.view_model.specs.View.{CommitView}
 use Rattle.view_model.specs.Held.{IsCommitHeld}
-use Rattle.view_model.specs.Dump.{revisions_of, revisions_in}
-use Rattle.pair_model.specs.Block.{Block, changesets_in}
-use Rattle.pair_model.specs.Plain.{block_of_commit}
-use Rattle.history_model.specs.Pull.{FilesRefused, FilesPass, WalkRefused, CommitRefused, CommitGives, CommitsBring}
+use Rattle.pair_model.specs.Block.{Block}
+use Rattle.partner_model.specs.Partner.{OfGit, IsHeldView}
+use Rattle.partner_model.specs.Given.{IsBlockFor}
+use Rattle.partner_model.specs.Clash.{changeset_side_collides}
+use Rattle.partner_model.specs.Table.{IsTable}
+use Rattle.history_model.specs.Pull.{ChangesetsFit, FilesRefused, FilesPass, WalkRefused, CommitRefused, CommitGives}
 use Rattle.git_view.proofs.One.{one-held}
-use Rattle.pull_law.proofs.Choices.{IsOneName, nothing-one, unless-one, nothing-none, unless-none}
+use Rattle.pull_law.proofs.Choices.{IsOneName, unless-one, unless-none, not-true}
+use Rattle.pull_law.proofs.Known.{HasNoNull}
+use Rattle.pull_law.proofs.Members.{one-block, block-refusal_one, block-or_refused}
 
 -- ---- a commit with all its files
 
-not-true : {b : Bool} → b ≡ false → b ≡ true → ⊥
-not-true e h = true≢false (sym h ∙ e)
+module _ (known : List Revision) (none : HasNoNull known) (objects : List Object) (blocks : List Block) (table : IsTable blocks) (c : CommitView) where
+  abbrev IsLarge : Block → Type 0
+  IsLarge b = ¬ (ChangesetsFit b)
 
-files-refusal_one : (known : List Revision) (blocks : List Block) (c : CommitView) → IsOneName (FilesRefused known blocks c)
-files-refusal_one known blocks c =
-    unless-one _ fault.NotPlain _ (unless-one _ fault.PairLimit _ (unless-one _ fault.NotPlain _ (unless-one _ fault.Collision _ nothing-one)))
+  abbrev Collides : Block → Type 0
+  Collides b = IsTrue (changeset_side_collides known blocks b)
 
-pass-or_refused : (known : List Revision) (blocks : List Block) (c : CommitView) (found : FaultName) → FilesPass known blocks c
-    → FilesRefused known blocks c found → ⊥
-pass-or_refused known blocks c found p =
-    unless-none _ fault.NotPlain _ (λ more. few more p.plain.few)
-    (unless-none _ fault.PairLimit _ (λ n. n p.fits)
-    (unless-none _ fault.NotPlain _ (λ n. n p.plain)
-    (unless-none _ fault.Collision _ (not-true p.apart) nothing-none))) found
-  where
-    few : 2 < length (c.value).parents → length (c.value).parents ≤ 2 → ⊥
-    few more le = omega arith
+  files-refusal_one : IsOneName (FilesRefused known objects blocks c)
+  files-refusal_one = unless-one _ fault.Collision _ (unless-one _ fault.NestLimit _ (block-refusal_one known none blocks table (OfGit c) IsLarge Collides))
+
+  pass-or_refused : (b : Block) (found : FaultName) → FilesPass known objects blocks c b → FilesRefused known objects blocks c found → ⊥
+  pass-or_refused b found p =
+      unless-none _ fault.Collision _ p.no_collision
+      (unless-none _ fault.NestLimit _ p.not_deep
+      (block-or_refused known none blocks table (OfGit c) IsLarge Collides b p.block (λ n. n p.fits) p.files_in_time p.manifest_in_time (not-true p.apart))) found
 
 -- ---- the walk through its tree
 
@@ -74,84 +75,22 @@ module _ (objects : List Object) (id : Id) where
 
 -- ---- the block of a commit, and why there is none
 
-module _ (known : List Revision) (objects : List Object) (blocks : List Block) (id : Id) where
+module _ (known : List Revision) (none : HasNoNull known) (objects : List Object) (blocks : List Block) (table : IsTable blocks) (id : Id) where
   pub block-one : (a b : Block) → CommitGives known objects blocks id a → CommitGives known objects blocks id b → a ≡ b
-  block-one a b x y = x.block ∙ ap (block_of_commit blocks) (one-held objects id x.view y.view x.is_held y.is_held) ∙ sym y.block
+  block-one a b x y =
+      one-block known none blocks table (OfGit x.view) a b (x.passes).block
+      (subst (λ (c : CommitView). IsBlockFor blocks (IsHeldView known) (OfGit c) b) (one-held objects id y.view x.view y.is_held x.is_held) (y.passes).block)
 
   pub refusal-one : IsOneName (CommitRefused known objects blocks id)
   refusal-one a b (inl x) (inl y) = walk-refusal_one objects id a b x y
   refusal-one a b (inl x) (inr y) = absurd (walk-or_refused objects id y.0 a y.1 y.2 x)
   refusal-one a b (inr x) (inl y) = absurd (walk-or_refused objects id x.0 b x.1 x.2 y)
   refusal-one a b (inr x) (inr y) =
-      files-refusal_one known blocks x.0 a b x.3 (subst (λ (c : CommitView). FilesRefused known blocks c b) (one-held objects id y.0 x.0 y.1 x.1) y.3)
+      files-refusal_one known none objects blocks table x.0 a b x.3
+      (subst (λ (c : CommitView). FilesRefused known objects blocks c b) (one-held objects id y.0 x.0 y.1 x.1) y.3)
 
   pub gives-or_refused : (b : Block) (found : FaultName) → CommitGives known objects blocks id b → CommitRefused known objects blocks id found → ⊥
   gives-or_refused b found x (inl w) = walk-or_refused objects id x.view found x.is_held x.walks w
   gives-or_refused b found x (inr y) =
-      pass-or_refused known blocks x.view found x.passes
-      (subst (λ (c : CommitView). FilesRefused known blocks c found) (one-held objects id y.0 x.view y.1 x.is_held) y.3)
-
--- ---- the blocks that commits bring
-
-pub blocks-one : (known : List Revision) (objects : List Object) (blocks : List Block) (ids : List Id) (xs ys : List Block)
-    → CommitsBring known objects blocks ids xs → CommitsBring known objects blocks ids ys → xs ≡ ys
-unfolding CommitsBring
-blocks-one known objects blocks [] xs ys h k = h ∙ sym k
-blocks-one known objects blocks (id ∷ ids) xs ys (b, rest, is, gives, later) (c, rest', is', gives', later') =
-    let same : b ≡ c = block-one known objects blocks id b c gives gives' in
-    let others : rest ≡ rest' = blocks-one (known_after_all known (revisions_of b.changeset)) objects (blocks ++ b ∷ []) ids rest rest' later
-    (subst (λ (x : Block). CommitsBring (known_after_all known (revisions_of x.changeset)) objects (blocks ++ x ∷ []) ids rest') (sym same) later') in
-    is ∙ (λ i. same i ∷ others i) ∙ sym is'
-
--- what some commits bring, and what others bring behind them
-pub record BringsParts (known : List Revision) (objects : List Object) (blocks : List Block) (ids ids' : List Id) : Type 0 where
-  pub front : List Block
-  pub back : List Block
-  pub first : CommitsBring known objects blocks ids front
-  pub then : CommitsBring (known_after_all known (revisions_in (changesets_in front))) objects (blocks ++ front) ids' back
-
--- a block of a commit has no links, so its changeset alone is new
-known-behind : (known : List Revision) (blocks : List Block) (c : CommitView) (b : Block) (front : List Block) → b ≡ block_of_commit blocks c
-    → known_after_all known (revisions_in (changesets_in (b ∷ front)))
-    ≡ known_after_all (known_after_all known (revisions_of b.changeset)) (revisions_in (changesets_in front))
-known-behind known blocks c b front is =
-    subst (λ (x : Block). known_after_all known (revisions_in (changesets_in (x ∷ front))) ≡ known_after_all (known_after_all known (revisions_of x.changeset))
-    (revisions_in (changesets_in front))) (sym is)
-    (known_after_all-append known (revisions_of (block_of_commit blocks c).changeset) (revisions_in (changesets_in front)))
-
-parts : (known : List Revision) (objects : List Object) (blocks : List Block) (ids ids' : List Id) (new : List Block)
-    → CommitsBring known objects blocks (ids ++ ids') new → BringsParts known objects blocks ids ids'
-unfolding CommitsBring
-parts known objects blocks [] ids' new h = record {
-  front = [];
-  back = new;
-  first = refl;
-  then = subst (λ (l : List Block). CommitsBring known objects l ids' new) (sym (append-nil blocks)) h;
-}
-parts known objects blocks (id ∷ ids) ids' new (b, rest, is, gives, later) =
-    let p = parts (known_after_all known (revisions_of b.changeset)) objects (blocks ++ b ∷ []) ids ids' rest later in
-    record {
-      front = b ∷ p.front;
-      back = p.back;
-      first = (b, p.front, refl, gives, p.first);
-      then = subst (λ (l : List Revision). CommitsBring l objects (blocks ++ b ∷ p.front) ids' p.back)
-          (sym (known-behind known blocks gives.view b p.front gives.block))
-          (subst (λ (l : List Block). CommitsBring
-          (known_after_all (known_after_all known (revisions_of b.changeset)) (revisions_in (changesets_in p.front))) objects l ids' p.back)
-          (append_assoc blocks (b ∷ []) p.front) p.then);
-    }
-
--- a commit behind others has its block
-pub gives-behind : (known : List Revision) (objects : List Object) (blocks : List Block) (ids : List Id) (id : Id) (later : List Id) (new all : List Block)
-    → CommitsBring known objects blocks (ids ++ id ∷ later) all → CommitsBring known objects blocks ids new
-    → (b : Block) × CommitGives (known_after_all known (revisions_in (changesets_in new))) objects (blocks ++ new) id b
-unfolding CommitsBring
-gives-behind known objects blocks ids id later new all h k =
-    let p = parts known objects blocks ids (id ∷ later) all h in
-    let same : p.front ≡ new = blocks-one known objects blocks ids p.front new p.first k in
-    by p.back (subst (λ (l : List Block). CommitsBring (known_after_all known (revisions_in (changesets_in l))) objects (blocks ++ l)
-    (id ∷ later) p.back) same p.then)
-  where
-    by : (back : List Block) → CommitsBring (known_after_all known (revisions_in (changesets_in new))) objects (blocks ++ new) (id ∷ later) back
-        → (b : Block) × CommitGives (known_after_all known (revisions_in (changesets_in new))) objects (blocks ++ new) id b
-    by back x = (x.0, x.3)
+      pass-or_refused known none objects blocks table x.view b found x.passes
+      (subst (λ (c : CommitView). FilesRefused known objects blocks c found) (one-held objects id y.0 x.view y.1 x.is_held) y.3)

@@ -1,11 +1,15 @@
 pub mod Choices
+pub mod Searches
 pub mod Splits
 pub mod Placements
 pub mod Known
+pub mod Tables
+pub mod Members
 pub mod Views
 pub mod Blocks
 pub mod Bundle
 pub mod Commits
+pub mod CommitBlocks
 pub mod Stream
 pub mod Counts
 pub mod BundleFormatLaws

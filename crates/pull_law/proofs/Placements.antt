@@ -1,13 +1,18 @@
 -- Commits have one order, or they have none.
-use Rattle.std.proofs.Common.{◌≡◌, ◌<◌, ◌≤◌, ℕ, zero, suc, Bool, true, false, true≢false, List, [], ◌∷◌, ◌++◌, length, take, Option, Some, None, refl, sym, ap, ◌∙◌, inl, inr, ◌⊎◌, arith}
-use Rattle.std.specs.Prelude.{option_map, slice_get}
-use Rattle.std.specs.List.{find, list_all}
+use Rattle.std.proofs.Common.{◌≡◌, ◌<◌, ◌≤◌, ℕ, zero, suc, Bool, true, false, true≢false, List, [], ◌∷◌, ◌++◌, length, take, Option, Some, None, refl, sym, ap, ◌∙◌, inl, inr, ◌⊎◌, arith, not, ◌||◌, append_assoc, append-nil, bytes_eq}
+use Rattle.std.specs.Prelude.{option_map, slice_get, ⊤}
+use Rattle.std.specs.List.{find, list_all, list_any}
 use Rattle.std.proofs.lemmas.Bool.{cases_lt}
 use Rattle.std.proofs.lemmas.List.{take_all}
+use Rattle.std.proofs.lemmas.List.Folds.{list_any-append}
 use Rattle.text_model.specs.Id.{Id}
-use Rattle.text_model.proofs.Options.{some_is, none_some}
+use Rattle.text_model.proofs.Elements.{each_from}
+use Rattle.text_model.proofs.Options.{some_is, none_some, not_true}
 use Rattle.text_model.proofs.TestLemmas.{both}
-use Rattle.git_model.specs.Order.{Ancestry, is_waiting, is_ready, next_ready, IsPlacement, IsOrder, IsStuckAt}
+use Rattle.git_model.specs.Tree.{has_distinct}
+use Rattle.git_model.specs.Order.{Ancestry, has, is_waiting, is_ready, next_ready, IsPlacement, IsOrder, IsStuckAt}
+use Rattle.pull_law.proofs.Searches.{found}
+use Rattle.pull_law.proofs.Tables.{distinct-push}
 
 -- ---- the beginnings of lists
 
@@ -86,3 +91,34 @@ module _ (came : List Ancestry) (saved : List Id) where
   one-stuck a b s t =
       let same = one-placement s.placed t.placed s.places t.places s.none_ready t.none_ready in
       ap (λ (c : Ancestry). c.id) (some_is (sym s.first ∙ ap (λ (l : List Id). find (is_waiting saved l) came) same ∙ t.first))
+
+  -- ---- the ids of a placement are new and distinct
+
+  place-new : (placed : List Id) (c : Ancestry) → next_ready came saved placed ≡ Some c → has_distinct (saved ++ placed) ≡ true
+      → has_distinct (saved ++ (placed ++ c.id ∷ [])) ≡ true
+  place-new placed c at distinct =
+      let ready = (found (λ (c : Ancestry). ⊤) (is_ready saved placed) came c (each_from (λ (c : Ancestry). ⊤) came (λ c i. tt)) at).1 in
+      let waits = both (not (has saved c.id)) (not (has placed c.id)) (both (is_waiting saved placed c) (list_all (λ p. has saved p || has placed p) c.parents) ready).0 in
+      let new : list_any (bytes_eq c.id) (saved ++ placed) ≡ false =
+      list_any-append (bytes_eq c.id) saved placed ∙ (λ i. not_true (has saved c.id) waits.0 i || not_true (has placed c.id) waits.1 i) in
+      ap has_distinct (sym (append_assoc saved placed (c.id ∷ []))) ∙ distinct-push (saved ++ placed) c.id distinct new
+
+  taken-distinct : (xs : List Id) → IsPlacement came saved xs → has_distinct saved ≡ true → (k : ℕ) → k ≤ length xs
+      → has_distinct (saved ++ take k xs) ≡ true
+  taken-distinct xs h distinct zero le = ap has_distinct (append-nil saved) ∙ distinct
+  taken-distinct xs h distinct (suc k) le =
+      let before = taken-distinct xs h distinct k (omega arith) in
+      let x = get-within xs k (omega arith) in
+      by (next_ready came saved (take k xs)) refl before (take-one_more xs k x.0 x.1) (sym x.1 ∙ h k (omega arith))
+    where
+      by : {x : Id} (o : Option Ancestry) → next_ready came saved (take k xs) ≡ o → has_distinct (saved ++ take k xs) ≡ true
+          → take (suc k) xs ≡ take k xs ++ x ∷ [] → Some x ≡ option_map (λ c. c.id) (next_ready came saved (take k xs))
+          → has_distinct (saved ++ take (suc k) xs) ≡ true
+      by None e before more is = absurd (none_some (sym (ap (option_map (λ (c : Ancestry). c.id)) e) ∙ sym is))
+      by (Some c) e before more is =
+          let same = some_is (is ∙ ap (option_map (λ (c : Ancestry). c.id)) e) in
+          ap (λ (l : List Id). has_distinct (saved ++ l)) (more ∙ ap (λ (z : Id). take k xs ++ z ∷ []) same) ∙ place-new (take k xs) c e before
+
+  pub order-distinct : (xs : List Id) → IsOrder came saved xs → has_distinct saved ≡ true → has_distinct (saved ++ xs) ≡ true
+  order-distinct xs h distinct =
+      ap (λ (l : List Id). has_distinct (saved ++ l)) (sym (take_all (length xs) xs (omega arith))) ∙ taken-distinct xs h.places distinct (length xs) (omega arith)

@@ -1,6 +1,6 @@
 -- A changeset that gives a block isn't refused, and one that is refused has one name.
-use Rattle.std.proofs.Common.{◌≡◌, Bool, true, false, true≢false, List, [], ◌∷◌, map, Some, sym, ap, subst, ◌∙◌, inl, inr}
-use Rattle.std.specs.Prelude.{is_some}
+use Rattle.std.proofs.Common.{◌≡◌, false, true≢false, List, [], ◌∷◌, map, Some, sym, ap, subst, ◌∙◌, inl, inr}
+use Rattle.std.specs.Prelude.{is_some, IsTrue}
 use Rattle.text_model.specs.Lists.{Each, SomeOf}
 use Rattle.text_model.specs.Fault.{FaultName}
 use Rattle.text_model.specs.Fault as fault
@@ -12,34 +12,47 @@ use Rattle.hg_model.specs.Revision.{Revision, Changesets, FilesAt, revision_of, 
 use Rattle.hg_model.proofs.ChangesetLemmas.{one_changeset}
 use Rattle.hg_model.proofs.ManifestLemmas.{one_manifest}
 use Rattle.git_model.specs.Object.{Object}
-use Rattle.view_model.specs.View.{Row, ChangesetView, ManifestParents, NoManifest, Over, entry_of_row}
+use Rattle.view_model.specs.View.{Row, ChangesetView, ManifestParents, NoManifest, Over, entry_of_row, CommitFits}
 use Rattle.view_model.specs.Held.{IsFileHeld, IsManifestHeld, IsChangesetHeld}
 use Rattle.pair_model.specs.Block.{Block}
-use Rattle.pair_model.specs.Plain.{block_of_changeset}
+use Rattle.partner_model.specs.Partner.{OfHg, IsHeldView}
+use Rattle.partner_model.specs.Given.{IsBlockFor, has_late_file, has_late_manifest}
+use Rattle.partner_model.specs.Clash.{commit_side_collides}
+use Rattle.partner_model.specs.Table.{IsTable}
 use Rattle.history_model.specs.Pull.{Unless, LacksManifest, LacksFile, ViewRefused, ViewPasses, ChangesetRefused, GivesBlock}
 use Rattle.hg_view.proofs.One.{one_held}
-use Rattle.pull_law.proofs.Choices.{IsOneName, nothing-one, unless-one, nothing-none, unless-none}
+use Rattle.pull_law.proofs.Choices.{IsOneName, unless-one, unless-none, not-true}
 use Rattle.pull_law.proofs.Known.{HasNoNull}
+use Rattle.pull_law.proofs.Members.{one-block, block-refusal_one, block-or_refused}
 
 -- ---- a changeset with all its files
 
-not-true : {b : Bool} → b ≡ false → b ≡ true → ⊥
-not-true e h = true≢false (sym h ∙ e)
+-- the block of a changeset has it
+own-changeset : (blocks : List Block) (Known : ChangesetView → Type 0) (h : ChangesetView) (b : Block) → IsBlockFor blocks Known (OfHg h) b → b.changeset ≡ h
+own-changeset blocks Known h b is = ap (λ (d : Block). d.changeset) is.2
 
-pub view-refusal_one : (objects : List Object) (blocks : List Block) (h : ChangesetView) → IsOneName (ViewRefused objects blocks h)
-view-refusal_one objects blocks h =
-    unless-one _ fault.PathClash _ (unless-one _ fault.NotPlain _ (unless-one _ fault.NotPlain _
-    (unless-one _ fault.PairLimit _ (unless-one _ fault.NotPlain _ (unless-one _ fault.Collision _ nothing-one)))))
+module _ (known : List Revision) (none : HasNoNull known) (objects : List Object) (blocks : List Block) (table : IsTable blocks) (h : ChangesetView) where
+  abbrev IsLarge : Block → Type 0
+  IsLarge b = ¬ (CommitFits b.commit)
 
-pub passes-or_refused : (objects : List Object) (blocks : List Block) (h : ChangesetView) (found : FaultName) → ViewPasses objects blocks h
-    → ViewRefused objects blocks h found → ⊥
-passes-or_refused objects blocks h found p =
-    unless-none _ fault.PathClash _ (not-true p.no_clash)
-    (unless-none _ fault.NotPlain _ (not-true p.plain.no_link)
-    (unless-none _ fault.NotPlain _ (λ n. n p.parents)
-    (unless-none _ fault.PairLimit _ (λ n. n p.fits)
-    (unless-none _ fault.NotPlain _ (λ n. n p.plain)
-    (unless-none _ fault.Collision _ (not-true p.apart) nothing-none))))) found
+  abbrev Collides : Block → Type 0
+  Collides b = IsTrue (commit_side_collides objects blocks b)
+
+  view-refusal_one : IsOneName (ViewRefused known objects blocks h)
+  view-refusal_one =
+      unless-one _ fault.PathClash _ (unless-one _ fault.ParentIsLink _ (unless-one _ fault.Collision _
+      (unless-one _ fault.NestLimit _ (block-refusal_one known none blocks table (OfHg h) IsLarge Collides))))
+
+  passes-or_refused : (b : Block) (found : FaultName) → ViewPasses known objects blocks h b → ViewRefused known objects blocks h found → ⊥
+  passes-or_refused b found p =
+      let own = own-changeset blocks (IsHeldView known) h b p.block in
+      unless-none _ fault.PathClash _ (not-true p.no_clash)
+      (unless-none _ fault.ParentIsLink _ p.on_no_link
+      (unless-none _ fault.Collision _ p.no_collision
+      (unless-none _ fault.NestLimit _ p.not_deep
+      (block-or_refused known none blocks table (OfHg h) IsLarge Collides b p.block (λ n. n p.fits)
+      (ap (λ (v : ChangesetView). has_late_file blocks v.rows) own ∙ p.files_in_time)
+      (ap (λ (v : ChangesetView). has_late_manifest blocks v.manifest) own ∙ p.manifest_in_time) (not-true p.apart))))) found
 
 -- ---- a changeset that is held lacks nothing
 
@@ -80,12 +93,14 @@ module _ (known : List Revision) (node : Id) (r : Revision) (at : revision_of kn
 
 -- ---- the block of a changeset, and why there is none
 
-module _ (known : List Revision) (none : HasNoNull known) (objects : List Object) (blocks : List Block) (node : Id) where
+module _ (known : List Revision) (none : HasNoNull known) (objects : List Object) (blocks : List Block) (table : IsTable blocks) (node : Id) where
   pub block-one : (a b : Block) → GivesBlock known objects blocks node a → GivesBlock known objects blocks node b → a ≡ b
-  block-one a b x y = x.block ∙ ap (block_of_changeset blocks) (one_held known none node x.view y.view x.is_held y.is_held) ∙ sym y.block
+  block-one a b x y =
+      one-block known none blocks table (OfHg x.view) a b (x.passes).block
+      (subst (λ (h : ChangesetView). IsBlockFor blocks (IsHeldView known) (OfHg h) b) (one_held known none node y.view x.view y.is_held x.is_held) (y.passes).block)
 
   abbrev ViewRefusedAt : FaultName → Type 0
-  ViewRefusedAt found = (h : ChangesetView) × IsChangesetHeld known node h × ViewRefused objects blocks h found
+  ViewRefusedAt found = (h : ChangesetView) × IsChangesetHeld known node h × ViewRefused known objects blocks h found
 
   -- why the changeset is refused that this revision is
   abbrev RefusedAs : Revision → FaultName → Type 0
@@ -93,8 +108,8 @@ module _ (known : List Revision) (none : HasNoNull known) (objects : List Object
 
   view-name_one : IsOneName ViewRefusedAt
   view-name_one a b x y =
-      view-refusal_one objects blocks x.0 a b x.2
-      (subst (λ (h : ChangesetView). ViewRefused objects blocks h b) (one_held known none node y.0 x.0 y.1 x.1) y.2)
+      view-refusal_one known none objects blocks table x.0 a b x.2
+      (subst (λ (h : ChangesetView). ViewRefused known objects blocks h b) (one_held known none node y.0 x.0 y.1 x.1) y.2)
 
   pub refusal-one : IsOneName (ChangesetRefused known objects blocks node)
   refusal-one a b x y =
@@ -109,5 +124,5 @@ module _ (known : List Revision) (none : HasNoNull known) (objects : List Object
     where
       refused-view : (name : FaultName) → ViewRefusedAt name → ⊥
       refused-view name v =
-          passes-or_refused objects blocks x.view name x.passes
-          (subst (λ (h : ChangesetView). ViewRefused objects blocks h name) (one_held known none node v.0 x.view v.1 x.is_held) v.2)
+          passes-or_refused known none objects blocks table x.view b name x.passes
+          (subst (λ (h : ChangesetView). ViewRefused known objects blocks h name) (one_held known none node v.0 x.view v.1 x.is_held) v.2)

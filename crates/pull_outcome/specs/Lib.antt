@@ -1,3 +1,4 @@
 pub mod Refused
 pub mod Names
 pub mod Pulls
+pub mod Steps

@@ -8,15 +8,19 @@ use Rattle.git_batch.specs.StreamFaults.{IsStreamName}
 use Rattle.pull_outcome.specs.declared.refused.PullFault.{PullFault}
 use Rattle.pull_outcome.specs.declared.refused.PullFault.TheVariants.{Refused, Read, Memory}
 
--- what a changeset of a bundle is refused for, and what belongs to none
+-- what a changeset of a bundle is refused for, what belongs to none, and a link that stands in no block
 abbrev pub IsChangesetName : Fault → Type 0
 IsChangesetName name.ManifestUnknown = ⊤
 IsChangesetName name.FileUnknown = ⊤
 IsChangesetName name.PathClash = ⊤
-IsChangesetName name.NotPlain = ⊤
+IsChangesetName name.ParentIsLink = ⊤
+IsChangesetName name.NestLimit = ⊤
 IsChangesetName name.PairLimit = ⊤
+IsChangesetName name.FileParentLate = ⊤
+IsChangesetName name.ManifestParentLate = ⊤
 IsChangesetName name.Collision = ⊤
 IsChangesetName name.Orphan = ⊤
+IsChangesetName name.DanglingLink = ⊤
 IsChangesetName other = ⊥
 
 -- what a commit of a stream is refused for
@@ -24,8 +28,10 @@ abbrev pub IsCommitName : Fault → Type 0
 IsCommitName name.ParentUnknown = ⊤
 IsCommitName name.ObjectUnknown = ⊤
 IsCommitName name.PathUnfit = ⊤
+IsCommitName name.NestLimit = ⊤
 IsCommitName name.PairLimit = ⊤
-IsCommitName name.NotPlain = ⊤
+IsCommitName name.FileParentLate = ⊤
+IsCommitName name.ManifestParentLate = ⊤
 IsCommitName name.Collision = ⊤
 IsCommitName other = ⊥
 

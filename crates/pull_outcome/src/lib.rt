@@ -5,5 +5,5 @@ mod pulled;
 mod refused;
 
 pub use bridge_text::{Fault, Refusal};
-pub use pulled::Pulled;
+pub use pulled::{GitPulled, HgPulled};
 pub use refused::PullFault;

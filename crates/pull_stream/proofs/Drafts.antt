@@ -1,5 +1,5 @@
 -- The draft of a commit, or why it is refused.
-use Rattle.std.proofs.Common.{◌≡◌, ◌<◌, ◌≤◌, ◌⊎◌, List, length, Option, Some, None, inl, inr, refl, sym, ap, subst, ◌∙◌}
+use Rattle.std.proofs.Common.{◌≡◌, ◌⊎◌, List, Option, Some, None, inl, inr, sym, ap, subst, ◌∙◌}
 use Rattle.std.specs.Prelude.{option_map, IsSomeAnd}
 use Rattle.text_model.specs.Id.{Id}
 use Rattle.text_model.specs.Fault.{FaultName}
@@ -68,13 +68,8 @@ module _ (s : StateParts) (id : Id) (blocks : List Block) where
   -- ---- a commit with all its files
 
   module _ (laws : CommitLaws s.known.git id) (x : Commit) (at : IsCommitAt s.known.git id x) (walks : walk_fault s.known.git x.tree_id ≡ None) where
-    pub parents-refused : 2 < length x.parents → CommitRefused s.known.hg s.known.git blocks id fault.NotPlain
-    parents-refused many =
-        let h = laws.held x at walks in
-        inr (h.0, h.1, ap (λ (v : Commit). walk_fault s.known.git v.tree_id) h.2 ∙ walks, inl (subst (λ (v : Commit). 2 < length v.parents) (sym h.2) many, refl))
-
-    pub draft-is : (d : GitDraft) → TakesCommit s id blocks → ((c : CommitView) → IsCommitHeld s.known.git id c → IsGitDraft s.known.git d c) → length x.parents ≤ 2 → (v : CommitView) × IsDraftFor s id blocks d v
-    draft-is d takes draft few =
+    pub draft-is : (d : GitDraft) → TakesCommit s id blocks → ((c : CommitView) → IsCommitHeld s.known.git id c → IsGitDraft s.known.git d c) → (v : CommitView) × IsDraftFor s id blocks d v
+    draft-is d takes draft =
         let h = laws.held x at walks in
         let on = ap (λ (v : Commit). walk_fault s.known.git v.tree_id) h.2 ∙ walks in (
           h.0,
@@ -82,9 +77,8 @@ module _ (s : StateParts) (id : Id) (blocks : List Block) where
             held = h.1;
             walks = on;
             id_is = laws.node h.0 h.1;
-            few = subst (λ (v : Commit). length v.parents ≤ 2) (sym h.2) few;
             over = record {
-              history = takes.state.held;
+              history = takes.state.state.held;
               draft = draft h.0 h.1;
               view = laws.is_view h.0 h.1 on;
               parents = takes.parents (h.0).value (held-at s.known.git id h.0 h.1);

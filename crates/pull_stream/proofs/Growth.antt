@@ -1,5 +1,5 @@
 -- A store to which objects came, none of which was refused.
-use Rattle.std.proofs.Common.{◌≡◌, List, [], ◌∷◌, refl}
+use Rattle.std.proofs.Common.{List, [], ◌∷◌}
 use Rattle.text_model.specs.Lists.{Each}
 use Rattle.git_model.specs.Object.{Object, objects_after, objects_after_all}
 use Rattle.git_model.specs.Stream.{Placed}

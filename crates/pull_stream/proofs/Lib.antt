@@ -2,7 +2,12 @@ pub mod Growth
 pub mod Blocks
 pub mod Orders
 pub mod Drafts
+pub mod FreshParents
+pub mod LateParents
+pub mod Linked
+pub mod Links
 pub mod Takes
 pub mod Loop
+pub mod Counts
 pub mod Pulls
 pub mod Names

@@ -9,7 +9,7 @@ use Rattle.text_model.specs.Lists.{Each}
 use Rattle.text_model.specs.Id.{Id, commit}
 use Rattle.text_model.specs.Fault.{FaultName}
 use Rattle.text_model.proofs.TestLemmas.{both}
-use Rattle.hg_model.specs.Revision.{Revision, known_after, known_after_all}
+use Rattle.hg_model.specs.Revision.{Revision, known_after_all}
 use Rattle.hg_model.proofs.RevisionLemmas.{known_after_all-append}
 use Rattle.git_model.specs.Commit.{Commit, parent_ids}
 use Rattle.git_model.proofs.CommitLemmas.{parent_ids-text}
@@ -23,7 +23,8 @@ use Rattle.view_model.specs.View.{ChangesetView}
 use Rattle.view_model.specs.Dump.{revisions_of, revisions_in}
 use Rattle.pair_model.specs.Block.{Block, id_of, block_of_id, changesets_in}
 use Rattle.pair_state.specs.declared.state_parts.StateParts.{StateParts}
-use Rattle.pair_state.specs.Blocks.{IsStateOf}
+use Rattle.pair_state.specs.AllBlocks.{HasAllBlocks}
+use Rattle.pair_state.proofs.BlockLemmas.{parts_of}
 use Rattle.pull_outcome.specs.declared.refused.PullFault.{PullFault}
 use Rattle.history_model.specs.Pull as model
 use Rattle.history_model.specs.Pull.{CommitGives, CommitsBring, CommitRefused, IsCommitRefusal, objects_with, saved_ids, place_of}
@@ -39,22 +40,14 @@ use Rattle.pull_stream.proofs.Orders.{same-place, has-place, Next, next-is}
 
 -- ---- what blocks bring
 
-module _ {known : List Revision} {objects : List Object} {blocks : List Block} {id : Id} where
-  pub no_links : (b : Block) → CommitGives known objects blocks id b → b.links ≡ []
-  no_links b g = ap (λ (b : Block). b.links) g.block
+-- the revisions of blocks, those of the first before the others
+first-revisions : (b : Block) (rest : List Block) → revisions_in (changesets_in (b ∷ rest)) ≡ revisions_in (parts_of b) ++ revisions_in (changesets_in rest)
+first-revisions b rest = flat_map-append revisions_of (parts_of b) (changesets_in rest)
 
--- the revisions of blocks of which the first has no links
-pub first-revisions : (b : Block) (rest : List Block) → b.links ≡ [] → revisions_in (changesets_in (b ∷ rest)) ≡ revisions_of b.changeset ++ revisions_in (changesets_in rest)
-first-revisions b rest none = ap (λ (l : List ChangesetView). revisions_in ((l ++ b.changeset ∷ []) ++ changesets_in rest)) none
-
-pub one-revisions : (b : Block) → b.links ≡ [] → revisions_in (changesets_in (b ∷ [])) ≡ revisions_of b.changeset
-one-revisions b none = first-revisions b [] none ∙ append-nil (revisions_of b.changeset)
-
-pub last-revisions : (new : List Block) (b : Block) → b.links ≡ [] → revisions_in (changesets_in (new ++ b ∷ [])) ≡ revisions_in (changesets_in new) ++ revisions_of b.changeset
-last-revisions new b none =
-    ap revisions_in (flat_map-append (λ (b : Block). b.links ++ b.changeset ∷ []) new (b ∷ []))
-    ∙ flat_map-append revisions_of (changesets_in new) (changesets_in (b ∷ []))
-    ∙ ap (λ (l : List Revision). revisions_in (changesets_in new) ++ l) (one-revisions b none)
+last-revisions : (new : List Block) (b : Block) → revisions_in (changesets_in (new ++ b ∷ [])) ≡ revisions_in (changesets_in new) ++ revisions_in (parts_of b)
+last-revisions new b =
+    ap revisions_in (flat_map-append parts_of new (b ∷ []) ∙ ap (λ (l : List ChangesetView). changesets_in new ++ l) (append-nil (parts_of b)))
+    ∙ flat_map-append revisions_of (changesets_in new) (parts_of b)
 
 pub brings-none : (known : List Revision) (objects : List Object) (blocks : List Block) → CommitsBring known objects blocks [] []
 unfolding CommitsBring
@@ -73,24 +66,16 @@ record First (known : List Revision) (objects : List Object) (blocks : List Bloc
   rest : List Block
   is : new ≡ b ∷ rest
   gives : CommitGives known objects blocks id b
-  more : CommitsBring (known_after_all known (revisions_of b.changeset)) objects (blocks ++ b ∷ []) ids rest
+  more : CommitsBring (known_after_all known (revisions_in (parts_of b))) objects (blocks ++ b ∷ []) ids rest
 
 first : (known : List Revision) (objects : List Object) (blocks : List Block) (id : Id) (ids : List Id) (new : List Block) → CommitsBring known objects blocks (id ∷ ids) new → First known objects blocks id ids new
 unfolding CommitsBring
 first known objects blocks id ids new h = record { b = h.0; rest = h.1; is = h.2; gives = h.3; more = h.4 }
 
 brings-first : (known : List Revision) (objects : List Object) (blocks : List Block) (id : Id) (ids : List Id) (b : Block) (rest : List Block) → CommitGives known objects blocks id b
-    → CommitsBring (known_after_all known (revisions_of b.changeset)) objects (blocks ++ b ∷ []) ids rest → CommitsBring known objects blocks (id ∷ ids) (b ∷ rest)
+    → CommitsBring (known_after_all known (revisions_in (parts_of b))) objects (blocks ++ b ∷ []) ids rest → CommitsBring known objects blocks (id ∷ ids) (b ∷ rest)
 unfolding CommitsBring
 brings-first known objects blocks id ids b rest g more = (b, rest, refl, g, more)
-
--- blocks of commits of at most two parents have no links
-pub none-linked : (known : List Revision) (objects : List Object) (blocks : List Block) (ids : List Id) (new : List Block) → CommitsBring known objects blocks ids new → Each (λ b. b.links ≡ []) new
-none-linked known objects blocks [] new h = subst (Each (λ b. b.links ≡ [])) (sym (brings-nothing known objects blocks new h)) tt
-none-linked known objects blocks (id ∷ ids) new h =
-    let f = first known objects blocks id ids new h in
-    subst (Each (λ b. b.links ≡ [])) (sym f.is)
-    (no_links f.b f.gives, none-linked (known_after_all known (revisions_of (f.b).changeset)) objects (blocks ++ f.b ∷ []) ids f.rest f.more)
 
 -- one more is brought
 pub brings-push : (known : List Revision) (objects : List Object) (blocks : List Block) (ids : List Id) (new : List Block) (id : Id) (b : Block) → CommitsBring known objects blocks ids new
@@ -102,11 +87,11 @@ brings-push known objects blocks [] new id b h g =
 brings-push known objects blocks (x ∷ ids) new id b h g =
     let f = first known objects blocks x ids new h in
     let at = subst (λ (l : List Block). CommitGives (known_after_all known (revisions_in (changesets_in l))) objects (blocks ++ l) id b) f.is g in
-    let over = ap (known_after_all known) (first-revisions f.b f.rest (no_links f.b f.gives)) ∙ known_after_all-append known (revisions_of (f.b).changeset) (revisions_in (changesets_in f.rest)) in
+    let over = ap (known_after_all known) (first-revisions f.b f.rest) ∙ known_after_all-append known (revisions_in (parts_of f.b)) (revisions_in (changesets_in f.rest)) in
     subst (λ (l : List Block). CommitsBring known objects blocks (x ∷ ids ++ id ∷ []) (l ++ b ∷ [])) (sym f.is)
     (brings-first known objects blocks x (ids ++ id ∷ []) f.b (f.rest ++ b ∷ []) f.gives
-    (brings-push (known_after_all known (revisions_of (f.b).changeset)) objects (blocks ++ f.b ∷ []) ids f.rest id b f.more
-    (subst (λ (bs : List Block). CommitGives (known_after_all (known_after_all known (revisions_of (f.b).changeset)) (revisions_in (changesets_in f.rest))) objects bs id b) (sym (append_assoc blocks (f.b ∷ []) f.rest))
+    (brings-push (known_after_all known (revisions_in (parts_of f.b))) objects (blocks ++ f.b ∷ []) ids f.rest id b f.more
+    (subst (λ (bs : List Block). CommitGives (known_after_all (known_after_all known (revisions_in (parts_of f.b))) (revisions_in (changesets_in f.rest))) objects bs id b) (sym (append_assoc blocks (f.b ∷ []) f.rest))
     (subst (λ (k : List Revision). CommitGives k objects (blocks ++ f.b ∷ f.rest) id b) over at))))
 
 -- ---- one turn
@@ -118,11 +103,11 @@ at-place ids items i id same below is =
 pub take-at : (ids : List Id) (i : ℕ) (id : Id) → slice_get ids i ≡ Some id → take i ids ++ id ∷ [] ≡ take (i + 1) ids
 take-at ids i id at = sym (take_push ids i id at)
 
-pub taken-none : (s : StateParts) (m : model.State) → IsStateOf s m.blocks → CommitsTaken s s m.blocks [] []
+pub taken-none : (s : StateParts) (m : model.State) → HasAllBlocks s m.blocks → CommitsTaken s s m.blocks [] []
 taken-none s m state = record {
   brings = brings-none s.known.hg s.known.git m.blocks;
   ids_are = refl;
-  state = subst (IsStateOf s) (sym (append-nil m.blocks)) state;
+  state = subst (HasAllBlocks s) (sym (append-nil m.blocks)) state;
   revisions = refl;
   objects = refl;
   tags = refl;
@@ -135,11 +120,11 @@ taken-push s next after blocks ids new id b so_far one =
     let gives = subst (λ (k : List Revision). CommitGives k s.known.git (blocks ++ new) id b) so_far.revisions (subst (λ (os : List Object). CommitGives next.known.hg os (blocks ++ new) id b) so_far.objects one.gives) in record {
       brings = brings-push s.known.hg s.known.git blocks ids new id b so_far.brings gives;
       ids_are = map-append id_of new (b ∷ []) ∙ (λ i. so_far.ids_are i ++ one.id_is i ∷ []);
-      state = subst (IsStateOf after) (append_assoc blocks new (b ∷ [])) one.state;
+      state = subst (HasAllBlocks after) (append_assoc blocks new (b ∷ [])) one.state;
       revisions =
-          one.revisions ∙ ap (λ (k : List Revision). known_after_all k (revisions_of b.changeset)) so_far.revisions
-          ∙ sym (known_after_all-append s.known.hg (revisions_in (changesets_in new)) (revisions_of b.changeset))
-          ∙ ap (known_after_all s.known.hg) (sym (last-revisions new b (no_links b gives)));
+          one.revisions ∙ ap (λ (k : List Revision). known_after_all k (revisions_in (parts_of b))) so_far.revisions
+          ∙ sym (known_after_all-append s.known.hg (revisions_in (changesets_in new)) (revisions_in (parts_of b)))
+          ∙ ap (known_after_all s.known.hg) (sym (last-revisions new b));
       objects = one.objects ∙ so_far.objects;
       tags = one.tags ∙ so_far.tags;
       names = one.names ∙ so_far.names;

@@ -1,5 +1,5 @@
 -- What a pull comes to, of its parts.
-use Rattle.std.proofs.Common.{◌≡◌, ◌≤◌, ◌++◌, ℕ, List, [], ◌∷◌, length, take, drop, map, Option, Some, None, Ok, Err, inl, inr, sym, ap, subst, ◌∙◌, arith}
+use Rattle.std.proofs.Common.{◌≡◌, ◌≤◌, ◌++◌, ℕ, List, [], ◌∷◌, length, take, drop, Option, Some, None, Ok, Err, inl, inr, sym, ap, subst, ◌∙◌, arith}
 use Rattle.std.specs.Prelude.{IfSome}
 use Rattle.std.proofs.lemmas.List.{length-map, length-append}
 use Rattle.std.proofs.lemmas.List.Concat.{flat_map-append}
@@ -17,9 +17,7 @@ use Rattle.view_model.specs.Dump.{revisions_in, hg_increment}
 use Rattle.pair_model.specs.Block.{Block, changesets_in}
 use Rattle.pair_state.specs.declared.state_parts.StateParts.{StateParts}
 use Rattle.pair_state.specs.Blocks.{IsStateOf, value_of, block_value}
-use Rattle.pair_state.proofs.AllBlocks.{all-after}
-use Rattle.pair_state.proofs.BlockLemmas.{nodes-append}
-use Rattle.pull_outcome.specs.declared.pulled.Pulled.{Pulled}
+use Rattle.pull_outcome.specs.declared.pulled.GitPulled.{GitPulled}
 use Rattle.pull_outcome.specs.declared.refused.PullFault.{PullFault}
 use Rattle.pull_outcome.specs.declared.refused.PullFault.TheVariants as pull
 use Rattle.pull_outcome.specs.Pulls.{PulledGit, GoesOnGit, RefusesGit}
@@ -39,6 +37,10 @@ over-all s (Some bytes) Q h = h
 pub some-map : (o : Option Bytes) (P Q : Bytes → Type 0) → ((bytes : Bytes) → P bytes → Q bytes) → IfSome o P → IfSome o Q
 some-map None P Q f h = tt
 some-map (Some bytes) P Q f h = f bytes h
+
+pub if-any : (o : Option Bytes) (Q : Bytes → Type 0) → ((bytes : Bytes) → Q bytes) → IfSome o Q
+if-any None Q f = tt
+if-any (Some bytes) Q f = f bytes
 
 pub judged-cause : (Due : Refusal → Type 0) (e : PullFault) (before now : ℕ) → now ≡ before → IsJudgement Due e → FaultCause before now e
 judged-cause Due (pull.Refused why) before now same due = same
@@ -97,14 +99,9 @@ count-within s next blocks new n state later is =
     omega (arith, many s blocks n state is, ap length later.changesets, length-map (changesets_in (blocks ++ new)) changeset_node, ap length (split blocks new), length-append (changesets_in blocks) (changesets_in new))
 
 module _ (s : StateParts) (blocks : List Block) (all : HasAllBlocks s blocks) (mid : StateParts) (arrivals : List ObjectArrival) (ordered : List Id) (came : List Placed)
-    (o : IsInOrder mid arrivals ordered (state_value s blocks) came) (p : Pulled) (new : List Block) (taken : CommitsTaken mid p.state blocks ordered new) where
+    (o : IsInOrder mid arrivals ordered (state_value s blocks) came) (p : GitPulled) (arrived : p.arrivals ≡ arrivals) (new : List Block) (taken : CommitsTaken mid p.state blocks ordered new) where
   known-is : (p.state).known.hg ≡ known_after_all s.known.hg (revisions_in (changesets_in new))
   known-is = taken.revisions ∙ ap (λ (k : List Revision). known_after_all k (revisions_in (changesets_in new))) (o.ready).revisions
-
-  pub next-all : HasAllBlocks p.state (blocks ++ new)
-  next-all =
-      all-after s p.state blocks (blocks ++ new) (changesets_in new) all taken.state
-      (taken.state.changesets ∙ nodes-append blocks new ∙ ap (λ (ns : List Id). ns ++ map changeset_node (changesets_in new)) (sym all.state.changesets)) known-is
 
   module _ (count : p.first_new ≡ length blocks) (n : ℕ) (saved : n ≡ length s.changesets)
       (made : p.made ≡ hg_increment (p.state).known.hg (take n (changesets_in (blocks ++ new))) (drop n (changesets_in (blocks ++ new)))) where
@@ -115,8 +112,11 @@ module _ (s : StateParts) (blocks : List Block) (all : HasAllBlocks s blocks) (m
 
     pub goes-on : mid.tags ≡ s.tags → mid.names ≡ s.names → GoesOnGit s blocks p
     goes-on tags names = record {
+      came = came;
+      arrivals = arrived ∙ (o.ready).listed;
+      objects = taken.objects ∙ (o.ready).objects;
       new = new;
-      next = next-all;
+      next = taken.state;
       first_new = count;
       made = made-is;
       tags = taken.tags ∙ tags;
@@ -138,6 +138,7 @@ module _ (s : StateParts) (blocks : List Block) (all : HasAllBlocks s blocks) (m
         };
         is = made-is;
       };
-      next = next-all;
+      came = arrived ∙ (o.ready).listed;
+      next = taken.state;
       first_new = count;
     }

@@ -4,8 +4,8 @@ use Rattle.text_model.specs.Id.{Id}
 use Rattle.text_model.specs.Fault.{FaultName, Refusal}
 use Rattle.tree_shape.specs.declared.fault.TreeFault.{TreeFault}
 use Rattle.tree_shape.specs.declared.fault.TreeFault.TheVariants as tree
-use Rattle.pair_known.specs.declared.fault.PairFault.{PairFault}
-use Rattle.pair_known.specs.declared.fault.PairFault.TheVariants as pair
+use Rattle.pair_choice.specs.declared.fault.ChoiceFault.{ChoiceFault}
+use Rattle.pair_choice.specs.declared.fault.ChoiceFault.TheVariants as choice
 use Rattle.pair_state.specs.declared.fault.PushFault.{PushFault}
 use Rattle.pair_state.specs.declared.fault.PushFault.TheVariants as push
 use Rattle.bridge_text.specs.Refusals.{fault_name, refusal_value}
@@ -22,9 +22,13 @@ tree_refused tree.PathUnfit = Refused name.PathUnfit
 tree_refused tree.Limit = Refused name.PairLimit
 tree_refused tree.Memory = Memory
 
-abbrev pub pair_refused : PairFault → TakeFault
-pair_refused pair.PairLimit = Refused name.PairLimit
-pair_refused pair.Memory = Memory
+abbrev pub choice_refused : ChoiceFault → TakeFault
+choice_refused choice.PathClash = Refused name.PathClash
+choice_refused choice.ParentIsLink = Refused name.ParentIsLink
+choice_refused choice.NestLimit = Refused name.NestLimit
+choice_refused choice.PairLimit = Refused name.PairLimit
+choice_refused choice.Collision = Refused name.Collision
+choice_refused choice.Memory = Memory
 
 abbrev pub push_refused : PushFault → TakeFault
 push_refused push.Collision = Refused name.Collision

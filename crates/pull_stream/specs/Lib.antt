@@ -1,3 +1,4 @@
 pub mod Faults
+pub mod Late
 pub mod Taken
 pub mod Ready

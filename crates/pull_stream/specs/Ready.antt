@@ -18,11 +18,11 @@ use Rattle.pull_outcome.specs.declared.refused.PullFault.TheVariants as pull
 use Rattle.history_model.specs.Pull as model
 use Rattle.history_model.specs.Pull.{objects_with, ancestries, saved_ids, place_of}
 use Rattle.pair_state.specs.declared.state_parts.StateParts.{StateParts}
-use Rattle.pair_state.specs.Blocks.{IsStateOf}
+use Rattle.pair_state.specs.AllBlocks.{HasAllBlocks}
 
--- the state has these blocks, and holds what these objects brought to what was known
+-- the state has just these blocks, and holds what these objects brought to what was known
 pub record IsReady (s : StateParts) (arrivals : List ObjectArrival) (m : model.State) (came : List Placed) : Type 0 where
-  pub state : IsStateOf s m.blocks
+  pub state : HasAllBlocks s m.blocks
   pub revisions : s.known.hg ≡ m.revisions
   pub objects : s.known.git ≡ objects_with m came
   pub listed : arrivals ≡ map arrival_of came

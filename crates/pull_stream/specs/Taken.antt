@@ -1,61 +1,45 @@
 -- Commits that are taken into a state, one after the other.
-use Rattle.std.specs.Prelude.{◌≡◌, ◌≤◌, None, Some, List, [], ◌∷◌, ◌++◌, length, map, is_some, IsTrue}
+use Rattle.std.specs.Prelude.{◌≡◌, ℕ, None, Some, List, [], ◌∷◌, ◌++◌, map, is_some, IsTrue}
 use Rattle.text_model.specs.Lists.{Each}
 use Rattle.text_model.specs.Text.{Bytes}
 use Rattle.text_model.specs.Id.{Id, commit}
 use Rattle.git_model.specs.Commit.{Commit}
-use Rattle.text_model.specs.Fault.{FaultName}
-use Rattle.text_model.specs.Fault as fault
 use Rattle.hg_model.specs.Revision.{known_after_all}
 use Rattle.git_model.specs.Unfold.{walk_fault}
 use Rattle.git_store.specs.Known.{content_at, IsCommitAt}
-use Rattle.view_model.specs.View.{CommitView, commit_id, ChangesetFits}
+use Rattle.view_model.specs.View.{CommitView, commit_id}
 use Rattle.view_model.specs.Held.{IsCommitHeld}
-use Rattle.pair_model.specs.Plain.{changeset_by_rule, IsPlainCommit}
-use Rattle.pair_known.specs.declared.known.Known.{Known}
-use Rattle.pair_known.specs.declared.hg_draft.HgDraft.{HgDraft}
+use Rattle.view_model.specs.Dump.{revisions_in}
+use Rattle.pair_model.specs.Block.{Block, id_of, block_of_id, changesets_in}
 use Rattle.pair_known.specs.declared.git_draft.GitDraft.{GitDraft}
 use Rattle.pair_known.specs.Over.{IsCommitOver}
-use Rattle.pair_known.specs.Ruled.{IsRuledChangeset}
-use Rattle.view_model.specs.Dump.{revisions_of, revisions_in}
-use Rattle.pair_model.specs.Block.{Block, id_of, block_of_id, changesets_in}
-use Rattle.history_model.specs.Pull.{Unless, Nothing, CommitGives, CommitsBring}
+use Rattle.history_model.specs.Pull as model
+use Rattle.history_model.specs.Pull.{CommitGives, CommitsBring}
 use Rattle.pair_state.specs.declared.state_parts.StateParts.{StateParts}
-use Rattle.pair_state.specs.Blocks.{IsStateOf}
+use Rattle.pair_state.specs.AllBlocks.{HasAllBlocks}
+use Rattle.pull_outcome.specs.Steps.{AreFew}
 
 -- a commit that is held and stands in no block, and whose parents stand in blocks
 pub record TakesCommit (s : StateParts) (id : Id) (blocks : List Block) : Type 0 where
-  pub state : IsStateOf s blocks
+  pub state : HasAllBlocks s blocks
   pub content : Bytes
   pub held : content_at commit s.known.git id ≡ Some content
   pub parents : (v : Commit) → IsCommitAt s.known.git id v → Each (λ p. IsTrue (is_some (block_of_id blocks p))) v.parents
   pub free : block_of_id blocks id ≡ None
 
--- the draft stands for the commit, with all its files and at most two parents
+-- the draft stands for the commit, with all its files
 pub record IsDraftFor (s : StateParts) (id : Id) (blocks : List Block) (d : GitDraft) (v : CommitView) : Type 0 where
   pub held : IsCommitHeld s.known.git id v
   pub walks : walk_fault s.known.git (v.value).tree_id ≡ None
   pub id_is : commit_id v ≡ id
-  pub few : length (v.value).parents ≤ 2
   pub over : IsCommitOver s.known blocks d v
-
--- the draft is that of the changeset that the rule gives, and the rule gives the commit back
-pub record IsChangesetFor (k : Known) (blocks : List Block) (h : HgDraft) (v : CommitView) : Type 0 where
-  pub ruled : IsRuledChangeset k.hg h (changeset_by_rule blocks v)
-  pub plain : IsPlainCommit blocks v
-
--- why there is no such changeset
-abbrev pub RuleRefused : List Block → CommitView → FaultName → Type 0
-RuleRefused blocks v =
-    Unless (¬ (ChangesetFits (changeset_by_rule blocks v))) fault.PairLimit
-    (Unless (¬ (IsPlainCommit blocks v)) fault.NotPlain Nothing)
 
 -- the block of the commit came behind the others
 pub record CommitTaken (s next : StateParts) (id : Id) (blocks : List Block) (b : Block) : Type 0 where
   pub gives : CommitGives s.known.hg s.known.git blocks id b
   pub id_is : id_of b ≡ id
-  pub state : IsStateOf next (blocks ++ b ∷ [])
-  pub revisions : next.known.hg ≡ known_after_all s.known.hg (revisions_of b.changeset)
+  pub state : HasAllBlocks next (blocks ++ b ∷ [])
+  pub revisions : next.known.hg ≡ known_after_all s.known.hg (revisions_in (b.links ++ b.changeset ∷ []))
   pub objects : next.known.git ≡ s.known.git
   pub tags : next.tags ≡ s.tags
   pub names : next.names ≡ s.names
@@ -64,8 +48,17 @@ pub record CommitTaken (s next : StateParts) (id : Id) (blocks : List Block) (b 
 pub record CommitsTaken (s next : StateParts) (blocks : List Block) (ids : List Id) (new : List Block) : Type 0 where
   pub brings : CommitsBring s.known.hg s.known.git blocks ids new
   pub ids_are : map id_of new ≡ ids
-  pub state : IsStateOf next (blocks ++ new)
+  pub state : HasAllBlocks next (blocks ++ new)
   pub revisions : next.known.hg ≡ known_after_all s.known.hg (revisions_in (changesets_in new))
   pub objects : next.known.git ≡ s.known.git
   pub tags : next.tags ≡ s.tags
   pub names : next.names ≡ s.names
+
+-- the first of the commits were taken, and one more was asked at most
+pub record SomeTaken (s : StateParts) (m : model.State) (ordered : List Id) (before now : ℕ) : Type 0 where
+  pub first : List Id
+  pub others : List Id
+  pub split : ordered ≡ first ++ others
+  pub new : List Block
+  pub brings : CommitsBring s.known.hg s.known.git m.blocks first new
+  pub few : AreFew before new now

@@ -1,5 +1,5 @@
 // The commits of a stream, one after the other.
-ghost use Rattle.std.specs.Prelude.{◌≡◌, ℕ, List, Some, IfOk, IfErr};
+ghost use Rattle.std.specs.Prelude.{◌≡◌, ◌≤◌, ◌+◌, ◌*◌, ℕ, List, length, Some, IfOk, IfErr, OnErr};
 ghost use Rattle.git_model.specs.Stream.{Placed};
 ghost use Rattle.pair_model.specs.Block.{Block};
 ghost use Rattle.history_model.specs.Pull as model;
@@ -7,21 +7,24 @@ ghost use Rattle.history_model.specs.Pull.{IsCommitRefusal};
 ghost use Rattle.pull_outcome.specs.Names.{IsOfPullGit};
 ghost use Rattle.pull_stream.specs.Faults.{IsJudgement, IsOfCommit, placed_fault};
 ghost use Rattle.pull_stream.specs.Ready.{IsInOrder, place_among};
-ghost use Rattle.pull_stream.specs.Taken.{CommitsTaken};
+ghost use Rattle.pull_stream.specs.Taken.{CommitsTaken, SomeTaken};
 
 use crate::fault::TakeFault;
 use crate::place::first_place;
 use crate::take::take_commit;
+use bridge_io::Steps;
 use bridge_text::{Id, IdList};
 use git_batch::ObjectArrivals;
 use pair_state::StateParts;
 use pull_outcome::{PullFault, Refusal};
+use std::sync::ledger::Ledger;
 
 /// Takes the commits of a stream in their order, each over the blocks before it. The fault is that of the first that is refused.
-pub fn take_commits(
+pub fn take_commits<L: Ledger>(
     state: StateParts,
     came: &ObjectArrivals,
     ordered: &IdList,
+    steps: &mut Steps<L>,
 ) -> Result<StateParts, PullFault>
     requires order { (m : model.State) × (placed : List Placed) × IsInOrder state came.now ordered.now m placed }
     ensures ok { IfOk result (λ next. (m : model.State) (placed : List Placed) → IsInOrder state came.now ordered.now m placed
@@ -29,10 +32,14 @@ pub fn take_commits(
     ensures refused { IfErr result (λ fault. (m : model.State) (placed : List Placed) → IsInOrder state came.now ordered.now m placed
         → IsJudgement (IsCommitRefusal m placed ordered.now) fault) }
     ensures names { IfErr result IsOfPullGit }
+    ensures least { steps.old ≤ steps.new }
+    ensures steps { IfOk result (λ next. steps.new ≤ steps.old + 18 * length ordered.now) }
+    ensures asked { OnErr result ((m : model.State) (placed : List Placed) → IsInOrder state came.now ordered.now m placed
+        → SomeTaken state m ordered.now steps.old steps.new) }
 {
     let mut next = state;
     for id in ordered.as_slice() {
-        next = match take_commit(next, id) {
+        next = match take_commit(next, id, steps) {
             Ok(taken) => taken,
             Err(fault) => return Err(refused_at(came, id, fault)),
         };

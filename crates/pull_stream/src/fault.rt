@@ -1,10 +1,10 @@
 // Why a commit isn't taken.
 ghost use Rattle.std.specs.Prelude.{◌≡◌};
-ghost use Rattle.pull_stream.specs.Faults.{tree_refused, pair_refused, push_refused};
+ghost use Rattle.pull_stream.specs.Faults.{tree_refused, choice_refused, push_refused};
 ghost use Rattle.pull_stream.specs.declared.fault.TakeFault.TheVariants.{Memory};
 
 use bridge_text::NoMemory;
-use pair_known::PairFault;
+use pair_choice::ChoiceFault;
 use pair_state::PushFault;
 use pull_outcome::Fault;
 use tree_shape::TreeFault;
@@ -39,13 +39,17 @@ impl From<TreeFault> for TakeFault {
     }
 }
 
-impl From<PairFault> for TakeFault {
-    ghost from_gives = { λ fault e. e ≡ pair_refused fault };
+impl From<ChoiceFault> for TakeFault {
+    ghost from_gives = { λ fault e. e ≡ choice_refused fault };
 
-    fn from(fault: PairFault) -> TakeFault {
+    fn from(fault: ChoiceFault) -> TakeFault {
         match fault {
-            PairFault::PairLimit => TakeFault::Refused(Fault::PairLimit),
-            PairFault::Memory => TakeFault::Memory,
+            ChoiceFault::PathClash => TakeFault::Refused(Fault::PathClash),
+            ChoiceFault::ParentIsLink => TakeFault::Refused(Fault::ParentIsLink),
+            ChoiceFault::NestLimit => TakeFault::Refused(Fault::NestLimit),
+            ChoiceFault::PairLimit => TakeFault::Refused(Fault::PairLimit),
+            ChoiceFault::Collision => TakeFault::Refused(Fault::Collision),
+            ChoiceFault::Memory => TakeFault::Memory,
         }
     }
 }

@@ -3,6 +3,7 @@
 
 mod commits;
 mod fault;
+mod late;
 mod objects;
 mod ordering;
 mod place;

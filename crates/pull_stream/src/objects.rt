@@ -3,10 +3,9 @@ ghost use Rattle.std.specs.Prelude.{◌≡◌, List, Ok, Err, IfSome, IfOk, IfEr
 ghost use Rattle.std.specs.Io.KnownBytes.{IsAtEnd};
 ghost use Rattle.git_model.specs.Stream.{Placed, stream_reading};
 ghost use Rattle.pair_model.specs.Block.{Block};
-ghost use Rattle.pair_state.specs.Blocks.{IsStateOf};
 ghost use Rattle.pull_outcome.specs.Names.{IsOfPullGit};
 ghost use Rattle.pull_outcome.specs.Refused.{IsRefusedBy, AnswerCause};
-ghost use Rattle.pair_state.specs.AllBlocks.{state_value};
+ghost use Rattle.pair_state.specs.AllBlocks.{HasAllBlocks, state_value};
 ghost use Rattle.pull_stream.specs.Ready.{IsReady};
 
 use bridge_io::Source;
@@ -20,7 +19,7 @@ pub fn read_objects<S: Source>(
     state: StateParts,
     src: &mut S,
 ) -> Result<(StateParts, ObjectArrivals), PullFault>
-    ensures ready { IfOk result (λ read. (blocks : List Block) → IsStateOf state blocks
+    ensures ready { IfOk result (λ read. (blocks : List Block) → HasAllBlocks state blocks
         → (came : List Placed) × IsReady read.0 read.1 (state_value state blocks) came
         × IfSome (S.left src.old) (λ bytes. stream_reading state.known.git bytes ≡ Ok came)) }
     ensures tags { IfOk result (λ read. read.0.tags ≡ state.tags) }

@@ -17,7 +17,7 @@ returns-in_err-magic-clause-reads g c =
 pub chunks-init : goal.chunks-init
 chunks-init g c = record {
   reading = rw (c.in_ok-magic.ensures.offset, c.new-gathered.ensures) (reading_begins c.args.store _ _ c.in_ok-magic.ensures.bytes c.in_ok-magic.ensures.judged);
-  grown = rw c.new-gathered.ensures ([], refl, refl);
+  grown = rw c.new-gathered.ensures ([], refl, refl, tt);
   bytes = read_begins _ _ c.in_ok-magic.ensures.bytes;
   fit = tt;
   last = rw c.new-gathered.ensures tt;

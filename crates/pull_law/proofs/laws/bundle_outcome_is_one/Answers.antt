@@ -1,13 +1,13 @@
-use Rattle.std.proofs.Common.{refl}
-use Rattle.hg_view.proofs.One.{no_null}
+use Rattle.std.proofs.Common.{[], refl}
+use Rattle.pull_law.proofs.Known.{own-added}
 use Rattle.pull_law.proofs.Bundle.{outputs, refusals, not-both}
 use Rattle.pull_law.proofs.laws.bundle_outcome_is_one.Goals as goal
 
 pub returns-clause-empty : goal.returns-clause-empty
-returns-clause-empty c = record { no_null = refl }
+returns-clause-empty c = record { revisions = tt; objects = tt; blocks = record { nodes = refl; ids = refl; there = tt; rows = tt } }
 
 pub returns-clause-stored : goal.returns-clause-stored
-returns-clause-stored c s added = record { no_null = no_null s.revisions added }
+returns-clause-stored c s added are table = record { revisions = own-added [] s.revisions added; objects = are.ids; blocks = table }
 
 pub returns-clause-outputs : goal.returns-clause-outputs
 returns-clause-outputs c = outputs

@@ -1,4 +1,4 @@
-use Rattle.std.proofs.Common.{List, take}
+use Rattle.std.proofs.Common.{◌≤◌, ◌+◌, ◌*◌, List, take}
 use Rattle.git_model.specs.Stream.{Placed}
 use Rattle.pair_model.specs.Block.{Block}
 use Rattle.history_model.specs.Pull as model
@@ -6,6 +6,10 @@ use Rattle.pull_stream.specs.Ready.{IsInOrder}
 use Rattle.pull_stream.specs.Taken.{CommitsTaken}
 use Rattle.pull_stream.proofs.commits.take_commits.Given as goal
 
--- the commits so far were taken
+-- the commits so far were taken, each in at most 18 steps
 abbrev pub invariant-loop-id : goal.invariant-loop-id
-invariant-loop-id l = (m : model.State) (came : List Placed) → IsInOrder l.fn.state l.came l.ordered m came → (new : List Block) × CommitsTaken l.fn.state l.next m.blocks (take l.id-index l.ordered) new
+invariant-loop-id g l = record {
+  taken : (m : model.State) (came : List Placed) → IsInOrder l.fn.state l.came l.ordered m came → (new : List Block) × CommitsTaken l.fn.state l.next m.blocks (take l.id-index l.ordered) new;
+  least : l.fn.steps ≤ l.steps;
+  few : l.steps ≤ l.fn.steps + 18 * l.id-index;
+}

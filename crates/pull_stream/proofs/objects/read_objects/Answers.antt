@@ -68,23 +68,27 @@ module _ (k : Known) (new : List Object) (within : IsWithin k.git new) (are : Ar
   }
 
 pub returns-clause-ready : goal.returns-clause-ready
-returns-clause-ready g c = λ blocks state.
+returns-clause-ready g c = λ blocks all.
     let k = c.args.state.known in
     let new = c.in_ok-git.git in
     let b = c.in_ok-git.ensures.brought in
     let same : c.replace-git.result ≡ k.git = c.replace-git.ensures.value in
     let after : new ≡ objects_after_all k.git (objects_among b.objects) = b.holds ∙ ap (λ (os : List Object). objects_after_all os (objects_among b.objects)) same in
     let more = grown k.git b.objects (subst (λ (os : List Object). AddsAll os (objects_among b.objects)) same b.adds) in
-    let within : IsWithin k.git new = subst (IsWithin k.git) (sym after) more.kept in (
+    let within : IsWithin k.git new = subst (IsWithin k.git) (sym after) more.kept in
+    let state = all.state in (
       b.objects,
       record {
         state = record {
-          held = history-on k new within state.sound c.check.ensures blocks state.held;
-          sound = c.check.ensures;
-          blocks_are = state.blocks_are;
-          changesets = state.changesets;
-          commits = state.commits;
-          agreed = λ node has. agreed-on k new within state.sound c.check.ensures node (state.agreed node has);
+          state = record {
+            held = history-on k new within state.sound c.check.ensures blocks state.held;
+            sound = c.check.ensures;
+            blocks_are = state.blocks_are;
+            changesets = state.changesets;
+            commits = state.commits;
+            agreed = λ node has. agreed-on k new within state.sound c.check.ensures node (state.agreed node has);
+          };
+          saved = all.saved;
         };
         revisions = refl;
         objects = after;

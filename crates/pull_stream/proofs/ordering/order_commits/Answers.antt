@@ -23,10 +23,10 @@ module _ (s : StateParts) (arrivals : List ObjectArrival) (commits : List Id) (l
 
   in-order : (ordered : List Id) → IsOrder (order.ancestries s.known.git commits) s.commits ordered → IsOrder (ancestries came) (saved_ids m) ordered
   in-order ordered o =
-      subst (λ (saved : List Id). IsOrder (ancestries came) saved ordered) ready.state.commits (subst (λ (rs : List Ancestry). IsOrder rs s.commits ordered) rows o)
+      subst (λ (saved : List Id). IsOrder (ancestries came) saved ordered) ready.state.state.commits (subst (λ (rs : List Ancestry). IsOrder rs s.commits ordered) rows o)
 
   stuck : (id : Id) → IsStuckAt (order.ancestries s.known.git commits) s.commits id → IsStuckAt (ancestries came) (saved_ids m) id
-  stuck id o = subst (λ (saved : List Id). IsStuckAt (ancestries came) saved id) ready.state.commits (subst (λ (rs : List Ancestry). IsStuckAt rs s.commits id) rows o)
+  stuck id o = subst (λ (saved : List Id). IsStuckAt (ancestries came) saved id) ready.state.state.commits (subst (λ (rs : List Ancestry). IsStuckAt rs s.commits id) rows o)
 
   place : (id : Id) → IsStuckAt (ancestries came) (saved_ids m) id → (at : ℕ) × (place_of came id ≡ Some at)
   place id o =

@@ -1,11 +1,14 @@
 use Rattle.std.proofs.Common.{◌≡◌, ◌-◌, ℕ, List, length, take, drop, sym, subst, arith, length-drop}
 use Rattle.std.specs.Prelude.{false}
+use Rattle.text_model.specs.Lists.{Each}
+use Rattle.hg_model.specs.Manifest.{ManifestEntry}
+use Rattle.hg_dump.specs.State.{IsLineMet}
 use Rattle.std.proofs.lemmas.List.{take_all}
 use Rattle.text_model.specs.Id.{Id}
 use Rattle.hg_model.specs.Revision.{Revision}
 use Rattle.view_model.specs.View.{ChangesetView}
 use Rattle.view_model.specs.Held.{AreChangesetsHeld}
-use Rattle.hg_dump.specs.Marks.{none, marks_in, meets}
+use Rattle.hg_dump.specs.Marks.{Met, none, marks_in, meets}
 use Rattle.hg_dump.proofs.HeldLemmas.{held-take, held-drop}
 use Rattle.hg_dump.proofs.MeetLemmas.{none-is_met}
 use Rattle.hg_dump.proofs.brought.Brought.collect.Goals as goal
@@ -16,16 +19,18 @@ rest nodes from = take_all (length nodes - from) (drop from nodes) (omega (arith
 rest-held : (known : List Revision) (nodes : List Id) (from : ℕ) (hs : List ChangesetView) → AreChangesetsHeld known nodes hs → AreChangesetsHeld known (take (length nodes - from) (drop from nodes)) (drop from hs)
 rest-held known nodes from hs are = subst (λ (l : List Id). AreChangesetsHeld known l (drop from hs)) (sym (rest nodes from)) (held-drop known nodes hs from are)
 
-pub refer_all-requires-clause-held : goal.refer_all-requires-clause-held
-refer_all-requires-clause-held c = (take c.args.from c.requires.held.0, held-take c.args.store.now c.args.nodes.now c.requires.held.0 c.args.from c.requires.held.1)
+pub refer_all-requires : goal.refer_all-requires
+refer_all-requires c = record { held = (take c.args.from c.requires.held.0, held-take c.args.store.now c.args.nodes.now c.requires.held.0 c.args.from c.requires.held.1) }
 
-pub refer_all-requires-2-clause-held : goal.refer_all-requires-2-clause-held
-refer_all-requires-2-clause-held c = (drop c.args.from c.requires.held.0, rest-held c.args.store.now c.args.nodes.now c.args.from c.requires.held.0 c.requires.held.1)
+pub refer_all-requires-2 : goal.refer_all-requires-2
+refer_all-requires-2 c = record { held = (drop c.args.from c.requires.held.0, rest-held c.args.store.now c.args.nodes.now c.args.from c.requires.held.0 c.requires.held.1) }
 
 pub returns : goal.returns
 returns c = λ hs are.
+    let no-lines : (s : Met) → Each (IsLineMet s) c.new-empty.result = λ s. subst (λ (es : List ManifestEntry). Each (IsLineMet s) es) (sym c.new-empty.ensures) tt in
     let known = c.args.store.now in
     let nodes = c.args.nodes.now in
     let from = c.args.from in
     c.in_ok-refer_all-2.ensures (drop from hs) (rest-held known nodes from hs are) (meets false none (marks_in (take from hs)))
-    (c.in_ok-refer_all.ensures (take from hs) (held-take known nodes hs from are) none (none-is_met c.new-brought.ensures))
+    (c.in_ok-refer_all.ensures (take from hs) (held-take known nodes hs from are) none (none-is_met c.new-brought.ensures) (no-lines none))
+    (no-lines (meets false none (marks_in (take from hs))))

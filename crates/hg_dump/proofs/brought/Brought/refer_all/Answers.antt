@@ -1,18 +1,17 @@
-use Rattle.std.proofs.Common.{[], ◌≤◌, List, length, take, sym, ap, subst, ◌∙◌, arith}
+use Rattle.std.proofs.Common.{◌≤◌, List, length, take, sym, ap, subst, ◌∙◌, arith}
 use Rattle.std.proofs.lemmas.List.{take_all}
 use Rattle.text_model.specs.Lists.{Each}
-use Rattle.hg_model.specs.Manifest.{ManifestEntry}
 use Rattle.view_model.specs.View.{ChangesetView}
 use Rattle.hg_dump.specs.Marks.{Met, IsMet, marks_of, marks_in, meets}
-use Rattle.hg_dump.specs.State.{Steps, IsLineMet, referred_in}
+use Rattle.hg_dump.specs.State.{StepsAfter, IsLineMet, referred_in}
 use Rattle.hg_dump.proofs.HeldLemmas.{held-at, held-length, marks-push}
 use Rattle.hg_dump.proofs.MeetLemmas.{meets-append, view-lines}
 use Rattle.hg_dump.proofs.brought.Brought.refer_all.Goals as goal
 
 pub loop-node-init : goal.loop-node-init
 loop-node-init c = record {
-  steps = λ hs are s is. is;
-  lines = λ hs are s. subst (λ (es : List ManifestEntry). Each (IsLineMet s) es) {x = []} {y = c.args.previous.now} (sym c.requires.previous) tt;
+  steps = λ hs are s is lines. is;
+  lines = λ hs are s lines. lines;
 }
 
 pub manifest_of-manifest_node-requires : goal.manifest_of-manifest_node-requires
@@ -30,14 +29,14 @@ loop-node-preserved c =
     let manifest_node = c.manifest_of-manifest_node.result.0 in
     let es = c.manifest_of-manifest_node.result.1.now in
     record {
-      steps = λ hs are s is.
+      steps = λ hs are s is before.
           let at = held-at known nodes hs are i node node c.loop-node-test.true c.node-item.is in
           let so_far = meets is_new s (marks_in (take i hs)) in
           let same = c.manifest_of-manifest_node.ensures at.view at.held in
           subst (λ (t : Met). IsMet t (referred_in c.refer_view.new.self))
           (ap (meets is_new so_far) (sym same) ∙ sym (meets-append is_new s (marks_in (take i hs)) (marks_of at.view)) ∙ ap (meets is_new s) (sym (marks-push hs i at.view at.at_place)))
-          (c.in_ok-refer_view.ensures so_far (c.loop-node.invariant.steps hs are s is) (c.loop-node.invariant.lines hs are s));
-      lines = λ hs are s.
+          (c.in_ok-refer_view.ensures so_far (c.loop-node.invariant.steps hs are s is before) (c.loop-node.invariant.lines hs are s before));
+      lines = λ hs are s before.
           let at = held-at known nodes hs are i node node c.loop-node-test.true c.node-item.is in
           let so_far = meets is_new s (marks_in (take i hs)) in
           let same = c.manifest_of-manifest_node.ensures at.view at.held in
@@ -50,4 +49,4 @@ pub returns : goal.returns
 returns c = λ hs are.
     let i = c.loop-node.node-index in
     let whole : length hs ≤ i = omega (arith, held-length c.args.store.now c.args.nodes.now hs are) in
-    subst (λ (xs : List ChangesetView). Steps c.args.is_new (marks_in xs) c.args.self.now c.loop-node.self) (take_all i hs whole) (c.loop-node.invariant.steps hs are)
+    subst (λ (xs : List ChangesetView). StepsAfter c.args.previous.now c.args.is_new (marks_in xs) c.args.self.now c.loop-node.self) (take_all i hs whole) (c.loop-node.invariant.steps hs are)

@@ -3,11 +3,11 @@ use Rattle.text_model.specs.Lists.{Each}
 use Rattle.view_model.specs.View.{ChangesetView}
 use Rattle.view_model.specs.Held.{AreChangesetsHeld}
 use Rattle.hg_dump.specs.Marks.{Met, marks_in, meets}
-use Rattle.hg_dump.specs.State.{Steps, IsLineMet}
+use Rattle.hg_dump.specs.State.{StepsAfter, IsLineMet}
 use Rattle.hg_dump.proofs.brought.Brought.refer_all.Given as goal
 
 abbrev pub invariant-loop-node : goal.invariant-loop-node
 invariant-loop-node l = record {
-  steps : (hs : List ChangesetView) → AreChangesetsHeld l.store l.nodes hs → Steps l.is_new (marks_in (take l.node-index hs)) l.fn.self l.self;
-  lines : (hs : List ChangesetView) → AreChangesetsHeld l.store l.nodes hs → (s : Met) → Each (IsLineMet (meets l.is_new s (marks_in (take l.node-index hs)))) l.previous;
+  steps : (hs : List ChangesetView) → AreChangesetsHeld l.store l.nodes hs → StepsAfter l.fn.previous l.is_new (marks_in (take l.node-index hs)) l.fn.self l.self;
+  lines : (hs : List ChangesetView) → AreChangesetsHeld l.store l.nodes hs → (s : Met) → Each (IsLineMet s) l.fn.previous → Each (IsLineMet (meets l.is_new s (marks_in (take l.node-index hs)))) l.previous;
 }

@@ -1,0 +1,25 @@
+-- File revisions whose parents stand in changesets of the blocks.
+use Rattle.std.specs.Prelude.{◌≡◌, Bool, false, ◌||◌, List}
+use Rattle.text_model.specs.Lists.{SomeOf}
+use Rattle.text_model.specs.Text.{Bytes}
+use Rattle.text_model.specs.Id.{Id}
+use Rattle.hg_model.specs.Manifest.{ManifestEntry}
+use Rattle.hg_model.specs.Revision.{Revision}
+use Rattle.view_model.specs.View.{Row}
+use Rattle.hg_store.specs.Known.{AreFileParents}
+use Rattle.pair_model.specs.Block.{Block}
+use Rattle.partner_model.specs.Given.{is_late_file}
+
+abbrev pub are_late : List Block → Bytes → Id → Id → Bool
+are_late blocks path p q = is_late_file blocks path p || is_late_file blocks path q
+
+abbrev pub is_late_row : List Block → Row → Bool
+is_late_row blocks row = are_late blocks row.path (row.revision).p (row.revision).q
+
+-- a line has this path and this node
+abbrev pub HasLine : Bytes → Id → List ManifestEntry → Type 0
+HasLine path node lines = SomeOf lines (λ e. (e.path ≡ path) × (e.node ≡ node))
+
+-- the parents of the file revision that a line names stand in changesets of the blocks
+abbrev pub IsLineInTime : List Revision → List Block → ManifestEntry → Type 0
+IsLineInTime known blocks e = (parents : Id × Id) → AreFileParents known e.path e.node parents → are_late blocks e.path parents.0 parents.1 ≡ false

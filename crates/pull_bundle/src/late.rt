@@ -1,0 +1,153 @@
+// Parents of file revisions and of a manifest that stand in no changeset of the blocks before.
+ghost use Rattle.std.specs.Prelude.{◌≡◌, false, [], List, map, is_some, IfSome, OnOk, IfErr, IsTrue};
+ghost use Rattle.std.specs.Bool.{OnTrue};
+ghost use Rattle.text_model.specs.Lists.{Each};
+ghost use Rattle.hg_manifest.specs.Values.{manifest_entry};
+ghost use Rattle.view_model.specs.View.{ChangesetView, Row, entry_of_row};
+ghost use Rattle.view_model.specs.Held.{IsFileHeld, IsChangesetHeld};
+ghost use Rattle.pair_model.specs.Block.{Block};
+ghost use Rattle.partner_model.specs.Given.{has_late_file, has_late_manifest, is_late_file, is_late_manifest};
+ghost use Rattle.mark_code.specs.Values.{manifest_value};
+ghost use Rattle.pair_known.specs.Drafts.{IsHgDraft};
+ghost use Rattle.pair_known.specs.Partners.{git_at};
+ghost use Rattle.pair_known.specs.Rows.{row_value};
+ghost use Rattle.pull_bundle.specs.Faults.{IsTakeFault, IsOfChangeset, IsLate};
+ghost use Rattle.pull_bundle.specs.Late.{HasLine, is_late_row, IsLineInTime};
+ghost use Rattle.pull_bundle.specs.Takes.{IsTaking};
+
+use crate::fault::TakeFault;
+use crate::taking::Taking;
+use bridge_text::Id;
+use hg_manifest::{Cursor, Manifest};
+use hg_store::{Group, HgStore};
+use mark_code::ManifestRev;
+use pair_known::{HgDraft, HgRow, Known};
+use pull_outcome::Fault;
+use std::alloc::Global;
+
+/// Passes where each parent that a changeset, which is held, names for a file revision or for its manifest stands in a changeset of the
+/// blocks. FileParentLate comes exactly where one of a file revision stands in none, and else ManifestParentLate where one of the manifest does.
+pub fn check_parents(alloc: Global, taking: &Taking, h: &HgDraft) -> Result<(), TakeFault>
+    requires held { h.now.fresh ≡ [] }
+    requires taking { (blocks : List Block) × IsTaking taking.now blocks }
+    ensures files { OnOk result ((blocks : List Block) (v : ChangesetView) → IsTaking taking.now blocks → IsHgDraft (taking.now.state).known.hg h.now v → has_late_file blocks v.rows ≡ false) }
+    ensures manifest { OnOk result ((blocks : List Block) (v : ChangesetView) → IsTaking taking.now blocks → IsHgDraft (taking.now.state).known.hg h.now v → has_late_manifest blocks v.manifest ≡ false) }
+    ensures refused { IfErr result (IsTakeFault (λ name. (blocks : List Block) (v : ChangesetView) → IsTaking taking.now blocks → IsHgDraft (taking.now.state).known.hg h.now v → IsLate blocks v name)) }
+    ensures names { IfErr result IsOfChangeset }
+{
+    let empty = Manifest::new(alloc);
+    let near = lines_near(taking, h, &empty);
+    if has_late_row(taking, h.rows.as_slice(), near) {
+        return Err(TakeFault::Refused(Fault::FileParentLate));
+    }
+    if is_manifest_late(taking, &h.manifest) {
+        return Err(TakeFault::Refused(Fault::ManifestParentLate));
+    }
+    Ok(())
+}
+
+/// The node of the first parent of a changeset, where that is the changeset of a block: most lines of both manifests are the same.
+pub fn near_of<'a>(known: &Known, h: &'a HgDraft) -> Option<&'a Id>
+    ensures { IfSome result (λ node. IsTrue (is_some (git_at known.now.partners node.now))) }
+{
+    if known.partners.git_of(&h.p1).is_some() {
+        Some(&h.p1)
+    } else {
+        None
+    }
+}
+
+// The lines of the changeset that is near, or none. The parents of their file revisions are in time.
+fn lines_near<'a>(taking: &'a Taking, h: &HgDraft, empty: &'a Manifest) -> &'a Manifest
+    requires taking { (blocks : List Block) × IsTaking taking.now blocks }
+    requires empty { empty.now ≡ [] }
+    ensures { (blocks : List Block) → IsTaking taking.now blocks → Each (IsLineInTime (taking.now.state).known.hg blocks) result.now }
+{
+    match near_of(&taking.state.known, h) {
+        Some(node) => lines_of(&taking.state.known.hg, node),
+        None => empty,
+    }
+}
+
+// The lines of the manifest of a changeset that is held.
+fn lines_of<'a>(store: &'a HgStore, node: &Id) -> &'a Manifest
+    requires held { (h : ChangesetView) × IsChangesetHeld store.now node.now h }
+    ensures { (h : ChangesetView) → IsChangesetHeld store.now node.now h → map entry_of_row h.rows ≡ result.now }
+{
+    match store.manifest_of_changeset(node) {
+        Some((_, manifest)) => manifest,
+        None => unreachable!(),
+    }
+}
+
+// Whether a parent of a file revision comes too late, where each of the lines that are near is in time.
+fn has_late_row(taking: &Taking, rows: &[HgRow], near: &Manifest) -> bool
+    ensures { (blocks : List Block) (files : List Row) → IsTaking taking.now blocks → rows.now ≡ map row_value files → Each (IsFileHeld (taking.now.state).known.hg) files
+        → Each (IsLineInTime (taking.now.state).known.hg blocks) near.now → result ≡ has_late_file blocks files }
+{
+    let mut lines = Cursor::new(near);
+    for row in rows {
+        if is_row_late(taking, row, &mut lines) {
+            return true;
+        }
+    }
+    false
+}
+
+// Whether a parent of the file revision of a row comes too late. The parents of a row that stands among the lines need no look-up.
+fn is_row_late(taking: &Taking, row: &HgRow, lines: &mut Cursor<'_>) -> bool
+    ensures late { (blocks : List Block) (file : Row) → IsTaking taking.now blocks → row.now ≡ row_value file → IsFileHeld (taking.now.state).known.hg file
+        → Each (IsLineInTime (taking.now.state).known.hg blocks) lines.old → result ≡ is_late_row blocks file }
+    ensures same { lines.new ≡ lines.old }
+{
+    if has_line(lines, row) {
+        return false;
+    }
+    match taking
+        .state
+        .known
+        .hg
+        .file_parents(row.path.as_slice(), &row.node)
+    {
+        Some((p, q)) => {
+            let path = row.path.as_slice();
+            is_file_late(taking, path, &p) || is_file_late(taking, path, &q)
+        }
+        None => false,
+    }
+}
+
+// Whether a line with the path and the node of a row stands in a manifest.
+fn has_line(lines: &mut Cursor<'_>, row: &HgRow) -> bool
+    ensures found { OnTrue result (HasLine row.now.path row.now.node lines.old) }
+    ensures same { lines.new ≡ lines.old }
+{
+    match lines.get(row.path.as_slice()) {
+        Some(entry) => entry.node == row.node,
+        None => false,
+    }
+}
+
+// Whether a parent of a revision of the file at a path stands in no changeset of the blocks.
+fn is_file_late(taking: &Taking, path: &[u8], parent: &Id) -> bool
+    ensures { (blocks : List Block) → IsTaking taking.now blocks → result ≡ is_late_file blocks path.now parent.now }
+{
+    !parent.is_null() && !taking.referred.has(Group::FilesAt(path), parent)
+}
+
+// Whether a parent of a manifest is that of no changeset of the blocks.
+fn is_manifest_late(taking: &Taking, manifest: &ManifestRev) -> bool
+    ensures { (blocks : List Block) → IsTaking taking.now blocks → result ≡ has_late_manifest blocks (manifest_value manifest.now) }
+{
+    match manifest {
+        ManifestRev::Null => false,
+        ManifestRev::Over { p, q } => is_parent_late(taking, p) || is_parent_late(taking, q),
+    }
+}
+
+// Whether a manifest is that of no changeset of the blocks.
+fn is_parent_late(taking: &Taking, parent: &Id) -> bool
+    ensures { (blocks : List Block) → IsTaking taking.now blocks → result ≡ is_late_manifest blocks parent.now }
+{
+    !parent.is_null() && !taking.referred.has(Group::Manifests, parent)
+}
