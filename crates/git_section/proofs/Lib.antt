@@ -1,0 +1,9 @@
+pub mod Listed
+pub mod Reading
+pub mod Walkable
+pub mod Sizes
+pub mod Distinct
+pub mod Known
+pub mod Written
+pub mod Sound
+pub mod Whole

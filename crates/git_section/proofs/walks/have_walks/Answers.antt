@@ -1,0 +1,22 @@
+use Rattle.std.proofs.Common.{◌≡◌, ◌<◌, [], length, true, false, true≢false, sym, ◌∙◌, arith}
+use Rattle.git_dump.proofs.CommitLemmas.{commit-at_place}
+use Rattle.git_section.proofs.Walkable.{one_more}
+use Rattle.git_section.proofs.walks.have_walks.Goals as goal
+
+pub loop-id-init : goal.loop-id-init
+loop-id-init c = ([], (tt, tt))
+
+pub loop-id-preserved : goal.loop-id-preserved
+loop-id-preserved c =
+    let below : c.loop-id.id-index < length c.args.ids.now = omega (arith, c.loop-id-test.true) in
+    one_more c.args.store.now c.args.ids.now c.loop-id.id-index c.id-item.result below c.id-item.is c.loop-id.invariant (c.in_ok-has_walk.ensures.0 (cc c.if-not-branch.false))
+
+pub returns-then-not-branch : goal.returns-then-not-branch
+returns-then-not-branch c = (
+  λ t. absurd (true≢false (sym t)),
+  λ all.
+      let below : c.loop-id.id-index < length c.args.ids.now = omega (arith, c.loop-id-test.true) in
+      let at = commit-at_place c.args.store.now c.args.ids.now all.0 all.1 c.loop-id.id-index c.id-item.result c.id-item.result below c.id-item.is in
+      let no : c.in_ok-has_walk.field-0 ≡ false = cc c.if-not-branch.true in
+      absurd (true≢false (sym (c.in_ok-has_walk.ensures.1 (at.view, at.is)) ∙ no)),
+)

@@ -1,0 +1,43 @@
+-- What a section of commits holds.
+use Rattle.std.specs.Prelude.{◌≡◌, List, [], map, filter, None, Ok}
+use Rattle.text_model.specs.Lists.{Each, only_new}
+use Rattle.text_model.specs.Text.{Bytes}
+use Rattle.text_model.specs.Id.{Id, commit, same_kind}
+use Rattle.git_model.specs.Object.{Object, same_object, objects_after_all}
+use Rattle.git_model.specs.Stream.{Placed, stream_reading}
+use Rattle.git_model.specs.Unfold.{walk_fault}
+use Rattle.git_store.specs.Known.{AreKnown}
+use Rattle.view_model.specs.View.{CommitView, commit_id}
+use Rattle.view_model.specs.Held.{AreCommitsHeld}
+use Rattle.view_model.specs.Dump.{objects_in}
+use Rattle.git_batch.specs.Arrivals.{is_of}
+use Rattle.git_batch.specs.declared.arrival.ObjectArrival.{ObjectArrival}
+use Rattle.git_section.specs.declared.section.GitSection.{GitSection}
+
+-- the section holds these commits: the objects of their dump, in its order
+pub record HoldsCommits (s : GitSection) (cs : List CommitView) : Type 0 where
+  pub ids : s.ids ≡ map commit_id cs
+  pub held : AreCommitsHeld s.store s.ids cs
+  pub walks : Each (λ c. walk_fault s.store (c.value).tree_id ≡ None) cs
+  pub known : s.store ≡ objects_after_all [] (only_new same_object [] (objects_in cs))
+  pub sound : AreKnown s.store
+
+-- the objects of a stream
+abbrev pub objects_of : List Placed → List Object
+objects_of placed = map (λ o. o.object) placed
+
+-- the ids of the commits among objects
+abbrev pub commit_ids : List Object → List Id
+commit_ids objects = map (λ o. o.id) (filter (λ o. same_kind commit o.kind) objects)
+
+-- the ids of the commits of a stream, in its order
+abbrev pub listed_commits : List ObjectArrival → List Id
+listed_commits arrivals = map (λ a. a.id) (filter (is_of commit) arrivals)
+
+-- the bytes bring these objects to none, and their commits are listed
+pub record IsRead (bytes : Bytes) (s : GitSection) : Type 0 where
+  pub placed : List Placed
+  pub reads : stream_reading [] bytes ≡ Ok placed
+  pub holds : s.store ≡ objects_after_all [] (objects_of placed)
+  pub ids : s.ids ≡ commit_ids (objects_of placed)
+  pub known : AreKnown s.store

@@ -1,0 +1,31 @@
+// The commits of a saved state.
+ghost use Rattle.std.specs.Prelude.{◌≡◌, ◌≢◌, List, IfOk, MatchOption};
+ghost use Rattle.view_model.specs.View.{CommitView};
+ghost use Rattle.state_model.specs.Kept.{git_dump};
+ghost use Rattle.state_model.specs.Saved.{AreCommitsSaved};
+ghost use Rattle.git_section.specs.Sections.{HoldsCommits};
+
+use crate::section::{GitSection, read_section};
+use crate::walks::have_walks;
+use bridge_text::NoMemory;
+use git_dump::write;
+use std::alloc::Global;
+
+/// The commits whose dump these bytes are; `None` exactly where no list of commits that can be saved has this dump.
+pub fn read_commits(alloc: Global, bytes: &[u8]) -> Result<Option<GitSection>, NoMemory>
+    ensures { IfOk result (λ found. MatchOption found ((cs : List CommitView) → AreCommitsSaved cs → git_dump cs ≢ bytes.now)
+        (λ s. (cs : List CommitView) × AreCommitsSaved cs × (git_dump cs ≡ bytes.now) × HoldsCommits s cs)) }
+{
+    let Some(section) = read_section(alloc, bytes)? else {
+        return Ok(None);
+    };
+    if !have_walks(alloc, &section.store, section.ids.as_slice())? {
+        return Ok(None);
+    }
+    let dump = write(alloc, &section.store, &section.ids, 0)?;
+    if dump.as_slice() == bytes {
+        Ok(Some(section))
+    } else {
+        Ok(None)
+    }
+}

@@ -1,0 +1,49 @@
+// What a stream brings.
+ghost use Rattle.std.specs.Prelude.{◌≡◌, [], IfOk, MatchOption, false, is_ok};
+ghost use Rattle.git_model.specs.Stream.{stream_reading};
+ghost use Rattle.git_section.specs.Sections.{IsRead, listed_commits};
+
+use bridge_text::{IdList, Kind, NoMemory};
+use git_batch::{ObjectArrivals, StreamFault, read_into};
+use git_store::GitStore;
+use state_part::Part;
+use std::alloc::Global;
+
+/// The commits of a saved state.
+#[derive(Drop)]
+pub struct GitSection {
+    /// All their objects.
+    pub store: GitStore,
+    /// The ids of the commits, in their order.
+    pub ids: IdList,
+}
+
+/// The objects that these bytes bring to an empty store; `None` exactly where the bytes are refused.
+pub fn read_section(alloc: Global, bytes: &[u8]) -> Result<Option<GitSection>, NoMemory>
+    ensures { IfOk result (λ found. MatchOption found (is_ok (stream_reading [] bytes.now) ≡ false) (IsRead bytes.now)) }
+{
+    let mut source = Part::new(bytes);
+    match read_into(alloc, &mut source, GitStore::new(alloc)) {
+        Ok((store, came)) => {
+            store.check();
+            let ids = commits_among(alloc, &came)?;
+            Ok(Some(GitSection { store, ids }))
+        }
+        Err(StreamFault::Refused(_)) => Ok(None),
+        Err(StreamFault::Read) => unreachable!(),
+        Err(StreamFault::Memory) => Err(NoMemory),
+    }
+}
+
+/// The ids of the commits among objects that came, in their order.
+fn commits_among(alloc: Global, came: &ObjectArrivals) -> Result<IdList, NoMemory>
+    ensures { IfOk result (λ ids. ids ≡ listed_commits came.now) }
+{
+    let mut ids = IdList::new(alloc);
+    for item in came.as_slice() {
+        if item.kind == Kind::Commit {
+            ids.push(item.id)?;
+        }
+    }
+    Ok(ids)
+}

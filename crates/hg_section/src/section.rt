@@ -1,0 +1,44 @@
+ghost use Rattle.std.specs.Prelude.{◌≡◌, ◌≢◌, List, IfOk, MatchOption};
+ghost use Rattle.view_model.specs.View.{ChangesetView};
+ghost use Rattle.state_model.specs.Kept.{hg_dump};
+ghost use Rattle.state_model.specs.Saved.{AreDumped};
+ghost use Rattle.hg_section.specs.Section.{HoldsChangesets};
+
+use crate::nodes::changeset_nodes;
+use crate::read::read_bundle;
+use crate::written::is_written;
+use bridge_text::{IdList, NoMemory};
+use hg_store::HgStore;
+use std::alloc::Global;
+
+/// How many changesets a saved state has at most.
+const CHANGESET_LIMIT: usize = 1_000_000;
+
+/// The changesets of a saved state.
+#[derive(Drop)]
+pub struct HgSection {
+    /// What their dump brings, in its order.
+    pub store: HgStore,
+    /// Their nodes, in their order.
+    pub nodes: IdList,
+}
+
+/// The changesets whose dump these bytes are; `None` exactly where no list of changesets that can be saved has this dump.
+pub fn read_changesets(alloc: Global, bytes: &[u8]) -> Result<Option<HgSection>, NoMemory>
+    ensures { IfOk result (λ found. MatchOption found ((hs : List ChangesetView) → AreDumped hs → hg_dump hs ≢ bytes.now)
+        (λ s. (hs : List ChangesetView) × AreDumped hs × (hg_dump hs ≡ bytes.now) × HoldsChangesets s hs)) }
+{
+    let Some((store, arrivals)) = read_bundle(alloc, bytes)? else {
+        return Ok(None);
+    };
+    let Some(nodes) = changeset_nodes(alloc, &arrivals)? else {
+        return Ok(None);
+    };
+    if nodes.len() > CHANGESET_LIMIT {
+        return Ok(None);
+    }
+    if !is_written(alloc, &store, &nodes, bytes)? {
+        return Ok(None);
+    }
+    Ok(Some(HgSection { store, nodes }))
+}

@@ -1,0 +1,29 @@
+ghost use Rattle.std.specs.Prelude.{List, IfOk, IsTrue};
+ghost use Rattle.std.specs.Bool.{OnTrue};
+ghost use Rattle.hg_store.specs.Known.{AreAdded};
+ghost use Rattle.view_model.specs.View.{ChangesetView};
+ghost use Rattle.hg_section.specs.Section.{IsWrittenOf};
+
+use bridge_text::{IdList, NoMemory};
+use hg_dump::{are_held, write};
+use hg_store::HgStore;
+use std::alloc::Global;
+
+// Whether a store holds the changesets of these nodes, and bytes are the bundle that is written of them.
+pub fn is_written(
+    alloc: Global,
+    store: &HgStore,
+    nodes: &IdList,
+    bytes: &[u8],
+) -> Result<bool, NoMemory>
+    ensures added { AreAdded store.now }
+    ensures yes { IfOk result (λ yes. OnTrue yes ((hs : List ChangesetView) × IsWrittenOf store.now nodes.now bytes.now hs)) }
+    ensures no { IfOk result (λ yes. (hs : List ChangesetView) → IsWrittenOf store.now nodes.now bytes.now hs → IsTrue yes) }
+{
+    store.check();
+    if !are_held(store, nodes) {
+        return Ok(false);
+    }
+    let written = write(alloc, store, nodes, 0)?;
+    Ok(written.as_slice() == bytes)
+}

@@ -1,0 +1,10 @@
+pub mod Sames
+pub mod Held
+pub mod Known
+pub mod Dumps
+pub mod Read
+pub mod Blocks
+pub mod Streams
+pub mod Accepted
+pub mod Saved
+pub mod States

@@ -1,0 +1,5 @@
+pub mod Limits
+pub mod Kept
+pub mod Tags
+pub mod Text
+pub mod Saved

@@ -1,0 +1,5 @@
+pub mod Names
+pub mod FateLemmas
+pub mod FollowLemmas
+pub mod RowLemmas
+pub mod ModelLemmas

@@ -1,0 +1,4 @@
+pub mod Rows
+pub mod Named
+pub mod Fates
+pub mod Answers
