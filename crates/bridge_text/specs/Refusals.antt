@@ -44,7 +44,6 @@ fault_name code.FileParentLate = model.FileParentLate
 fault_name code.ManifestParentLate = model.ManifestParentLate
 fault_name code.NestLimit = model.NestLimit
 fault_name code.PairLimit = model.PairLimit
-fault_name code.NotPlain = model.NotPlain
 fault_name code.Orphan = model.Orphan
 fault_name code.DanglingLink = model.DanglingLink
 fault_name code.StateLimit = model.StateLimit

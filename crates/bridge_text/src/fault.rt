@@ -83,8 +83,6 @@ pub enum Fault {
     NestLimit,
     /// A text, an object or a tree of the partner is over its limit.
     PairLimit,
-    /// The plain rules don't give the member back.
-    NotPlain,
     /// No changeset refers to the manifest or the file revision.
     Orphan,
     /// A link of an octopus commit came, and no changeset of its commit.
@@ -152,7 +150,6 @@ impl Fault {
             Fault::ManifestParentLate => b"ManifestParentLate",
             Fault::NestLimit => b"NestLimit",
             Fault::PairLimit => b"PairLimit",
-            Fault::NotPlain => b"NotPlain",
             Fault::Orphan => b"Orphan",
             Fault::DanglingLink => b"DanglingLink",
             Fault::StateLimit => b"StateLimit",
