@@ -54,8 +54,9 @@ def new_line(numbers):
     return b'%0*d\n' % (LINE - 1, numbers.randrange(10**60))
 
 
-def write_bundle(count, path, texts_path, file_count=FILES):
-    """A bundle in which each changeset changes one file, and the texts of all its revisions; the first changesets add the files, one each."""
+def write_bundle(count, path, texts_path, file_count=FILES, extras=b''):
+    """A bundle in which each changeset changes one file, and the texts of all its revisions; the first changesets add the files, one each. The extras
+    stand in each changeset behind its date."""
     numbers = random.Random(count)
     with open(texts_path, 'wb') as texts:
         files = [File(path_of(place, file_count), texts) for place in range(file_count)]
@@ -63,7 +64,7 @@ def write_bundle(count, path, texts_path, file_count=FILES):
         lines = [b''] * file_count
         for number in range(count):
             place = number if number < file_count else numbers.randrange(file_count)
-            commit(number, place, files, lines, manifests, changesets, numbers)
+            commit(number, place, files, lines, manifests, changesets, numbers, extras)
     nodes = [node for node, _, _ in changesets.chunks]
     with open(path, 'wb') as file:
         file.write(hg.bundle(changesets.chunks_linked(nodes), manifests.chunks_linked(nodes),
@@ -81,12 +82,13 @@ def row_count(count, file_count=FILES):
     return sum(min(number, file_count) for number in range(1, count + 1))
 
 
-def commit(number, place, files, lines, manifests, changesets, numbers):
+def commit(number, place, files, lines, manifests, changesets, numbers, extras):
     file = files[place]
     line = hg.manifest_line(file.path, file.revise(numbers))
     start = place * len(line)
     hunk = hg.hunk(start, start + len(lines[place]), line)
     lines[place] = line
     manifest = manifests.add(b''.join(lines), [hunk])
-    text = b'%s\nAnn <ann@x>\n%d 0\n%s\n\nchangeset %d' % (manifest.hex().encode(), number, file.path, number)
+    date = b'%d 0' % number + (b' ' + extras if extras else b'')
+    text = b'%s\nAnn <ann@x>\n%s\n%s\n\nchangeset %d' % (manifest.hex().encode(), date, file.path, number)
     file.links.append(changesets.add(text, [hg.hunk(0, len(changesets.text), text)]))

@@ -11,7 +11,6 @@ def check(checks):
     check_plain(checks)
     check_carried(checks)
     check_collisions(checks)
-    check_orphans(checks)
     check_revisions(checks)
     check_links(checks)
     check_marks(checks)
@@ -93,26 +92,6 @@ def check_collisions(checks):
         ('beside other parents of that node', ([record(**{**own, 'p': ONE})], [], first), True),
         ('a changeset that stands in a block', ([], [block], first), True),
         ('its child', ([own], [block], second), False),
-    ])
-
-
-def check_orphans(checks):
-    """New manifests and file revisions to which no changeset refers."""
-    first, _ = two_changesets(checks)
-    block = record(links=[], changeset=first, commit=Shapes(checks).commit([(b'a', 'File', b'hello\n')]))
-
-    def arrival(group, node, fresh=True):
-        return record(revision=record(group=group, node=node, p=NULL, q=NULL, link=One.node, text=b''), at=6, fresh=fresh)
-
-    file, manifest = Con('FilesAt', (b'a',)), Con('Manifests')
-    checks.table('history_model.Pull.is_orphan', [
-        ('a manifest of a changeset', ([block], arrival(manifest, One.manifest)), False),
-        ('a file of a changeset', ([block], arrival(file, One.file)), False),
-        ('the file at another path', ([block], arrival(Con('FilesAt', (b'b',)), One.file)), True),
-        ('a manifest of none', ([block], arrival(manifest, ONE)), True),
-        ('one that was known', ([block], arrival(manifest, ONE, fresh=False)), False),
-        ('a changeset', ([], arrival(Con('Changesets'), ONE)), False),
-        ('a manifest where there is no block', ([], arrival(manifest, One.manifest)), True),
     ])
 
 

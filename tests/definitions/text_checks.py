@@ -10,7 +10,7 @@ FAULTS = '''
     Truncated Length Limit Trailing Magic OtherBundle InputLimit HeaderShort ParentOrder ParentUnknown LinkUnknown
     HunkShape HunkRange NodeWrong ChangesetShape ManifestShape PathUnfit FileShape Collision Line Missing KindUnknown
     IdWrong ObjectShape ModeOut NameUnfit ParentTwice ParentLimit ManifestUnknown FileUnknown ObjectUnknown
-    PathClash ParentIsLink FileParentLate ManifestParentLate NestLimit PairLimit NotPlain Orphan DanglingLink
+    PathClash ParentIsLink FileParentLate ManifestParentLate NestLimit PairLimit Orphan DanglingLink
     StateLimit NameShape RefUnfit NameTwice TargetUnknown TagUnknown NameLimit CountLimit
 '''.split()
 

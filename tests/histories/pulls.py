@@ -5,9 +5,9 @@ from formats.hg import NULL
 from inputs import (CHANGESETS, MANIFESTS, Refused, changeset_of, group_of_path, manifest_lines, read_bundle, read_commit,
                     read_stream, tree_entries)
 from members import EMPTY_TREE, GITLINK, TREE, Commit, TreeRow, has_clash, tree_objects
-from partners import (Block, History, Link, depth_of_changeset, depth_of_commit, is_link, is_plain_changeset, is_plain_commit,
-                      partner_of_changeset, partner_of_commit, unmark_changeset)
-from rules import links_of, rule_changeset, rule_commit
+from partners import (Block, History, Link, depth_of_changeset, depth_of_commit, is_link, partner_of_changeset, partner_of_commit,
+                      unmark_changeset)
+from rules import links_of
 from texts import is_fit, read_changeset
 
 DEPTH_LIMIT = 16
@@ -19,16 +19,16 @@ BYTES_OF_A_ROW = 42
 
 # ---- a bundle
 
-def pull_bundle(data, plain=False):
-    """The blocks of a bundle. With `plain` the pull carries plain changesets alone."""
+def pull_bundle(data):
+    """The blocks of a bundle."""
     arrivals = read_bundle(data)
     history = History()
     came = [arrival for (group, _), arrival in arrivals.items() if group == CHANGESETS]
     for arrival in came:
-        if is_link((arrival.p, arrival.q), arrival.text) and not plain:
+        if is_link((arrival.p, arrival.q), arrival.text):
             history.links[arrival.node] = Link((arrival.p, arrival.q), arrival.text)
         else:
-            add_changeset(history, arrivals, arrival, plain)
+            add_changeset(history, arrivals, arrival)
     refuse_orphans(arrivals, came)
     in_blocks = {link.node() for block in history.blocks for link in block.links}
     for arrival in came:
@@ -37,23 +37,18 @@ def pull_bundle(data, plain=False):
     return history.blocks
 
 
-def add_changeset(history, arrivals, arrival, plain):
+def add_changeset(history, arrivals, arrival):
     node = read_changeset(arrival.text).manifest
     if node != NULL and (MANIFESTS, node) not in arrivals:
         raise arrival.refused('ManifestUnknown')
     if any((group_of_path(path), file) not in arrivals for path, file, _ in manifest_lines(arrivals, node)):
         raise arrival.refused('FileUnknown')
-    choose = plain_block_of_changeset if plain else block_of_changeset
-    add_block(history, choose(history, changeset_of(arrivals, arrival), arrival), arrival)
-
-
-def refuse_clash(changeset, arrival):
-    if has_clash(set(changeset.paths())):
-        raise arrival.refused('PathClash')
+    add_block(history, block_of_changeset(history, changeset_of(arrivals, arrival), arrival), arrival)
 
 
 def block_of_changeset(history, changeset, arrival):
-    refuse_clash(changeset, arrival)
+    if has_clash(set(changeset.paths())):
+        raise arrival.refused('PathClash')
     has_link = any(p in history.links for p in changeset.parents)
     if has_link and unmark_changeset(history, changeset) is None:
         raise arrival.refused('ParentIsLink')
@@ -62,17 +57,6 @@ def block_of_changeset(history, changeset, arrival):
     commit = partner_of_changeset(history, changeset)
     refuse_large_commit(commit, arrival)
     return Block(tuple(links_of(history, commit)), changeset, commit)
-
-
-def plain_block_of_changeset(history, changeset, arrival):
-    refuse_clash(changeset, arrival)
-    if is_link(changeset.parents, changeset.text()):
-        raise arrival.refused('NotPlain')
-    commit = rule_commit(history, changeset)
-    refuse_large_commit(commit, arrival)
-    if not is_plain_changeset(history, changeset):
-        raise arrival.refused('NotPlain')
-    return Block((), changeset, commit)
 
 
 def refuse_large_commit(commit, arrival):
@@ -111,15 +95,14 @@ class Came(NamedTuple):
         return Refused(name, self.id, self.at)
 
 
-def pull_stream(data, plain=False):
-    """The blocks of a stream. With `plain` the pull carries plain commits alone."""
+def pull_stream(data):
+    """The blocks of a stream."""
     objects = read_stream(data)
     history = History()
     came = [Came(object.id, read_commit(object.content), object.at) for object in objects.values() if object.kind == b'commit']
     for commit in in_order_of_parents(came):
-        choose = plain_block_of_commit if plain else block_of_commit
         rows = tuple(sorted(walk(objects, commit), key=lambda row: row.path))
-        add_block(history, choose(history, Commit(*commit.fields[1:], rows), commit), commit)
+        add_block(history, block_of_commit(history, Commit(*commit.fields[1:], rows), commit), commit)
     return history.blocks
 
 
@@ -168,16 +151,6 @@ def block_of_commit(history, commit, came):
     changeset = partner_of_commit(history, commit)
     refuse_large_changeset(changeset, came)
     return Block(tuple(links_of(history, commit)), changeset, commit)
-
-
-def plain_block_of_commit(history, commit, came):
-    if len(commit.parents) > 2:
-        raise came.refused('NotPlain')
-    changeset = rule_changeset(history, commit)
-    refuse_large_changeset(changeset, came)
-    if not is_plain_commit(history, commit):
-        raise came.refused('NotPlain')
-    return Block((), changeset, commit)
 
 
 def refuse_large_changeset(changeset, came):

@@ -1,14 +1,13 @@
 """Repositories of the real Git whose trees have more than a changeset can have: submodules, files that their group may write, empty folders.
 
-All are listed and checked. A commit is handed these rows by its first parent alone, and a commit without parents by nobody, so in a pull that
-begins with nothing the first commit that has one isn't plain, and no history with one is. What comes before that commit is carried, and comes back.
+All are listed and checked, and carried: a commit that has such a row by itself has it in a mark, and a child that keeps it needs none.
 """
 import collections
 import os
 import tempfile
 
 from formats import git as streams
-from program import done, refused
+from program import done
 from tools import git, write
 
 
@@ -18,11 +17,10 @@ def check(report, program):
             repository = os.path.join(folder, 'main')
             os.mkdir(repository)
             git(repository, 'init', '-q', '-b', 'main', '.')
-            name, entry = make(folder, repository)
+            name, entry, item = make(folder, repository)
             check_shape(report, repository, name, entry)
             check_objects(report, program, repository, name)
-            check_refused(report, program, repository, name)
-            check_before(report, program, repository, name)
+            check_carried(report, program, repository, name, item)
 
 
 # ---- repositories of three commits, of which the second brings the row and the third keeps it
@@ -36,14 +34,14 @@ def with_submodule(folder, repository):
     git(repository, '-c', 'protocol.file.allow=always', 'submodule', '--quiet', 'add', library, 'lib')
     git(repository, 'commit', '-q', '-m', 'a submodule')
     commit_file(repository, 'a', b'two\n')
-    return 'a submodule', b'160000 lib\0'
+    return 'a submodule', b'160000 lib\0', b' hg-git-tree:link:'
 
 
 def with_group_file(_, repository):
     commit_tree(repository, [(b'100644', b'blob', blob(repository, b'one\n'), b'a')], 'one')
     for body in (b'one\n', b'two\n'):
         commit_tree(repository, [(b'100664', b'blob', blob(repository, body), b'a')], 'a file of mode 100664')
-    return 'a file of mode 100664', b'100664 a\0'
+    return 'a file of mode 100664', b'100664 a\0', b' hg-git-tree:group:a\n'
 
 
 def with_empty_subtree(_, repository):
@@ -52,7 +50,7 @@ def with_empty_subtree(_, repository):
     for body in (b'one\n', b'two\n'):
         entries = [(b'100644', b'blob', blob(repository, body), b'a'), (b'040000', b'tree', empty, b'd')]
         commit_tree(repository, entries, 'an empty subtree')
-    return 'an empty subtree', b'40000 d\0' + bytes.fromhex(empty.decode())
+    return 'an empty subtree', b'40000 d\0' + bytes.fromhex(empty.decode()), b' hg-git-tree:empty:d\n'
 
 
 def commit_file(repository, name, body):
@@ -98,17 +96,13 @@ def check_objects(report, program, repository, name):
     report.check(f'{name}: check-git counts the objects', program.run(['check-git'], data), done(counts))
 
 
-def check_refused(report, program, repository, name):
+def check_carried(report, program, repository, name, item):
+    """The commit that brings the row has it in its changeset's extras, the one that keeps it doesn't, and all come back."""
     _, data = stream_of(repository)
-    first = git(repository, 'rev-parse', 'main~1').strip()
-    place = next(o.at for o in streams.objects_of(data) if o.id == first)
-    report.check(f'{name}: pull-git names the first commit that has it', program.run(['pull-git'], data), refused('NotPlain', place, first))
-
-
-def check_before(report, program, repository, name):
-    _, data = stream_of(repository, 'main~2')
     answer = program.run(['pull-git'], data)
-    report.check(f'{name}: the commit before it is carried', answer, done(answer.output))
-    back = program.run(['pull-hg'], answer.output)
+    bundle = answer.output
+    report.check(f'{name}: the history is carried', answer, done(bundle))
+    report.check(f'{name}: one changeset has it in its extras', bundle.count(item), 1)
+    back = program.run(['pull-hg'], bundle)
     ids = sorted(o.id for o in streams.objects_of(data))
-    report.check(f'{name}: and comes back with all ids', (back.status, sorted(o.id for o in streams.objects_of(back.output))), (0, ids))
+    report.check(f'{name}: all ids come back', (back.status, sorted(o.id for o in streams.objects_of(back.output))), (0, ids))
