@@ -1,0 +1,10 @@
+pub mod Comes
+pub mod TagsOnly
+pub mod DistinctTags
+pub mod Steady
+pub mod Ways
+pub mod Lead
+pub mod Targets
+pub mod Adds
+pub mod TagsRead
+pub mod SavedTags

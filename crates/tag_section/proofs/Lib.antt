@@ -1,0 +1,6 @@
+pub mod Sets
+pub mod Whole
+pub mod Rule
+pub mod Known
+pub mod Reading
+pub mod Saved

@@ -1,0 +1,10 @@
+pub mod Extras
+pub mod Lines
+pub mod Founded
+pub mod RuledCommit
+pub mod Links
+pub mod RuledChangeset
+pub mod CommitFit
+pub mod Views
+pub mod Fits
+pub mod Left
