@@ -6,9 +6,9 @@ use git_store::GitStore;
 use state_part::Part;
 use std::alloc::Global;
 use std::test::Fail;
-use tag_rule::{TagFault, new_tags};
+use tag_rule::new_tags;
 
-/// A tag of the commit, a tag of that tag, a tag of the tree, and a tag of a tag that is nowhere.
+/// A tag of the commit, a tag of that tag, and a tag of the tree.
 const FIRST: &[u8] =
     b"4e026e3f8efe351cd7c35b98f6e630d8bc384c32 tag 97\nobject fb8491d27293299d600326567e91d35289f9\
     9b8d\ntype commit\ntag v1\ntagger u <u@v> 0 +0000\n\nfirst\n\n";
@@ -21,15 +21,9 @@ const OF_TREE: &[u8] =
     b"3cac97f306eba646f427d8745096cd87a16d75f1 tag 95\nobject 0976950c1fdbcb52435a433913017bf044b3\
     a58f\ntype tree\ntag v3\ntagger u <u@v> 0 +0000\n\nfirst\n\n";
 
-const STRAY: &[u8] =
-    b"eb679a9339190a141ac7ba0be33807e23fd83533 tag 94\nobject 222222222222222222222222222222222222\
-    2222\ntype tag\ntag v4\ntagger u <u@v> 0 +0000\n\nfirst\n\n";
-
 const FIRST_ID: &[u8] = b"4e026e3f8efe351cd7c35b98f6e630d8bc384c32";
 
 const SECOND_ID: &[u8] = b"62daf9a5d2054315cdf5d232d5611c7eef6e13ac";
-
-const STRAY_ID: &[u8] = b"eb679a9339190a141ac7ba0be33807e23fd83533";
 
 // The store and the objects of the commit's stream with these tags behind it.
 fn came(alloc: Global, tags: &[&[u8]]) -> Result<(GitStore, ObjectArrivals), Fail> {
@@ -85,31 +79,5 @@ fn tags_that_lead_to_a_commit_are_kept(rt: HostRuntime) -> Result<(), Fail> {
         let are_kept = are_kept(rt.alloc(), tags, kept, want)?;
         assert!(rt; are_kept);
     }
-    Ok(())
-}
-
-// Whether the tags are refused for this fault.
-fn are_refused(alloc: Global, commits: &[&[u8]], tags: &[&[u8]], want: TagFault) -> Result<bool, Fail> {
-    let (store, arrivals) = came(alloc, tags)?;
-    let commits = set_of(alloc, commits)?;
-    match new_tags(alloc, &store, &commits, &IdSet::new(alloc), &arrivals) {
-        Ok(_) => Ok(false),
-        Err(fault) => Ok(fault == want),
-    }
-}
-
-// That a tag lacks its target: its id and its place in the stream.
-fn lacking(digits: &[u8], at: u64) -> Result<TagFault, Fail> {
-    Ok(TagFault::ObjectUnknown { id: id(digits)?, at })
-}
-
-#[test]
-fn the_first_tag_without_its_target_is_told(rt: HostRuntime) -> Result<(), Fail> {
-    let lacks_commit = lacking(FIRST_ID, 439)?;
-    let is_told = are_refused(rt.alloc(), &[], &[OF_TREE, FIRST], lacks_commit)?;
-    assert!(rt; is_told);
-    let lacks_tag = lacking(STRAY_ID, 441)?;
-    let is_told = are_refused(rt.alloc(), &[COMMIT], &[FIRST, STRAY], lacks_tag)?;
-    assert!(rt; is_told);
     Ok(())
 }
