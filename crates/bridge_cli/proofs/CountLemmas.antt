@@ -9,7 +9,8 @@ use Rattle.hg_model.specs.Reading as reading
 use Rattle.hg_model.specs.Reading.{bundle_reading}
 use Rattle.git_model.specs.Stream.{Placed, stream_reading}
 use Rattle.git_model.specs.Object.{Object}
-use Rattle.history_model.specs.Command.{CheckHg, CheckGit, Written, is_manifests, is_files, revision_counts, object_counts, written_of, ComesTo}
+use Rattle.state_model.specs.Kept.{empty_state}
+use Rattle.saved_model.specs.Command.{CheckHg, CheckGit, Written, is_manifests, is_files, revision_counts, object_counts, written_of, ComesTo}
 use Rattle.history_model.specs.Pull.{is_changesets}
 use Rattle.hg_bundle.specs.declared.arrival.Arrival.{Arrival}
 use Rattle.git_batch.specs.declared.arrival.ObjectArrival.{ObjectArrival}
@@ -56,16 +57,16 @@ counts-objects objects = rw (counts commit objects, counts tree objects, counts 
 
 -- what a bundle brings to no revisions is counted
 pub bundle_told : (input : Option Bytes) (known : List Revision) (read : List Revision × List Arrival) (lines : Bytes) → known ≡ []
-    → IfSome input (λ bytes. bundle.Reads known bytes (Ok read)) → lines ≡ arrival_counts read.1 → IfSome input (λ bytes. ComesTo CheckHg bytes (Written lines))
+    → IfSome input (λ bytes. bundle.Reads known bytes (Ok read)) → lines ≡ arrival_counts read.1 → IfSome input (λ bytes. ComesTo CheckHg empty_state bytes (Written lines None))
 bundle_told None known read lines none reads made = tt
 bundle_told (Some bytes) known read lines none (arrivals, is, listed, stored) made =
     let from_none = subst (λ (k : List Revision). bundle_reading k bytes ≡ Ok arrivals) none is in
-    ap (written_of revision_counts) from_none ∙ ap Written (sym (made ∙ ap arrival_counts listed ∙ counts-revisions arrivals))
+    ap (written_of revision_counts) from_none ∙ ap (λ (x : Bytes). Written x None) (sym (made ∙ ap arrival_counts listed ∙ counts-revisions arrivals))
 
 -- what a stream brings to no objects is counted
 pub stream_told : (input : Option Bytes) (known : List Object) (read : List Object × List ObjectArrival) (lines : Bytes) → known ≡ []
-    → IfSome input (λ bytes. stream.Reads known bytes (Ok read)) → lines ≡ stream_counts read.1 → IfSome input (λ bytes. ComesTo CheckGit bytes (Written lines))
+    → IfSome input (λ bytes. stream.Reads known bytes (Ok read)) → lines ≡ stream_counts read.1 → IfSome input (λ bytes. ComesTo CheckGit empty_state bytes (Written lines None))
 stream_told None known read lines none reads made = tt
 stream_told (Some bytes) known read lines none (objects, is, listed, stored) made =
     let from_none = subst (λ (k : List Object). stream_reading k bytes ≡ Ok objects) none is in
-    ap (written_of object_counts) from_none ∙ ap Written (sym (made ∙ ap stream_counts listed ∙ counts-objects objects))
+    ap (written_of object_counts) from_none ∙ ap (λ (x : Bytes). Written x None) (sym (made ∙ ap stream_counts listed ∙ counts-objects objects))

@@ -1,3 +1,11 @@
 mod CountLemmas
-pub mod PullLemmas
-pub mod StepLemmas
+pub mod OverLemmas
+pub mod EndLemmas
+pub mod AloneLemmas
+pub mod EmptyText
+pub mod FetchLemmas
+pub mod SavedLemmas
+pub mod HeadlineLemmas
+pub mod RunLemmas
+pub mod GoodText
+pub mod CompleteLemmas

@@ -1,21 +1,34 @@
--- How a run ends, by what its words and its input come to.
-use Rattle.std.specs.Prelude.{◌≡◌, List, Option, Some, IfSome, ⊤}
+-- How a run ends, by what its words, its input and its slot come to.
+use Rattle.std.specs.Prelude.{◌≡◌, ◌⊎◌, List, Option, Some, IfSome, MatchBool, ⊤}
 use Rattle.std.specs.Io.KnownBytes.{Appends, IsAtEnd}
 use Rattle.text_model.specs.Text.{Bytes}
 use Rattle.bridge_io.specs.Sink.{AppendsPrefix}
-use Rattle.history_model.specs.Command.{Command, Written, Refused, command_of, ComesTo}
-use Rattle.history_model.specs.Run.{Report, Done, IsRefused, Usage, ReadFault, WriteFault, Memory}
+use Rattle.state_model.specs.Kept.{State}
+use Rattle.saved_model.specs.Run.{Report, Done, IsRefused, Usage, ReadFault, WriteFault, SlotFault, StateBad, Memory}
+use Rattle.saved_model.specs.Command.{Command, Written, Refused, command_of, reads_input, reads_slot, ComesTo, BeginsWith, IsBadSlot, IsKept}
+use Rattle.bridge_cli.specs.Over.{HeldBy, Over}
 
--- The report is what the command comes to over the input, where the input tells its bytes: an output that was taken whole with the input
--- read to its end, a refusal, or an output of which a beginning was taken. `Usage` is no command's.
-abbrev pub EndsBy : Command → Option Bytes → Option Bytes → Option Bytes → Option Bytes → Report → Type 0
-EndsBy command input rest old new Done = IsAtEnd rest × IfSome input (λ bytes. (output : Bytes) × (ComesTo command bytes (Written output)) × Appends old new output)
-EndsBy command input rest old new (IsRefused why) = IfSome input (λ bytes. ComesTo command bytes (Refused why))
-EndsBy command input rest old new WriteFault = IfSome input (λ bytes. (output : Bytes) × (ComesTo command bytes (Written output)) × AppendsPrefix old new output)
-EndsBy command input rest old new Usage = ⊥
-EndsBy command input rest old new ReadFault = ⊤
-EndsBy command input rest old new Memory = ⊤
+-- the slot holds the text of the state that the command saves, or what it held
+abbrev pub Keeps : Option (Option Bytes) → Option (Option Bytes) → Option State → Type 0
+Keeps slot kept saved = IfSome slot (λ before. IfSome kept (λ after. IsKept saved before after))
 
--- a run with these words, over what is left of the input and what the output has taken, before and after
-abbrev pub Ends : List Bytes → Option Bytes → Option Bytes → Option Bytes → Option Bytes → Report → Type 0
-Ends words input rest old new report = (command : Command) → command_of words ≡ Some command → EndsBy command input rest old new report
+-- The report is what the command comes to over the state that the slot holds and the input, where both tell: an output that was taken whole with
+-- the input read to its end, and the state that is kept then; a refusal; an output of which a beginning was taken; a slot that failed before anything
+-- was written or behind it all; a slot that holds no state. `Usage` is no command's.
+abbrev pub EndsBy : Command → Option Bytes → Option Bytes → Option Bytes → Option Bytes → Option (Option Bytes) → Option (Option Bytes) → Report → Type 0
+EndsBy command input rest old new slot kept Done =
+    MatchBool (reads_input command) (IsAtEnd rest) ⊤
+    × Over command input slot (λ s bytes. (output : Bytes) × (saved : Option State) × ComesTo command s bytes (Written output saved) × Appends old new output × Keeps slot kept saved)
+EndsBy command input rest old new slot kept (IsRefused why) = Over command input slot (λ s bytes. ComesTo command s bytes (Refused why))
+EndsBy command input rest old new slot kept WriteFault =
+    Over command input slot (λ s bytes. (output : Bytes) × (saved : Option State) × ComesTo command s bytes (Written output saved) × AppendsPrefix old new output)
+EndsBy command input rest old new slot kept SlotFault =
+    (new ≡ old) ⊎ Over command input slot (λ s bytes. (output : Bytes) × (saved : Option State) × ComesTo command s bytes (Written output saved) × Appends old new output)
+EndsBy command input rest old new slot kept (StateBad why) = HeldBy (reads_slot command) slot (λ held. IsBadSlot held why)
+EndsBy command input rest old new slot kept Usage = ⊥
+EndsBy command input rest old new slot kept ReadFault = HeldBy (reads_slot command) slot (λ held. (s : State) × BeginsWith command held s)
+EndsBy command input rest old new slot kept Memory = ⊤
+
+-- a run with these words, over what is left of the input, what the output has taken and what the slot holds, before and after
+abbrev pub Ends : List Bytes → Option Bytes → Option Bytes → Option Bytes → Option Bytes → Option (Option Bytes) → Option (Option Bytes) → Report → Type 0
+Ends words input rest old new slot kept report = (command : Command) → command_of words ≡ Some command → EndsBy command input rest old new slot kept report

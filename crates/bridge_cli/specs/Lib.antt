@@ -1,7 +1,10 @@
 pub mod Counts
+pub mod Over
 pub mod Ends
 pub mod Makes
 pub mod Outside
 pub mod Report
 pub mod Status
 pub mod Steps
+pub mod Fetched
+pub mod Complete

@@ -6,9 +6,7 @@ use Rattle.hg_model.specs.Bundle.{ListsBundle, IsNoBundle}
 use Rattle.bridge_io.specs.Causes.{Rose}
 use Rattle.bridge_io.specs.Sink.{AppendsPrefix}
 use Rattle.bridge_cli.specs.declared.status.Status.{Status}
-use Rattle.bridge_cli.specs.declared.status.Status.TheVariants.{Done, Refused, ReadFault, WriteFault}
-use Rattle.bridge_cli.specs.declared.report.Report.{Report}
-use Rattle.bridge_cli.specs.declared.report.Report.TheVariants as code
+use Rattle.bridge_cli.specs.declared.status.Status.TheVariants.{Done, Refused, ReadFault, WriteFault, SlotFault}
 
 -- a sink took these bytes, or a beginning of them where its count of faults rose
 abbrev pub TakesOrFails : Option Bytes → Option Bytes → ℕ → ℕ → Bytes → Type 0
@@ -24,11 +22,10 @@ abbrev pub OutputCause : ℕ → ℕ → Status → Type 0
 OutputCause before now WriteFault = Rose before now
 OutputCause before now status = now ≡ before
 
--- an output was written whole, or a beginning of it
-abbrev pub WritesOut : Option Bytes → Option Bytes → Bytes → Report → Type 0
-WritesOut old new bytes code.Done = Appends old new bytes
-WritesOut old new bytes code.WriteFault = AppendsPrefix old new bytes
-WritesOut old new bytes report = ⊥
+-- `SlotFault` raises the count of the slot's faults, and every other answer leaves it
+abbrev pub SlotCause : ℕ → ℕ → Status → Type 0
+SlotCause before now SlotFault = Rose before now
+SlotCause before now status = now ≡ before
 
 -- how the listing of a bundle ends, where the input tells its bytes: they are a bundle whose lines were taken, or they are none
 abbrev pub ListingEnds : Option Bytes → Option Bytes → Option Bytes → Status → Type 0

@@ -6,11 +6,20 @@ use Rattle.git_batch.specs.declared.fault.BatchFault as batch_fault
 use Rattle.git_batch.specs.StreamFaults.{stream_fault}
 use Rattle.git_batch.specs.declared.stream_fault.StreamFault as object_fault
 use Rattle.git_batch.specs.declared.stream_fault.StreamFault.TheVariants as object
-use Rattle.history_model.specs.Run as report
+use Rattle.saved_model.specs.Run as report
+use Rattle.state_text.specs.declared.fault.StateFault.{StateFault}
+use Rattle.state_text.specs.declared.fault.StateFault.TheVariants as state
 use Rattle.pull_outcome.specs.declared.refused.PullFault.{PullFault}
 use Rattle.pull_outcome.specs.declared.refused.PullFault.TheVariants as pull
 use Rattle.bridge_cli.specs.declared.report.Report as code_report
 use Rattle.bridge_cli.specs.declared.report.Report.TheVariants as code
+use Rattle.bridge_cli.specs.declared.report.BadState as code_bad
+use Rattle.bridge_cli.specs.declared.report.BadState.TheVariants as bad
+
+abbrev pub bad_value : code_bad.BadState → report.BadState
+bad_value bad.TooLong = report.TooLong
+bad_value bad.OtherVersion = report.OtherVersion
+bad_value (bad.Shape section) = report.BadShape section
 
 abbrev pub report_value : code_report.Report → report.Report
 report_value code.Done = report.Done
@@ -18,6 +27,8 @@ report_value (code.Refused why) = report.IsRefused (refusal_value why)
 report_value code.Usage = report.Usage
 report_value code.ReadFault = report.ReadFault
 report_value code.WriteFault = report.WriteFault
+report_value code.SlotFault = report.SlotFault
+report_value (code.StateBad why) = report.StateBad (bad_value why)
 report_value code.Memory = report.Memory
 
 -- how a run ends that reads no bundle
@@ -41,3 +52,9 @@ abbrev pub pull_report : PullFault → code_report.Report
 pull_report (pull.Refused why) = code.Refused why
 pull_report pull.Read = code.ReadFault
 pull_report pull.Memory = code.Memory
+
+-- how a run ends whose slot holds the text of no state
+abbrev pub state_report : StateFault → code_report.Report
+state_report state.StateVersion = code.StateBad bad.OtherVersion
+state_report (state.StateShape section) = code.StateBad (bad.Shape section)
+state_report state.Memory = code.Memory

@@ -1,11 +1,11 @@
 -- The statuses and commands of the code, as those of the definitions.
 use Rattle.std.specs.Prelude.{ℕ}
-use Rattle.history_model.specs.Command as command
-use Rattle.history_model.specs.Run as report
+use Rattle.saved_model.specs.Command as command
+use Rattle.saved_model.specs.Run as report
 use Rattle.bridge_cli.specs.declared.status.Status.{Status}
 use Rattle.bridge_cli.specs.declared.status.Status.TheVariants.{Done, Refused, Usage, ReadFault, WriteFault, SlotFault, StateBad, Memory, Mismatch}
 use Rattle.bridge_cli.specs.declared.words.Command.{Command}
-use Rattle.bridge_cli.specs.declared.words.Command.TheVariants.{ListHg, CheckHg, ListGit, CheckGit, PullHg, PullGit}
+use Rattle.bridge_cli.specs.declared.words.Command.TheVariants.{ListHg, CheckHg, ListGit, CheckGit, PullHg, PullGit, DumpHg, DumpGit, Map}
 
 abbrev pub command_value : Command → command.Command
 command_value ListHg = command.ListHg
@@ -14,6 +14,9 @@ command_value ListGit = command.ListGit
 command_value CheckGit = command.CheckGit
 command_value PullHg = command.PullHg
 command_value PullGit = command.PullGit
+command_value DumpHg = command.DumpHg
+command_value DumpGit = command.DumpGit
+command_value Map = command.Map
 
 -- the exit status of the program
 abbrev pub code_of : Status → ℕ
@@ -34,4 +37,6 @@ status_of (report.IsRefused why) = Refused
 status_of report.Usage = Usage
 status_of report.ReadFault = ReadFault
 status_of report.WriteFault = WriteFault
+status_of report.SlotFault = SlotFault
+status_of (report.StateBad why) = StateBad
 status_of report.Memory = Memory

@@ -3,11 +3,14 @@
 
 mod command;
 mod counts;
+mod fetch;
 mod line;
 mod output;
 mod report;
+mod saved;
 mod status;
 mod words;
+mod work;
 
 pub use command::run;
 pub use status::Status;

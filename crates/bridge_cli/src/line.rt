@@ -1,10 +1,10 @@
 // The line that a run prints on its errors, built without memory.
 ghost use Rattle.std.specs.Prelude.{◌≡◌, ◌≤◌, length};
-ghost use Rattle.history_model.specs.Run.{refused_line, report_line};
+ghost use Rattle.saved_model.specs.Run.{BadShape, refused_line, state_line, report_line};
 ghost use Rattle.bridge_text.specs.Refusals.{refusal_value};
-ghost use Rattle.bridge_cli.specs.Report.{report_value};
+ghost use Rattle.bridge_cli.specs.Report.{bad_value, report_value};
 
-use crate::report::Report;
+use crate::report::{BadState, Report};
 use arrayvec::ArrayVec;
 use bridge_text::Refusal;
 
@@ -21,6 +21,8 @@ pub fn line_of(report: &Report) -> ArrayVec<u8, LONGEST>
         Report::Usage => line(b"usage\n"),
         Report::ReadFault => line(b"read fault\n"),
         Report::WriteFault => line(b"write fault\n"),
+        Report::SlotFault => line(b"slot fault\n"),
+        Report::StateBad(why) => state_line(why),
         Report::Memory => line(b"no memory\n"),
     }
 }
@@ -46,6 +48,29 @@ fn refused_line(refusal: &Refusal) -> ArrayVec<u8, LONGEST>
     line.try_extend_from_slice(&refusal.id.hex()).unwrap();
     line.push(b' ');
     line.try_extend_from_slice(place.format(refusal.place).as_bytes())
+        .unwrap();
+    line.push(b'\n');
+    line
+}
+
+// `state`, a name, and the section that doesn't fit or 0.
+fn state_line(why: &BadState) -> ArrayVec<u8, LONGEST>
+    ensures { result.items ≡ state_line (bad_value why.now) }
+{
+    match why {
+        BadState::TooLong => line(b"state TooLong 0\n"),
+        BadState::OtherVersion => line(b"state StateVersion 0\n"),
+        BadState::Shape(section) => shape_line(*section),
+    }
+}
+
+// `state StateShape` and the section.
+fn shape_line(section: u8) -> ArrayVec<u8, LONGEST>
+    ensures { result.items ≡ state_line (BadShape section) }
+{
+    let mut number = itoa::Buffer::new();
+    let mut line = line(b"state StateShape ");
+    line.try_extend_from_slice(number.format(section).as_bytes())
         .unwrap();
     line.push(b'\n');
     line

@@ -1,6 +1,6 @@
 // How a run ends, with what is printed of it.
 ghost use Rattle.std.specs.Prelude.{◌≡◌};
-ghost use Rattle.bridge_cli.specs.Report.{bundle_report, objects_report, pull_report, report_value, stream_report};
+ghost use Rattle.bridge_cli.specs.Report.{bundle_report, objects_report, pull_report, report_value, state_report, stream_report};
 ghost use Rattle.bridge_cli.specs.Status.{status_of};
 ghost use Rattle.bridge_cli.specs.declared.report.Report.TheVariants.{Memory};
 
@@ -9,6 +9,18 @@ use bridge_text::{NoMemory, Refusal};
 use git_batch::{BatchFault, StreamFault};
 use hg_bundle::BundleFault;
 use pull_engine::PullFault;
+use state_text::StateFault;
+
+/// Why what the slot holds is no state.
+#[derive(Clone, Copy, Debug, PartialEq, Eq)]
+pub enum BadState {
+    /// It has more bytes than a state's text.
+    TooLong,
+    /// Its first line names another version.
+    OtherVersion,
+    /// The first section that doesn't fit, from 0 to 5.
+    Shape(u8),
+}
 
 /// How a run ends.
 #[derive(Clone, Copy, Debug, PartialEq, Eq)]
@@ -18,6 +30,8 @@ pub enum Report {
     Usage,
     ReadFault,
     WriteFault,
+    SlotFault,
+    StateBad(BadState),
     Memory,
 }
 
@@ -32,6 +46,8 @@ impl Report {
             Report::Usage => Status::Usage,
             Report::ReadFault => Status::ReadFault,
             Report::WriteFault => Status::WriteFault,
+            Report::SlotFault => Status::SlotFault,
+            Report::StateBad(_) => Status::StateBad,
             Report::Memory => Status::Memory,
         }
     }
@@ -85,6 +101,18 @@ impl From<PullFault> for Report {
             PullFault::Refused(why) => Report::Refused(why),
             PullFault::Read => Report::ReadFault,
             PullFault::Memory => Report::Memory,
+        }
+    }
+}
+
+impl From<StateFault> for Report {
+    ghost from_gives = { λ fault e. e ≡ state_report fault };
+
+    fn from(fault: StateFault) -> Report {
+        match fault {
+            StateFault::StateVersion => Report::StateBad(BadState::OtherVersion),
+            StateFault::StateShape(section) => Report::StateBad(BadState::Shape(section)),
+            StateFault::Memory => Report::Memory,
         }
     }
 }

@@ -1,6 +1,6 @@
 // The words of a command line.
 ghost use Rattle.std.specs.Prelude.{◌≡◌, ◌++◌, ◌∷◌, [], List, ℕ, OnOk, OnErr, option_map};
-ghost use Rattle.history_model.specs.Command.{command_of};
+ghost use Rattle.saved_model.specs.Command.{command_of};
 ghost use Rattle.bridge_cli.specs.Status.{command_value};
 
 use bridge_text::{Bytes, NoMemory};
@@ -22,6 +22,12 @@ pub enum Command {
     PullHg,
     /// Take a stream into the state, and write the bundle of its changesets.
     PullGit,
+    /// Write the bundle of the whole history.
+    DumpHg,
+    /// Write the stream of the whole history.
+    DumpGit,
+    /// Write the ids of each commit and its changeset.
+    Map,
 }
 
 /// The words of a command line, after the program's name.
@@ -90,6 +96,15 @@ fn command_named(word: &[u8]) -> Option<Command>
     }
     if b"pull-git".as_slice() == word {
         return Some(Command::PullGit);
+    }
+    if b"dump-hg".as_slice() == word {
+        return Some(Command::DumpHg);
+    }
+    if b"dump-git".as_slice() == word {
+        return Some(Command::DumpGit);
+    }
+    if b"map".as_slice() == word {
+        return Some(Command::Map);
     }
     None
 }

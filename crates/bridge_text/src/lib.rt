@@ -29,8 +29,8 @@ pub use id_set::IdSet;
 pub use kind::{Added, Kind};
 pub use laws::{decimal_laws, escape_laws, hex_laws, node_laws};
 pub use limits::{
-    COMMIT_LIMIT, COMPONENT_LIMIT, INPUT_LIMIT, PARENT_LIMIT, PATH_LIMIT, ROWS_LIMIT, SUM_LIMIT,
-    TEXT_LIMIT,
+    CHANGESET_LIMIT, COMMIT_LIMIT, COMPONENT_LIMIT, DUMP_LIMIT, INPUT_LIMIT, LINK_LIMIT,
+    PARENT_LIMIT, PATH_LIMIT, ROWS_LIMIT, SLOT_LIMIT, SUM_LIMIT, TEXT_LIMIT,
 };
 pub use memory::NoMemory;
 pub use path::{fit_name, fit_path};

@@ -23,3 +23,15 @@ pub const PATH_LIMIT: usize = 4096;
 
 /// The components of a path.
 pub const COMPONENT_LIMIT: usize = 256;
+
+/// The bytes of a saved state's text: 2 GiB less one byte.
+pub const SLOT_LIMIT: usize = 0x7FFF_FFFF;
+
+/// The bytes of the bundle and of the stream that a saved state stands for: 512 MiB each, so that either may be pulled again.
+pub const DUMP_LIMIT: usize = 536_870_912;
+
+/// The changesets of a saved state.
+pub const CHANGESET_LIMIT: usize = 1_000_000;
+
+/// The links of a block: a commit of `PARENT_LIMIT` parents has two fewer.
+pub const LINK_LIMIT: u8 = 62;

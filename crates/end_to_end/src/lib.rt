@@ -12,6 +12,8 @@ mod pulls;
 #[cfg(test)]
 mod run_over;
 #[cfg(test)]
+mod saved;
+#[cfg(test)]
 mod statuses;
 #[cfg(test)]
 mod streams;

@@ -7,8 +7,8 @@ const PULL_HG: &[&[u8]] = &[b"pull-hg"];
 
 const PULL_GIT: &[&[u8]] = &[b"pull-git"];
 
-// The objects of the commit of `ONE_CHANGESET`.
-const ONE_COMMIT: &[u8] =
+/// The objects of the commit of `ONE_CHANGESET`.
+pub const ONE_COMMIT: &[u8] =
     b"ce013625030ba8dba906f756967f9e9ca394464a blob 6\nhello\n\n0976950c1fdbcb52435a433913017b\
     f044b3a58f tree 29\n100644 a\0\xce\x016%\x03\x0b\xa8\xdb\xa9\x06\xf7V\x96\x7f\x9e\x9c\
     \xa3\x94FJ\nfb8491d27293299d600326567e91d35289f99b8d commit 108\ntree 0976950c1fdbcb5243\

@@ -21,10 +21,13 @@ pub struct Outside<'a> {
     pub output_fails: &'a [u64],
     /// How many bytes the output takes in all.
     pub room: usize,
+    /// What the slot holds, and its calls that fail.
+    pub held: Option<&'a [u8]>,
+    pub slot_fails: &'a [u64],
 }
 
 impl<'a> Outside<'a> {
-    /// An input that comes in pieces, and an output with room.
+    /// An input that comes in pieces, an output with room, and a slot that holds nothing.
     pub fn of(input: &'a [u8], cut: usize) -> Outside<'a> {
         Outside {
             input,
@@ -32,16 +35,27 @@ impl<'a> Outside<'a> {
             input_fails: &[],
             output_fails: &[],
             room: ROOM,
+            held: None,
+            slot_fails: &[],
+        }
+    }
+
+    /// The same over a slot that holds a text.
+    pub fn over(input: &'a [u8], held: &'a [u8]) -> Outside<'a> {
+        Outside {
+            held: Some(held),
+            ..Outside::of(input, 0)
         }
     }
 }
 
-/// What a run did: its status, its output and its line on the errors.
+/// What a run did: its status, its output and its line on the errors, and what the slot holds then.
 #[derive(Drop)]
 pub struct Outcome {
     pub status: Status,
     pub output: Vec<u8>,
     pub errors: Vec<u8>,
+    pub held: Option<Vec<u8>>,
 }
 
 /// The words of a command line.
@@ -78,18 +92,36 @@ fn sink_of(alloc: Global, room: usize, cut: usize, fails: &[u64]) -> Result<MemS
     Ok(MemSink::new(bytes, room, cut, fails))
 }
 
+// A slot that holds this, some calls of which fail.
+fn slot_of(alloc: Global, outside: &Outside<'_>) -> Result<MemSlot, AllocError> {
+    let held = copy_of(alloc, outside.held)?;
+    let room = Vec::with_capacity(alloc, ROOM)?;
+    let fails = outside.slot_fails.to_vec(alloc)?;
+    Ok(MemSlot::new(held, room, ROOM, fails))
+}
+
+fn copy_of(alloc: Global, bytes: Option<&[u8]>) -> Result<Option<Vec<u8>>, AllocError> {
+    match bytes {
+        Some(bytes) => Ok(Some(bytes.to_vec(alloc)?)),
+        None => Ok(None),
+    }
+}
+
 fn outcome_of(
     alloc: Global,
     status: Status,
     output: &MemSink,
     errors: &MemSink,
+    slot: &MemSlot,
 ) -> Result<Outcome, AllocError> {
     let output = output.bytes().to_vec(alloc)?;
     let errors = errors.bytes().to_vec(alloc)?;
+    let held = copy_of(alloc, slot.bytes())?;
     Ok(Outcome {
         status,
         output,
         errors,
+        held,
     })
 }
 
@@ -107,7 +139,7 @@ fn counted<L: Ledger>(
     let mut input = input_of(alloc, &outside)?;
     let mut output = sink_of(alloc, outside.room, outside.cut, outside.output_fails)?;
     let mut errors = sink_of(alloc, ROOM, outside.cut, &[])?;
-    let mut slot = MemSlot::new(None, Vec::new(alloc), 0, Vec::new(alloc));
+    let mut slot = slot_of(alloc, &outside)?;
     let status = run(
         alloc,
         words,
@@ -117,5 +149,5 @@ fn counted<L: Ledger>(
         &mut slot,
         &mut steps,
     );
-    outcome_of(alloc, status, &output, &errors)
+    outcome_of(alloc, status, &output, &errors, &slot)
 }

@@ -1,6 +1,7 @@
 // A bundle, read into a store.
 ghost use Rattle.std.specs.Prelude.{◌≡◌, IfSome, IfOk, IfErr, OnOk};
 ghost use Rattle.std.specs.Io.KnownBytes.{IsAtEnd};
+ghost use Rattle.text_model.specs.Text.{IsBytes};
 ghost use Rattle.hg_bundle.specs.Arrivals.{Reads, AreArrivals};
 ghost use Rattle.hg_bundle.specs.Brought.{BringsBundle, TellsUnreadable};
 ghost use Rattle.hg_bundle.specs.Faults.{AnswerCause, IsReadFault};
@@ -39,6 +40,7 @@ pub fn read_into<S: Source>(
     // what was listed was added, and marked as fresh or not, also where the source doesn't tell its bytes
     ensures grown { IfOk result (λ read. AreArrivals store read.0 read.1) }
     ensures end { OnOk result (IsAtEnd (S.left src.new)) }
+    ensures bytes { OnOk result (IfSome (S.left src.old) IsBytes) }
     ensures cause { AnswerCause (S.faults src.old) (S.faults src.new) result }
 {
     let mut reader = ChunkReader::new();

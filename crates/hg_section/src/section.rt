@@ -7,12 +7,9 @@ ghost use Rattle.hg_section.specs.Section.{HoldsChangesets};
 use crate::nodes::changeset_nodes;
 use crate::read::read_bundle;
 use crate::written::is_written;
-use bridge_text::{IdList, NoMemory};
+use bridge_text::{CHANGESET_LIMIT, IdList, NoMemory};
 use hg_store::HgStore;
 use std::alloc::Global;
-
-/// How many changesets a saved state has at most.
-const CHANGESET_LIMIT: usize = 1_000_000;
 
 /// The changesets of a saved state.
 #[derive(Drop)]

@@ -73,7 +73,7 @@ slot-views None s is = subst (λ (t : State). HasViews (kept_of t)) (sym is) tt
 slot-views (Some text) s is = has-views s is.0
 
 -- a slot holds one state
-slot-one : (held : Option Bytes) (s t : State) → SlotHolds held s → SlotHolds held t → s ≡ t
+pub slot-one : (held : Option Bytes) (s t : State) → SlotHolds held s → SlotHolds held t → s ≡ t
 slot-one None s t h k = h ∙ sym k
 slot-one (Some text) s t h k = one_text text s t h k
 

@@ -1,3 +1,1 @@
 pub mod Pull
-pub mod Command
-pub mod Run

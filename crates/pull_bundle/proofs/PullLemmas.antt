@@ -7,7 +7,7 @@ use Rattle.text_model.specs.Text.{Bytes}
 use Rattle.text_model.specs.Id.{Id}
 use Rattle.text_model.specs.Fault.{Refusal}
 use Rattle.text_model.proofs.EachLemmas.{Each-weaker}
-use Rattle.text_model.proofs.Elements.{each_from, each_in, flat_map_append, map_append, take_front, drop_front}
+use Rattle.text_model.proofs.Elements.{each_from, each_in, in_left, flat_map_append, map_append, take_front, drop_front}
 use Rattle.tree_shape.proofs.Elements.{in-append}
 use Rattle.hg_model.specs.Revision.{Changesets, Revision, knows, known_after_all}
 use Rattle.hg_model.specs.Reading.{Arrival, bundle_reading}
@@ -262,6 +262,7 @@ module _ (s : StateParts) (t next : Taking) (list : List listed.Arrival) (n : �
       came = came;
       arrivals = r.are;
       revisions = same-known s t next list came r blocks has took;
+      objects = λ o i. took.takes.objects.1 o (in_left o (t.state).known.git _ (subst (λ (l : List Object). In o l) (sym r.git) i));
       new = took.takes.new;
       next = after;
       first_new = first;

@@ -1,6 +1,7 @@
 // The pull of a bundle.
 ghost use Rattle.std.specs.Prelude.{◌≡◌, ◌≤◌, ◌+◌, ◌*◌, List, length, IfSome, IfOk, IfErr, OnOk, OnErr};
 ghost use Rattle.std.specs.Io.KnownBytes.{IsAtEnd};
+ghost use Rattle.text_model.specs.Text.{IsBytes};
 ghost use Rattle.pair_model.specs.Block.{Block};
 ghost use Rattle.pull_outcome.specs.Names.{IsOfPullHg};
 ghost use Rattle.pull_outcome.specs.Pulls.{GoesOnHg, PulledHg, RefusesHg};
@@ -38,6 +39,7 @@ pub fn pull_hg<S: Source, L: Ledger>(
         (blocks : List Block) → HasAllBlocks state blocks → RefusesHg state blocks bytes fault)) }
     ensures names { IfErr result IsOfPullHg }
     ensures end { OnOk result (IsAtEnd (S.left src.new)) }
+    ensures bytes { OnOk result (IfSome (S.left src.old) IsBytes) }
     ensures cause { AnswerCause (S.faults src.old) (S.faults src.new) result }
     ensures least { steps.old ≤ steps.new }
     ensures steps { IfOk result (λ pulled. steps.new + 18 * pulled.first_new ≤ steps.old + 18 * length (pulled.state).blocks) }

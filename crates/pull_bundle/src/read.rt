@@ -1,6 +1,7 @@
 // A bundle is read into the store of a state.
 ghost use Rattle.std.specs.Prelude.{◌≡◌, List, Err, Ok, IfSome, IfOk, IfErr, OnOk};
 ghost use Rattle.std.specs.Io.KnownBytes.{IsAtEnd};
+ghost use Rattle.text_model.specs.Text.{IsBytes};
 ghost use Rattle.hg_model.specs.Reading as model;
 ghost use Rattle.hg_model.specs.Reading.{bundle_reading};
 ghost use Rattle.pull_outcome.specs.Names.{IsOfPullHg};
@@ -23,6 +24,7 @@ pub fn read_bundle<S: Source>(
     ensures refused { IfErr result (λ fault. IfSome (S.left src.old) (λ bytes. IsRefusedBy (λ why. bundle_reading state.known.hg bytes ≡ Err why) fault)) }
     ensures names { IfErr result IsOfPullHg }
     ensures end { OnOk result (IsAtEnd (S.left src.new)) }
+    ensures bytes { OnOk result (IfSome (S.left src.old) IsBytes) }
     ensures cause { AnswerCause (S.faults src.old) (S.faults src.new) result }
 {
     let alloc = state.alloc;

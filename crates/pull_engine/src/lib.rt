@@ -1,6 +1,16 @@
-//! Pulls of both sides: a bundle or a stream is taken into a state, and what it brings to the other side is made.
+//! Pulls over a saved state: a bundle or a stream is taken into it with its tags and within its limits, and what it brings to the other side is
+//! made.
 #![tactic(auto)]
 
-pub use pull_bundle::pull_hg;
-pub use pull_outcome::{Fault, GitPulled, HgPulled, PullFault};
-pub use pull_stream::pull_git;
+mod git;
+mod hg;
+mod laws;
+mod limit;
+mod pulled;
+mod tags;
+
+pub use git::pull_git;
+pub use hg::pull_hg;
+pub use laws::empty_is_read;
+pub use pull_outcome::{Fault, PullFault};
+pub use pulled::Pulled;

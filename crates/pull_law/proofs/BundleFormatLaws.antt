@@ -10,39 +10,40 @@ use Rattle.hg_model.specs.Revision.{known_after_all}
 use Rattle.hg_bundle.specs.Arrivals.{arrival_of, revisions_of}
 use Rattle.hg_bundle.proofs.Groups.{brings_bundle}
 use Rattle.hg_bundle.proofs.Unreadable.{bundle_read}
-use Rattle.history_model.specs.Command.{ListHg, CheckHg, Written, Refused, written_unless, written_of, revision_counts, ComesTo}
+use Rattle.state_model.specs.Kept.{State}
+use Rattle.saved_model.specs.Command.{ListHg, CheckHg, Written, Refused, written_unless, written_of, revision_counts, ComesTo}
 use Rattle.pull_law.specs.BundleFormat.{CountsBundle, IsNoSoundBundle}
 use Rattle.pull_law.proofs.Bundle.{one_read}
 use Rattle.pull_law.proofs.Counts.{counts-entries}
 
-same_output : (a b : Bytes) → Written a ≡ Written b → b ≡ a
-same_output a b e = cc
+same_output : (a b : Bytes) (x y : Option State) → Written a x ≡ Written b y → b ≡ a
+same_output a b x y e = cc
 
-not_both : (output : Bytes) (why : Refusal) → Written output ≡ Refused why → ⊥
-not_both output why e = cc
+not_both : (output : Bytes) (saved : Option State) (why : Refusal) → Written output saved ≡ Refused why → ⊥
+not_both output saved why e = cc
 
-pub listed : (bytes output : Bytes) → IsBytes bytes → ComesTo ListHg bytes (Written output) → ListsBundle bytes [] output
-listed bytes output are e = by (listing_fault bytes) refl
+pub listed : (s : State) (bytes output : Bytes) (saved : Option State) → IsBytes bytes → ComesTo ListHg s bytes (Written output saved) → ListsBundle bytes [] output
+listed s bytes output saved are e = by (listing_fault bytes) refl
   where
     lines : Bytes
     lines = listing (bundle_framing bytes).items
 
     by : (bad : Option Refusal) → listing_fault bytes ≡ bad → ListsBundle bytes [] output
-    by None is = lists_bundle bytes [] output are is (same_output lines output (sym (ap (λ (x : Option Refusal). written_unless x lines) is) ∙ e))
-    by (Some why) is = absurd (not_both output why (sym e ∙ ap (λ (x : Option Refusal). written_unless x lines) is))
+    by None is = lists_bundle bytes [] output are is (same_output lines output None saved (sym (ap (λ (x : Option Refusal). written_unless x lines) is) ∙ e))
+    by (Some why) is = absurd (not_both output saved why (sym e ∙ ap (λ (x : Option Refusal). written_unless x lines) is))
 
-pub unlisted : (bytes : Bytes) (why : Refusal) → ComesTo ListHg bytes (Refused why) → IsNoBundle bytes
-unlisted bytes why e = by (listing_fault bytes) refl
+pub unlisted : (s : State) (bytes : Bytes) (why : Refusal) → ComesTo ListHg s bytes (Refused why) → IsNoBundle bytes
+unlisted s bytes why e = by (listing_fault bytes) refl
   where
     lines : Bytes
     lines = listing (bundle_framing bytes).items
 
     by : (bad : Option Refusal) → listing_fault bytes ≡ bad → IsNoBundle bytes
-    by None is = absurd (not_both lines why (sym (ap (λ (x : Option Refusal). written_unless x lines) is) ∙ e))
+    by None is = absurd (not_both lines None why (sym (ap (λ (x : Option Refusal). written_unless x lines) is) ∙ e))
     by (Some other) is = refused_is_none bytes other is
 
-pub checked : (bytes output : Bytes) → IsBytes bytes → ComesTo CheckHg bytes (Written output) → CountsBundle bytes output
-checked bytes output are e = by (bundle_reading [] bytes) refl
+pub checked : (s : State) (bytes output : Bytes) (saved : Option State) → IsBytes bytes → ComesTo CheckHg s bytes (Written output saved) → CountsBundle bytes output
+checked s bytes output saved are e = by (bundle_reading [] bytes) refl
   where
     by : (read : Result (List Arrival) Refusal) → bundle_reading [] bytes ≡ read → CountsBundle bytes output
     by (Ok arrivals) is =
@@ -52,12 +53,12 @@ checked bytes output are e = by (bundle_reading [] bytes) refl
         record {
           bundle = brings.bundle;
           is = record { is = brings.is; within = brings.within; revisions = brings.revisions; are = brings.are };
-          counts = same_output (revision_counts arrivals) output (sym (ap (written_of revision_counts) is) ∙ e)
+          counts = same_output (revision_counts arrivals) output None saved (sym (ap (written_of revision_counts) is) ∙ e)
               ∙ counts-entries [] brings.bundle brings.revisions arrivals brings.are (ap revisions_of same ∙ again.2);
         }
-    by (Err why) is = absurd (not_both output why (sym e ∙ ap (written_of revision_counts) is))
+    by (Err why) is = absurd (not_both output saved why (sym e ∙ ap (written_of revision_counts) is))
 
-pub unchecked : (bytes : Bytes) (why : Refusal) → ComesTo CheckHg bytes (Refused why) → IsNoSoundBundle bytes
-unchecked bytes why e b sound =
+pub unchecked : (s : State) (bytes : Bytes) (why : Refusal) → ComesTo CheckHg s bytes (Refused why) → IsNoSoundBundle bytes
+unchecked s bytes why e b sound =
     let read = bundle_read [] bytes b sound.revisions sound.is sound.within sound.are in
-    not_both (revision_counts read.0) why (sym (ap (written_of revision_counts) read.1) ∙ e)
+    not_both (revision_counts read.0) None why (sym (ap (written_of revision_counts) read.1) ∙ e)

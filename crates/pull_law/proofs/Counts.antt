@@ -8,7 +8,7 @@ use Rattle.hg_model.specs.Revision.{Group, Changesets, Manifests, FilesAt, Revis
 use Rattle.hg_model.specs.Reading.{Arrival, AreTextsFrom, AreTextsOf, revision_by}
 use Rattle.hg_bundle.specs.Arrivals.{revisions_of}
 use Rattle.hg_bundle.specs.Brought.{AreOfGroup, AreOfFiles, AreOfBundle, revisions_with}
-use Rattle.history_model.specs.Command.{count_in, is_manifests, is_files, revision_counts}
+use Rattle.saved_model.specs.Command.{count_in, is_manifests, is_files, revision_counts}
 use Rattle.history_model.specs.Pull.{is_changesets}
 use Rattle.pull_law.specs.BundleFormat.{file_entries, entry_counts}
 

@@ -4,7 +4,7 @@ use Rattle.text_model.specs.Text.{Bytes}
 use Rattle.hg_model.specs.Revision.{Revision}
 use Rattle.hg_model.specs.Bundle.{FileGroup, Bundle, IsBundle, IsWithinLimits}
 use Rattle.hg_bundle.specs.Brought.{AreOfBundle}
-use Rattle.history_model.specs.Command.{count_line}
+use Rattle.saved_model.specs.Command.{count_line}
 
 -- how many entries the groups of files have
 abbrev pub file_entries : List FileGroup → ℕ

@@ -3,7 +3,7 @@ use Rattle.std.specs.Prelude.{◌≡◌, List, [], map}
 use Rattle.text_model.specs.Text.{Bytes}
 use Rattle.git_model.specs.Object.{Object}
 use Rattle.git_model.specs.Stream.{Placed, IsFitStream, IsChecked, stream_listing}
-use Rattle.history_model.specs.Command.{object_counts}
+use Rattle.saved_model.specs.Command.{object_counts}
 use Rattle.git_batch.specs.Arrivals.{AddsAll}
 
 -- the bytes are a stream within the limits, and the lines are those of its objects

@@ -1,9 +1,11 @@
 -- What pulls come to.
 use Rattle.std.specs.Prelude.{◌≡◌, ◌++◌, List, length, map}
+use Rattle.text_model.specs.Lists.{In}
 use Rattle.text_model.specs.Text.{Bytes}
 use Rattle.hg_model.specs.Revision.{known_after_all}
 use Rattle.hg_model.specs.Reading.{Arrival}
 use Rattle.hg_bundle.specs.Arrivals as listed
+use Rattle.git_model.specs.Object.{Object}
 use Rattle.git_model.specs.Stream.{Placed}
 use Rattle.git_batch.specs.Arrivals as placed
 use Rattle.view_model.specs.Dump.{git_increment, hg_increment, revisions_in}
@@ -25,10 +27,12 @@ pub record PulledHg (s : State) (blocks : List Block) (bundle : Bytes) (pulled :
   pub next : HasAllBlocks pulled.state (blocks ++ makes.new)
   pub first_new : pulled.first_new ≡ length blocks
 
--- the same of a stream
+-- the same of a stream; its objects are known then, and what the new blocks refer to
 pub record PulledGit (s : State) (blocks : List Block) (stream : Bytes) (pulled : GitPulled) : Type 0 where
   pub makes : PullGitMakes (state_value s blocks) stream pulled.made
   pub came : pulled.arrivals ≡ map placed.arrival_of makes.came
+  pub revisions : (pulled.state).known.hg ≡ known_after_all s.known.hg (revisions_in (changesets_in makes.new))
+  pub objects : (pulled.state).known.git ≡ objects_with (state_value s blocks) makes.came
   pub next : HasAllBlocks pulled.state (blocks ++ makes.new)
   pub first_new : pulled.first_new ≡ length blocks
 
@@ -40,12 +44,13 @@ RefusesGit s blocks stream fault = IsRefusedBy (PullGitRefuses (state_value s bl
 
 -- ---- of any input
 
--- The next state knows the revisions of before and those that came, and has new blocks behind the old ones, and the tags and names of before; the
--- stream of the new commits is written.
+-- The next state knows the revisions of before and those that came, has each object of before, new blocks behind the old ones, and the tags and
+-- names of before; the stream of the new commits is written.
 pub record GoesOnHg (s : State) (blocks : List Block) (pulled : HgPulled) : Type 0 where
   pub came : List Arrival
   pub arrivals : pulled.arrivals ≡ map listed.arrival_of came
   pub revisions : (pulled.state).known.hg ≡ known_with (state_value s blocks) came
+  pub objects : (o : Object) → In o s.known.git → In o (pulled.state).known.git
   pub new : List Block
   pub next : HasAllBlocks pulled.state (blocks ++ new)
   pub first_new : pulled.first_new ≡ length blocks

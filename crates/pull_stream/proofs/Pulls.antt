@@ -139,6 +139,8 @@ module _ (s : StateParts) (blocks : List Block) (all : HasAllBlocks s blocks) (m
         is = made-is;
       };
       came = arrived ∙ (o.ready).listed;
+      revisions = known-is;
+      objects = taken.objects ∙ (o.ready).objects;
       next = taken.state;
       first_new = count;
     }

@@ -1,5 +1,9 @@
-ghost use Rattle.std.specs.Prelude.{◌≤◌, ◌+◌, ◌*◌, List, length, IfSome, IfOk, IfErr, OnOk, OnErr};
+ghost use Rattle.std.specs.Prelude.{◌≡◌, ◌≤◌, ◌+◌, ◌*◌, List, length, map, IfSome, IfOk, IfErr, OnOk, OnErr};
 ghost use Rattle.std.specs.Io.KnownBytes.{IsAtEnd};
+ghost use Rattle.text_model.specs.Lists.{Each};
+ghost use Rattle.git_model.specs.Stream.{Placed};
+ghost use Rattle.git_batch.specs.Arrivals.{arrival_of};
+ghost use Rattle.tree_shape.specs.Laws.{IsKnown};
 ghost use Rattle.pair_model.specs.Block.{Block};
 ghost use Rattle.pull_outcome.specs.Names.{IsOfPullGit};
 ghost use Rattle.pull_outcome.specs.Pulls.{PulledGit, GoesOnGit, RefusesGit};
@@ -33,6 +37,7 @@ pub fn pull_git<S: Source, L: Ledger>(
     ensures refused { IfErr result (λ fault. IfSome (S.left src.old) (λ bytes.
         (blocks : List Block) → HasAllBlocks state blocks → RefusesGit state blocks bytes fault)) }
     ensures next { IfOk result (λ pulled. (blocks : List Block) → HasAllBlocks state blocks → GoesOnGit state blocks pulled) }
+    ensures held { IfOk result (λ pulled. (came : List Placed) × (pulled.arrivals ≡ map arrival_of came) × Each (λ o. IsKnown (pulled.state).known.git o.object) came) }
     ensures names { IfErr result IsOfPullGit }
     ensures end { OnOk result (IsAtEnd (S.left src.new)) }
     ensures cause { AnswerCause (S.faults src.old) (S.faults src.new) result }

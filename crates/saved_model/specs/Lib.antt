@@ -1,3 +1,5 @@
 pub mod Step
 pub mod History
+pub mod Run
+pub mod Command
 pub mod Theorem

@@ -67,6 +67,9 @@ returns-in_err-finish-clause-reads g c =
 pub returns-clause-grown : goal.returns-clause-grown
 returns-clause-grown g c = c.chunks.invariant.grown
 
+pub returns-clause-bytes : goal.returns-clause-bytes
+returns-clause-bytes g c = read_ends _ _ c.chunks.invariant.bytes c.in_ok-finish.ensures.end.0
+
 pub returns-clause-bundle : goal.returns-clause-bundle
 returns-clause-bundle g c =
     brings_told c.args.store _ _ _ (read_ends _ _ c.chunks.invariant.bytes c.in_ok-finish.ensures.end.0)

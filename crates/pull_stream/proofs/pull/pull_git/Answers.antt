@@ -1,8 +1,11 @@
 use Rattle.std.proofs.Common.{◌≡◌, ◌≤◌, ◌++◌, List, length, Ok, Err, inl, refl, sym, ap, subst, ◌∙◌}
 use Rattle.std.proofs.lemmas.Result.{err_from_is_err_and}
+use Rattle.text_model.specs.Lists.{Each}
 use Rattle.text_model.specs.Text.{Bytes}
 use Rattle.text_model.specs.Id.{Id}
-use Rattle.git_model.specs.Stream.{stream_reading}
+use Rattle.git_model.specs.Object.{Object}
+use Rattle.git_model.specs.Stream.{Placed, stream_reading}
+use Rattle.tree_shape.specs.Laws.{IsKnown}
 use Rattle.view_model.specs.Held.{AreChangesetsHeld}
 use Rattle.pair_model.specs.Block.{Block, changesets_in}
 use Rattle.history_model.specs.Pull.{IsCommitRefusal}
@@ -127,6 +130,14 @@ returns-clause-next g c =
     let held = subst (λ (ids : List Id). AreChangesetsHeld p.state.known.hg ids (changesets_in (blocks ++ t.0))) (sym c.as_list-list.ensures) (held-nodes p.state (blocks ++ t.0) t.1.state.state) in
     let made = c.keep.ensures ∙ c.in_ok-made.ensures (changesets_in (blocks ++ t.0)) held in
     goes-on s blocks all c.in_ok-parts.parts c.in_ok-parts.came c.in_ok-ordered.ordered r.0 o p refl t.0 t.1 count c.len-saved.result saved made c.in_ok-parts.ensures.tags c.in_ok-parts.ensures.names)
+
+pub returns-clause-held : goal.returns-clause-held
+returns-clause-held g c =
+    let m = state_value c.into_parts-parts.result c.into_parts-parts.ensures.history.0 in
+    let r = c.in_ok-parts.ensures.ready c.into_parts-parts.ensures.history.0 c.into_parts-parts.ensures.history.1 in
+    let t = c.in_ok-parts-2.ensures.ok m r.0 (c.in_ok-ordered.ensures.order m r.0 r.1) in
+    rw (c.from_parts.ensures)
+    (r.0, r.1.listed, subst (λ (os : List Object). Each (λ (o : Placed). IsKnown os o.object) r.0) (sym t.1.objects) r.1.held)
 
 pub from_parts-requires : goal.from_parts-requires
 from_parts-requires g c =

@@ -1,0 +1,58 @@
+use Rattle.std.proofs.Common.{refl}
+use Rattle.std.proofs.lemmas.Result.{err_from_is_err_and}
+use Rattle.saved_model.specs.Command.{ListHg, CheckHg, ListGit, CheckGit}
+use Rattle.bridge_cli.proofs.AloneLemmas.{alone-makes, alone-ends}
+use Rattle.bridge_cli.proofs.output.work_of.Goals as goal
+
+pub returns-in_err-bundle_lines-in-ListHg-clause-makes : goal.returns-in_err-bundle_lines-in-ListHg-clause-makes
+returns-in_err-bundle_lines-in-ListHg-clause-makes g c =
+    let p = err_from_is_err_and c.from_residual.result c.from_residual.ensures.1 in
+    let end = alone-ends ListHg refl refl (g.I.Source.left c.args.input.now) (g.K.Slot.held c.args.slot.now) c.in_err-bundle_lines-in-ListHg.field-0.0 c.in_err-bundle_lines-in-ListHg.ensures.makes in
+    rw (c.in-ListHg.is, p.1, p.2) end
+
+pub returns-in_ok-bundle_lines-in-ListHg-clause-makes : goal.returns-in_ok-bundle_lines-in-ListHg-clause-makes
+returns-in_ok-bundle_lines-in-ListHg-clause-makes g c =
+    let makes = alone-makes ListHg refl refl (g.I.Source.left c.args.input.now) (g.K.Slot.held c.args.slot.now) _ _ c.of.result c.of.ensures.output c.of.ensures.text c.in_ok-bundle_lines-in-ListHg.ensures.makes in
+    rw c.in-ListHg.is makes
+
+pub returns-in_err-bundle_counts-in-CheckHg-clause-makes : goal.returns-in_err-bundle_counts-in-CheckHg-clause-makes
+returns-in_err-bundle_counts-in-CheckHg-clause-makes g c =
+    let p = err_from_is_err_and c.from_residual-in_err-bundle_counts-in-CheckHg.result c.from_residual-in_err-bundle_counts-in-CheckHg.ensures.1 in
+    let end = alone-ends CheckHg refl refl (g.I.Source.left c.args.input.now) (g.K.Slot.held c.args.slot.now) c.in_err-bundle_counts-in-CheckHg.field-0.0 c.in_err-bundle_counts-in-CheckHg.ensures.makes in
+    rw (c.in-CheckHg.is, p.1, p.2) end
+
+pub returns-in_ok-bundle_counts-in-CheckHg-clause-makes : goal.returns-in_ok-bundle_counts-in-CheckHg-clause-makes
+returns-in_ok-bundle_counts-in-CheckHg-clause-makes g c =
+    let makes = alone-makes CheckHg refl refl (g.I.Source.left c.args.input.now) (g.K.Slot.held c.args.slot.now) _ _ c.of-in-CheckHg.result c.of-in-CheckHg.ensures.output c.of-in-CheckHg.ensures.text c.in_ok-bundle_counts-in-CheckHg.ensures.makes in
+    rw c.in-CheckHg.is makes
+
+pub returns-in_err-stream_lines-in-ListGit-clause-makes : goal.returns-in_err-stream_lines-in-ListGit-clause-makes
+returns-in_err-stream_lines-in-ListGit-clause-makes g c =
+    let p = err_from_is_err_and c.from_residual-in_err-stream_lines-in-ListGit.result c.from_residual-in_err-stream_lines-in-ListGit.ensures.1 in
+    let end = alone-ends ListGit refl refl (g.I.Source.left c.args.input.now) (g.K.Slot.held c.args.slot.now) c.in_err-stream_lines-in-ListGit.field-0.0 c.in_err-stream_lines-in-ListGit.ensures.makes in
+    rw (c.in-ListGit.is, p.1, p.2) end
+
+pub returns-in_ok-stream_lines-in-ListGit-clause-makes : goal.returns-in_ok-stream_lines-in-ListGit-clause-makes
+returns-in_ok-stream_lines-in-ListGit-clause-makes g c =
+    let makes = alone-makes ListGit refl refl (g.I.Source.left c.args.input.now) (g.K.Slot.held c.args.slot.now) _ _ c.of-in-ListGit.result c.of-in-ListGit.ensures.output c.of-in-ListGit.ensures.text c.in_ok-stream_lines-in-ListGit.ensures.makes in
+    rw c.in-ListGit.is makes
+
+pub returns-in_err-stream_counts-in-CheckGit-clause-makes : goal.returns-in_err-stream_counts-in-CheckGit-clause-makes
+returns-in_err-stream_counts-in-CheckGit-clause-makes g c =
+    let p = err_from_is_err_and c.from_residual-in_err-stream_counts-in-CheckGit.result c.from_residual-in_err-stream_counts-in-CheckGit.ensures.1 in
+    let end = alone-ends CheckGit refl refl (g.I.Source.left c.args.input.now) (g.K.Slot.held c.args.slot.now) c.in_err-stream_counts-in-CheckGit.field-0.0 c.in_err-stream_counts-in-CheckGit.ensures.makes in
+    rw (c.in-CheckGit.is, p.1, p.2) end
+
+pub returns-in_ok-stream_counts-in-CheckGit-clause-makes : goal.returns-in_ok-stream_counts-in-CheckGit-clause-makes
+returns-in_ok-stream_counts-in-CheckGit-clause-makes g c =
+    let makes = alone-makes CheckGit refl refl (g.I.Source.left c.args.input.now) (g.K.Slot.held c.args.slot.now) _ _ c.of-in-CheckGit.result c.of-in-CheckGit.ensures.output c.of-in-CheckGit.ensures.text c.in_ok-stream_counts-in-CheckGit.ensures.makes in
+    rw c.in-CheckGit.is makes
+
+pub returns-in-DumpHg-clause-input : goal.returns-in-DumpHg-clause-input
+returns-in-DumpHg-clause-input g c = c.bundle_of_history.ensures.input (g.I.Source.faults c.args.input.now)
+
+pub returns-in-DumpGit-clause-input : goal.returns-in-DumpGit-clause-input
+returns-in-DumpGit-clause-input g c = c.stream_of_history.ensures.input (g.I.Source.faults c.args.input.now)
+
+pub returns-in-Map-clause-input : goal.returns-in-Map-clause-input
+returns-in-Map-clause-input g c = c.map_of_history.ensures.input (g.I.Source.faults c.args.input.now)

@@ -1,0 +1,28 @@
+use Rattle.std.proofs.Common.{refl}
+use Rattle.std.proofs.lemmas.Result.{err_from_is_err_and}
+use Rattle.bridge_cli.proofs.SavedLemmas.{dump-hg-makes}
+use Rattle.bridge_cli.proofs.saved.bundle_of_history.Goals as goal
+
+pub dump_hg-requires : goal.dump_hg-requires
+dump_hg-requires g c =
+    let f = c.in_ok-state.ensures.state in
+    record { stands = (f.0, (f.1).stands) }
+
+pub returns-in_err-dump_hg-clause-makes : goal.returns-in_err-dump_hg-clause-makes
+returns-in_err-dump_hg-clause-makes g c = λ input.
+    let p = err_from_is_err_and c.from_residual-in_err-dump_hg.result c.from_residual-in_err-dump_hg.ensures.1 in
+    rw (p.1, p.2) tt
+
+pub returns-in_err-dump_hg-clause-input : goal.returns-in_err-dump_hg-clause-input
+returns-in_err-dump_hg-clause-input g c = λ faults.
+    let p = err_from_is_err_and c.from_residual-in_err-dump_hg.result c.from_residual-in_err-dump_hg.ensures.1 in
+    rw (p.1, p.2) refl
+
+pub returns-in_err-dump_hg-clause-slot : goal.returns-in_err-dump_hg-clause-slot
+returns-in_err-dump_hg-clause-slot g c =
+    let p = err_from_is_err_and c.from_residual-in_err-dump_hg.result c.from_residual-in_err-dump_hg.ensures.1 in
+    rw (p.1, p.2) c.in_ok-state.ensures.cause
+
+pub returns-clause-makes : goal.returns-clause-makes
+returns-clause-makes g c = λ input.
+    dump-hg-makes (g.K.Slot.held c.args.slot.now) c.in_ok-state.state _ _ c.in_ok-state.ensures.state c.of.ensures.output c.of.ensures.text input c.in_ok-dump_hg.ensures

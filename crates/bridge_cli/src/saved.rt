@@ -1,0 +1,115 @@
+// The commands over a saved state.
+ghost use Rattle.std.specs.Prelude.{◌≡◌, ℕ, Option, IfOk};
+ghost use Rattle.text_model.specs.Text.{Bytes};
+ghost use Rattle.saved_model.specs.Command as model;
+ghost use Rattle.state_model.specs.Kept as saved;
+ghost use Rattle.state_model.specs.Saved.{IsState, IsStateText};
+ghost use Rattle.state_text.specs.Stands.{Stands};
+ghost use Rattle.bridge_cli.specs.Makes.{IsNextText, LeavesCount, LeavesSlotCount, Makes};
+ghost use Rattle.bridge_cli.specs.Steps.{StepsOf};
+
+use crate::fetch::fetch_state;
+use crate::report::Report;
+use crate::work::Work;
+use bridge_io::{Slot, Source, Steps};
+use bridge_text::NoMemory;
+use pair_state::State;
+use pull_engine::{Pulled, pull_git, pull_hg};
+use state_text::{dump_git, dump_hg, map_into, write_into};
+use std::alloc::Global;
+use std::sync::ledger::Ledger;
+
+/// The objects of the commits of a bundle's changesets, and the next state.
+pub fn commits_of_bundle<I: Source, K: Slot, L: Ledger>(
+    alloc: Global,
+    input: &mut I,
+    slot: &mut K,
+    steps: &mut Steps<L>,
+) -> Result<Work, Report>
+    ensures makes { Makes model.PullHg (I.left input.old) (I.left input.new) (K.held slot.old) result }
+    ensures input { LeavesCount (I.faults input.old) (I.faults input.new) result }
+    ensures held { K.held slot.new ≡ K.held slot.old }
+    ensures slot { LeavesSlotCount (K.faults slot.old) (K.faults slot.new) result }
+    ensures steps { StepsOf model.PullHg (I.left input.old) (K.held slot.old) steps.old steps.new }
+{
+    let state = fetch_state(alloc, slot)?;
+    let pulled = pull_hg(state, input, steps)?;
+    Ok(saved_work(pulled)?)
+}
+
+/// The bundle of the changesets of a stream's commits, and the next state.
+pub fn changesets_of_stream<I: Source, K: Slot, L: Ledger>(
+    alloc: Global,
+    input: &mut I,
+    slot: &mut K,
+    steps: &mut Steps<L>,
+) -> Result<Work, Report>
+    ensures makes { Makes model.PullGit (I.left input.old) (I.left input.new) (K.held slot.old) result }
+    ensures input { LeavesCount (I.faults input.old) (I.faults input.new) result }
+    ensures held { K.held slot.new ≡ K.held slot.old }
+    ensures slot { LeavesSlotCount (K.faults slot.old) (K.faults slot.new) result }
+    ensures steps { StepsOf model.PullGit (I.left input.old) (K.held slot.old) steps.old steps.new }
+{
+    let state = fetch_state(alloc, slot)?;
+    let pulled = pull_git(state, input, steps)?;
+    Ok(saved_work(pulled)?)
+}
+
+/// The bundle of the whole history.
+pub fn bundle_of_history<K: Slot>(alloc: Global, slot: &mut K) -> Result<Work, Report>
+    ensures makes { (input : Option Bytes) → Makes model.DumpHg input input (K.held slot.old) result }
+    ensures input { (faults : ℕ) → LeavesCount faults faults result }
+    ensures held { K.held slot.new ≡ K.held slot.old }
+    ensures slot { LeavesSlotCount (K.faults slot.old) (K.faults slot.new) result }
+{
+    let state = fetch_state(alloc, slot)?;
+    Ok(Work::of(dump_hg(&state)?))
+}
+
+/// The stream of the whole history, with its tags.
+pub fn stream_of_history<K: Slot>(alloc: Global, slot: &mut K) -> Result<Work, Report>
+    ensures makes { (input : Option Bytes) → Makes model.DumpGit input input (K.held slot.old) result }
+    ensures input { (faults : ℕ) → LeavesCount faults faults result }
+    ensures held { K.held slot.new ≡ K.held slot.old }
+    ensures slot { LeavesSlotCount (K.faults slot.old) (K.faults slot.new) result }
+{
+    let state = fetch_state(alloc, slot)?;
+    Ok(Work::of(dump_git(&state)?))
+}
+
+/// The ids of each commit and its changeset.
+pub fn map_of_history<K: Slot>(alloc: Global, slot: &mut K) -> Result<Work, Report>
+    ensures makes { (input : Option Bytes) → Makes model.Map input input (K.held slot.old) result }
+    ensures input { (faults : ℕ) → LeavesCount faults faults result }
+    ensures held { K.held slot.new ≡ K.held slot.old }
+    ensures slot { LeavesSlotCount (K.faults slot.old) (K.faults slot.new) result }
+{
+    let state = fetch_state(alloc, slot)?;
+    let mut lines = Vec::new(alloc);
+    map_into(&state, &mut lines)?;
+    Ok(Work::of(lines))
+}
+
+// What an accepted pull is to write, and the text of its next state.
+fn saved_work(pulled: Pulled) -> Result<Work, NoMemory>
+    requires stands { (m : saved.State) × Stands pulled.state m }
+    ensures output { IfOk result (λ w. w.output.items ≡ pulled.made) }
+    ensures text { IfOk result (λ w. IsNextText pulled.state w.text) }
+{
+    let Pulled { state, made, .. } = pulled;
+    let text = text_of(&state)?;
+    Ok(Work {
+        output: made.into_vec(),
+        text: Some(text),
+    })
+}
+
+// The text of a state.
+fn text_of(state: &State) -> Result<Vec<u8>, NoMemory>
+    requires stands { (m : saved.State) × Stands state.now m }
+    ensures { IfOk result (λ text. (m : saved.State) → Stands state.now m → IsState m → IsStateText text.items m) }
+{
+    let mut text = Vec::new(state.alloc());
+    write_into(state, &mut text)?;
+    Ok(text)
+}

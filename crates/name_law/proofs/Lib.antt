@@ -1,0 +1,6 @@
+mod Results
+mod Pairs
+mod Words
+mod Forms
+pub mod Kept
+pub mod Across

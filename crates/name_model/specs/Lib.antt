@@ -1,0 +1,5 @@
+pub mod Limits
+pub mod Ref
+pub mod Line
+pub mod Targets
+pub mod Reading

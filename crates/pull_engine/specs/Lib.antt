@@ -1,0 +1,5 @@
+pub mod Read
+pub mod Names
+pub mod Limit
+pub mod Places
+pub mod Tags

@@ -1,0 +1,12 @@
+pub mod BlockLemmas
+pub mod HeadLemmas
+pub mod SectionLemmas
+pub mod Shapes
+pub mod ReadLemmas
+pub mod WholeText
+pub mod Distinct
+pub mod Assembled
+pub mod Dumps
+pub mod Written
+pub mod Loops
+pub mod Maps

@@ -1,0 +1,159 @@
+-- What a state writes.
+use Rattle.std.proofs.Common.{◌≡◌, ◌+◌, ℕ, suc, List, [], ◌∷◌, ◌++◌, map, take, drop, slice_get, codes, Some, None, option_map, refl, sym, ap, subst, ◌∙◌, append_assoc, append-nil}
+use Rattle.text_model.proofs.Options.{none_some}
+use Rattle.text_model.proofs.Elements.{each_at, get_unmap, take_push, flat_map_append}
+use Rattle.text_model.specs.Lists.{Each}
+use Rattle.text_model.specs.Text.{Bytes}
+use Rattle.text_model.specs.Id.{Id, ObjectKind}
+use Rattle.git_model.specs.Object.{Object, object_at}
+use Rattle.git_model.specs.Stream.{object_text, stream_text}
+use Rattle.git_model.specs.Unfold.{walk_fault}
+use Rattle.view_model.specs.View.{ChangesetView, CommitView}
+use Rattle.view_model.specs.Held.{AreChangesetsHeld, AreCommitsHeld}
+use Rattle.view_model.specs.Dump.{hg_increment, git_increment}
+use Rattle.git_dump.specs.Commits.{HasWalk, AreWalkableCommits}
+use Rattle.git_dump.specs.Walks.{object_list}
+use Rattle.git_dump.proofs.VisitLemmas.{there-is}
+use Rattle.pair_model.specs.Block.{Block, changesets_in, commits_in}
+use Rattle.pair_known.specs.declared.known.Known.{Known}
+use Rattle.state_model.specs.Saved.{AreBlocks}
+use Rattle.state_model.specs.Kept.{State, NameRow, hg_dump, git_dump}
+use Rattle.state_model.specs.Text.{Sections, sections_of, section_text, text_up_to, state_text, refs_text, sized}
+use Rattle.pair_state.specs.declared.blocks.Block as pair
+use Rattle.pair_state.specs.declared.state_parts.StateParts.{StateParts}
+use Rattle.pair_state.specs.Blocks.{BlockValue, value_of, block_value}
+use Rattle.state_part.specs.declared.pairs.IdPair.{IdPair}
+use Rattle.state_part.specs.Form.{head_line}
+use Rattle.state_part.specs.Pairs.{map_section}
+use Rattle.state_text.specs.Sections.{pair_in}
+use Rattle.state_text.specs.Stands.{Stands, AreAt, pair_of}
+use Rattle.state_text.specs.Whole.{block_in}
+use Rattle.state_text.proofs.BlockLemmas.{pairs-section, pairs-of, ids-blocks}
+use Rattle.state_text.proofs.Dumps.{dump-written}
+use Rattle.state_text.proofs.SectionLemmas.{first-is}
+
+-- ---- the parts of a state that stands for one
+
+from_value : BlockValue → pair.Block
+from_value v = record { node = v.node; commit = v.commit; links = v.links }
+
+back : (bs : List pair.Block) → map from_value (map value_of bs) ≡ bs
+unfolding from_value
+back [] = refl
+back (b ∷ bs) = ap (λ (l : List pair.Block). b ∷ l) (back bs)
+
+from-blocks : (bs : List Block) → map from_value (map block_value bs) ≡ map block_in bs
+unfolding from_value
+from-blocks [] = refl
+from-blocks (b ∷ bs) = ap (λ (l : List pair.Block). block_in b ∷ l) (from-blocks bs)
+
+walks-commits : (git : List Object) (bs : List Block) → Each (λ b. walk_fault git ((b.commit).value).tree_id ≡ None) bs → Each (HasWalk git) (commits_in bs)
+walks-commits git [] h = tt
+walks-commits git (b ∷ bs) h = (h.0, walks-commits git bs h.1)
+
+module _ (s : StateParts) (m : State) (h : Stands s m) where
+  pub pairs-are : s.blocks ≡ map block_in m.blocks
+  pairs-are = sym (back s.blocks) ∙ ap (map from_value) ((h.blocks).state).blocks_are ∙ from-blocks m.blocks
+
+  pub held : AreChangesetsHeld s.known.hg s.changesets (changesets_in m.blocks)
+  held = subst (λ (l : List Id). AreChangesetsHeld s.known.hg l (changesets_in m.blocks)) (sym ((h.blocks).state).changesets) ((((h.blocks).state).held).held).changesets
+
+  pub hg-written : hg_increment s.known.hg [] (changesets_in m.blocks) ≡ hg_dump (changesets_in m.blocks)
+  hg-written = dump-written s.known.hg (changesets_in m.blocks) ((((h.blocks).state).held).held).changesets (h.blocks).saved
+
+  pub walkable : AreWalkableCommits s.known.git s.commits (commits_in m.blocks)
+  walkable = (
+    subst (λ (l : List Id). AreCommitsHeld s.known.git l (commits_in m.blocks)) (ids-blocks m.blocks ∙ sym ((h.blocks).state).commits) ((((h.blocks).state).held).held).commits,
+    walks-commits s.known.git m.blocks ((((h.blocks).state).held).held).walks,
+  )
+
+  pub map-pairs : map pair_in s.blocks ≡ map pair_of m.blocks
+  map-pairs = ap (map pair_in) pairs-are ∙ pairs-of m.blocks
+
+-- ---- what the writers of a bundle and of a stream are given, and what they give
+
+module _ (s : StateParts) (m : State) (h : Stands s m) (known : Known) (same : known ≡ s.known) where
+  pub held-in : (nodes : List Id) → nodes ≡ s.changesets → AreChangesetsHeld known.hg nodes (changesets_in m.blocks)
+  held-in nodes list = rw (same, list) (held s m h)
+
+  pub bundle-is : (nodes : List Id) (bytes : Bytes) → nodes ≡ s.changesets
+      → ((hs : List ChangesetView) → AreChangesetsHeld known.hg nodes hs → bytes ≡ hg_increment known.hg (take 0 hs) (drop 0 hs)) → bytes ≡ hg_dump (changesets_in m.blocks)
+  bundle-is nodes bytes list written =
+      written (changesets_in m.blocks) (held-in nodes list) ∙ ap (λ (k : Known). hg_increment k.hg [] (changesets_in m.blocks)) same ∙ hg-written s m h
+
+  pub walkable-in : (ids : List Id) → ids ≡ s.commits → AreWalkableCommits known.git ids (commits_in m.blocks)
+  walkable-in ids list = rw (same, list) (walkable s m h)
+
+  pub stream-is : (ids : List Id) (bytes : Bytes) → ids ≡ s.commits
+      → ((cs : List CommitView) → AreWalkableCommits known.git ids cs → bytes ≡ git_increment (take 0 cs) (drop 0 cs)) → bytes ≡ git_dump (commits_in m.blocks)
+  stream-is ids bytes list written = written (commits_in m.blocks) (walkable-in ids list)
+
+  pub tags-at : (ids : List Id) → ids ≡ s.tags → AreAt known.git ids m.tags
+  tags-at ids list = rw (same, list) (h.tags, h.tags_held)
+
+-- ---- objects, one by one
+
+-- the object that is known under an id is written
+pub put-same : (known : List Object) (id : Id) (kind : ObjectKind) (content old now : Bytes) → Some (kind, content) ≡ option_map {U = ObjectKind × Bytes} (λ (o : Object). (o.kind, o.content)) (object_at known id)
+    → now ≡ old ++ object_text (record { id = id; kind = kind; content = content }) → (o : Object) → object_at known id ≡ Some o → now ≡ old ++ object_text o
+put-same known id kind content old now is written o at =
+    let both : record { id = id; kind = kind; content = content } ∷ [] ≡ o ∷ [] = sym (there-is known id kind content is) ∙ ap object_list at in
+    let same : record { id = id; kind = kind; content = content } ≡ o = cc in
+    written ∙ ap (λ (x : Object). old ++ object_text x) same
+
+-- an id of no known object
+pub none-known : (known : List Object) (id : Id) (o : Object) → None ≡ option_map {U = ObjectKind × Bytes} (λ (o : Object). (o.kind, o.content)) (object_at known id) → object_at known id ≡ Some o → ⊥
+none-known known id o is at = none_some {x = (o.kind, o.content)} (is ∙ ap (option_map {U = ObjectKind × Bytes} (λ (o : Object). (o.kind, o.content))) at)
+
+pub one-object : (objects : List Object) (ids : List Id) (known : List Object) (old out now : Bytes) (i : ℕ) (id : Id) → AreAt known ids objects → slice_get ids i ≡ Some id
+    → out ≡ old ++ stream_text (take i objects) → ((o : Object) → object_at known id ≡ Some o → now ≡ out ++ object_text o) → now ≡ old ++ stream_text (take (i + 1) objects)
+unfolding stream_text
+one-object objects ids known old out now i id are at so_far more =
+    let found = get_unmap (λ (o : Object). o.id) objects i id (sym (ap (λ (l : List Id). slice_get l i) are.0) ∙ at) in
+    let there : object_at known id ≡ Some found.0 = ap (object_at known) (sym found.2) ∙ each_at (λ o. object_at known o.id ≡ Some o) objects i found.0 found.1 are.1 in
+    more found.0 there
+    ∙ ap (λ (l : Bytes). l ++ object_text found.0) so_far
+    ∙ append_assoc old (stream_text (take i objects)) (object_text found.0)
+    ∙ ap (λ (l : Bytes). old ++ l) (ap (λ (l : Bytes). stream_text (take i objects) ++ l) (sym (append-nil (object_text found.0)))
+    ∙ sym (flat_map_append object_text (take i objects) (found.0 ∷ []))
+    ∙ ap stream_text (sym (take_push objects i found.0 found.1)))
+
+-- ---- the text
+
+grown : (k : ℕ) (s : Sections) (old out : Bytes) → out ≡ old ++ text_up_to k s → out ++ section_text (suc k) s ≡ old ++ text_up_to (suc k) s
+unfolding text_up_to
+grown k s old out e = ap (λ (l : Bytes). l ++ section_text (suc k) s) e ∙ append_assoc old (text_up_to k s) (section_text (suc k) s)
+
+-- what the parts of a state's text append, one after another
+pub record AreAppended (old text hg git tags : Bytes) (pairs : List IdPair) : Type 0 where
+  pub first : Bytes
+  pub second : Bytes
+  pub third : Bytes
+  pub fourth : Bytes
+  pub fifth : Bytes
+  pub head : first ≡ old ++ head_line
+  pub changesets : second ≡ first ++ sized (codes "hg") hg
+  pub commits : third ≡ second ++ sized (codes "git") git
+  pub map_is : fourth ≡ third ++ map_section pairs
+  pub tags_are : fifth ≡ fourth ++ sized (codes "tags") tags
+  pub names : text ≡ fifth ++ sized (codes "names") []
+
+pub written : (old text hg git tags : Bytes) (pairs : List IdPair) (m : State) → AreAppended old text hg git tags pairs → AreBlocks m.blocks → m.names ≡ []
+    → hg ≡ hg_dump (changesets_in m.blocks) → git ≡ git_dump (commits_in m.blocks) → tags ≡ stream_text m.tags → pairs ≡ map pair_in (map block_in m.blocks) → text ≡ old ++ state_text m
+unfolding state_text
+written old text hg git tags pairs m a are none hg_is git_is tags_is pairs_are =
+    let s = sections_of m in
+    let e0 : a.first ≡ old ++ text_up_to 0 s = a.head ∙ ap (λ (l : Bytes). old ++ l) (sym (first-is s)) in
+    let e1 : a.second ≡ old ++ text_up_to 1 s = a.changesets ∙ ap (λ (l : Bytes). a.first ++ sized (codes "hg") l) hg_is ∙ grown 0 s old a.first e0 in
+    let e2 : a.third ≡ old ++ text_up_to 2 s = a.commits ∙ ap (λ (l : Bytes). a.second ++ sized (codes "git") l) git_is ∙ grown 1 s old a.second e1 in
+    let map_same : map_section pairs ≡ section_text 3 s = ap map_section pairs_are ∙ pairs-section m.blocks are in
+    let e3 : a.fourth ≡ old ++ text_up_to 3 s = a.map_is ∙ ap (λ (l : Bytes). a.third ++ l) map_same ∙ grown 2 s old a.third e2 in
+    let e4 : a.fifth ≡ old ++ text_up_to 4 s = a.tags_are ∙ ap (λ (l : Bytes). a.fourth ++ sized (codes "tags") l) tags_is ∙ grown 3 s old a.fourth e3 in
+    let names_same : sized (codes "names") [] ≡ section_text 5 s = ap (λ (l : List NameRow). sized (codes "names") (refs_text l)) (sym none) in
+    a.names ∙ ap (λ (l : Bytes). a.fifth ++ l) names_same ∙ grown 4 s old a.fifth e4
+
+-- the same of the parts that stand for the state
+pub state-text : (s : StateParts) (m : State) → Stands s m → AreBlocks m.blocks → (old text hg git tags : Bytes) (pairs : List IdPair) → AreAppended old text hg git tags pairs
+    → hg ≡ hg_dump (changesets_in m.blocks) → git ≡ git_dump (commits_in m.blocks) → tags ≡ stream_text m.tags → pairs ≡ map pair_in s.blocks → text ≡ old ++ state_text m
+state-text s m h are old text hg git tags pairs a hg_is git_is tags_is pairs_are =
+    written old text hg git tags pairs m a are h.no_names.1 hg_is git_is tags_is (pairs_are ∙ ap (map pair_in) (pairs-are s m h))

@@ -1,0 +1,132 @@
+use Rattle.std.proofs.Common.{◌≡◌, ◌≤◌, true≢false, List, length, Some, None, sym, ap, ◌∙◌, arith}
+use Rattle.std.proofs.lemmas.Result.{err_from_is_err_and}
+use Rattle.state_model.specs.Limits.{slot_limit}
+use Rattle.state_text.specs.declared.fault.StateFault.TheVariants.{StateShape}
+use Rattle.state_text.specs.declared.heads.Head.{Head}
+use Rattle.state_text.specs.Faults.{head_refused}
+use Rattle.state_text.specs.Sections.{paired}
+use Rattle.state_text.proofs.WholeText.{err-is, refused-by, head-fault, no-hg, no-git, no-count, no-pairs, no-tags, no-end, state, is-text, are-sections}
+use Rattle.state_text.proofs.reading.read.Goals as goal
+use Rattle.state_text.proofs.reading.read.Goals.{then-not-ends-via-then-not-ends, then-not-ends-via-else-not-ends+then-bytes-gt-SLOT_LIMIT}
+
+pub returns-in_err-rest-clause-fault : goal.returns-in_err-rest-clause-fault
+returns-in_err-rest-clause-fault c =
+    let p = err_from_is_err_and c.from_residual.result c.from_residual.ensures.1 in
+    let why = c.in_err-rest.field-0.0 in
+    err-is c.from_residual.result c.args.bytes.now p.0 (head_refused why) p.1 p.2 (head-fault c.args.bytes.now why c.in_err-rest.ensures.head)
+
+pub returns-in_err-hg-clause-fault : goal.returns-in_err-hg-clause-fault
+returns-in_err-hg-clause-fault c =
+    let p = err_from_is_err_and c.from_residual-in_err-hg.result c.from_residual-in_err-hg.ensures.1 in
+    let none : c.in_ok-read_hg.field-0 ≡ None = c.in_err-hg.ensures.ok_part in
+    let why = refused-by c.in_ok-read_hg.field-0 c.in_err-hg.field-0.0 (StateShape 1) c.in_err-hg.ensures.value none in
+    let fault = no-hg c.args.bytes.now c.in_ok-rest.rest.now c.in_ok-rest.ensures.head (rw none at c.in_ok-read_hg.ensures) in
+    err-is c.from_residual-in_err-hg.result c.args.bytes.now p.0 (StateShape 1) p.1 (p.2 ∙ why) (c.in_ok-rest.ensures.version, fault)
+
+pub returns-in_err-git-clause-fault : goal.returns-in_err-git-clause-fault
+returns-in_err-git-clause-fault c =
+    let p = err_from_is_err_and c.from_residual-in_err-git.result c.from_residual-in_err-git.ensures.1 in
+    let none : c.in_ok-read_git.field-0 ≡ None = c.in_err-git.ensures.ok_part in
+    let why = refused-by c.in_ok-read_git.field-0 c.in_err-git.field-0.0 (StateShape 2) c.in_err-git.ensures.value none in
+    let hg_is : c.in_ok-read_hg.field-0 ≡ Some c.in_ok-hg.hg = c.in_ok-hg.ensures.ok_part in
+    let hg = rw hg_is at c.in_ok-read_hg.ensures in
+    let fault = no-git c.args.bytes.now c.in_ok-rest.rest.now c.in_ok-rest.ensures.head c.in_ok-hg.hg.section c.in_ok-hg.hg.heads c.in_ok-hg.hg.rest.now hg.0 hg.1 (rw none at c.in_ok-read_git.ensures) in
+    err-is c.from_residual-in_err-git.result c.args.bytes.now p.0 (StateShape 2) p.1 (p.2 ∙ why) (c.in_ok-rest.ensures.version, fault)
+
+pub returns-then-as_slice-len-clause-fault : goal.returns-then-as_slice-len-clause-fault
+returns-then-as_slice-len-clause-fault c =
+    let hg_is : c.in_ok-read_hg.field-0 ≡ Some c.in_ok-hg.hg = c.in_ok-hg.ensures.ok_part in
+    let hg = rw hg_is at c.in_ok-read_hg.ensures in
+    let git_is : c.in_ok-read_git.field-0 ≡ Some c.in_ok-git.git = c.in_ok-git.ensures.ok_part in
+    let git = rw git_is at c.in_ok-read_git.ensures in
+    let fault = no-count c.args.bytes.now c.in_ok-rest.rest.now c.in_ok-rest.ensures.head c.in_ok-hg.hg.section c.in_ok-hg.hg.heads c.in_ok-hg.hg.rest.now hg.0 hg.1 c.in_ok-git.git.section c.in_ok-git.git.used c.in_ok-git.git.rest.now git.0 git.1
+    (λ same. omega (arith, same, c.if-as_slice-len.true, c.len.ensures, ap (λ (l : List Head). length l) c.as_slice.ensures)) in
+    (c.in_ok-rest.ensures.version, fault)
+
+pub returns-in_err-rest-2-clause-fault : goal.returns-in_err-rest-2-clause-fault
+returns-in_err-rest-2-clause-fault c =
+    let p = err_from_is_err_and c.from_residual-in_err-rest-2.result c.from_residual-in_err-rest-2.ensures.1 in
+    let none : c.in_ok-read_pairs.field-0 ≡ None = c.in_err-rest-2.ensures.ok_part in
+    let why = refused-by c.in_ok-read_pairs.field-0 c.in_err-rest-2.field-0.0 (StateShape 3) c.in_err-rest-2.ensures.value none in
+    let hg_is : c.in_ok-read_hg.field-0 ≡ Some c.in_ok-hg.hg = c.in_ok-hg.ensures.ok_part in
+    let hg = rw hg_is at c.in_ok-read_hg.ensures in
+    let git_is : c.in_ok-read_git.field-0 ≡ Some c.in_ok-git.git = c.in_ok-git.ensures.ok_part in
+    let git = rw git_is at c.in_ok-read_git.ensures in
+    let count : length c.in_ok-hg.hg.heads ≡ length c.in_ok-git.git.section.ids = omega (arith, c.if-as_slice-len.false, c.len.ensures, ap (λ (l : List Head). length l) c.as_slice.ensures) in
+    let are : c.in_ok-blocks.blocks ≡ paired c.in_ok-hg.hg.heads c.in_ok-git.git.section.ids = c.in_ok-blocks.ensures ∙ (λ i. paired (c.as_slice-2.ensures i) (c.as_slice-3.ensures i)) in
+    let fault = no-pairs c.args.bytes.now c.in_ok-rest.rest.now c.in_ok-rest.ensures.head c.in_ok-hg.hg.section c.in_ok-hg.hg.heads c.in_ok-hg.hg.rest.now hg.0 hg.1 c.in_ok-git.git.section c.in_ok-git.git.used c.in_ok-git.git.rest.now git.0 git.1 count c.in_ok-blocks.blocks are (rw none at c.in_ok-read_pairs.ensures) in
+    err-is c.from_residual-in_err-rest-2.result c.args.bytes.now p.0 (StateShape 3) p.1 (p.2 ∙ why) (c.in_ok-rest.ensures.version, fault)
+
+pub returns-in_err-tags-clause-fault : goal.returns-in_err-tags-clause-fault
+returns-in_err-tags-clause-fault c =
+    let p = err_from_is_err_and c.from_residual-in_err-tags.result c.from_residual-in_err-tags.ensures.1 in
+    let none : c.in_ok-read_tagged.field-0 ≡ None = c.in_err-tags.ensures.ok_part in
+    let why = refused-by c.in_ok-read_tagged.field-0 c.in_err-tags.field-0.0 (StateShape 4) c.in_err-tags.ensures.value none in
+    let hg_is : c.in_ok-read_hg.field-0 ≡ Some c.in_ok-hg.hg = c.in_ok-hg.ensures.ok_part in
+    let hg = rw hg_is at c.in_ok-read_hg.ensures in
+    let git_is : c.in_ok-read_git.field-0 ≡ Some c.in_ok-git.git = c.in_ok-git.ensures.ok_part in
+    let git = rw git_is at c.in_ok-read_git.ensures in
+    let count : length c.in_ok-hg.hg.heads ≡ length c.in_ok-git.git.section.ids = omega (arith, c.if-as_slice-len.false, c.len.ensures, ap (λ (l : List Head). length l) c.as_slice.ensures) in
+    let are : c.in_ok-blocks.blocks ≡ paired c.in_ok-hg.hg.heads c.in_ok-git.git.section.ids = c.in_ok-blocks.ensures ∙ (λ i. paired (c.as_slice-2.ensures i) (c.as_slice-3.ensures i)) in
+    let rest_is : c.in_ok-read_pairs.field-0 ≡ Some c.in_ok-rest-2.rest = c.in_ok-rest-2.ensures.ok_part in
+    let pairs = rw rest_is at c.in_ok-read_pairs.ensures in
+    let fault = no-tags c.args.bytes.now c.in_ok-rest.rest.now c.in_ok-rest.ensures.head c.in_ok-hg.hg.section c.in_ok-hg.hg.heads c.in_ok-hg.hg.rest.now hg.0 hg.1 c.in_ok-git.git.section c.in_ok-git.git.used c.in_ok-git.git.rest.now git.0 git.1 count c.in_ok-blocks.blocks are c.in_ok-rest-2.rest.now pairs (rw none at (c.in_ok-read_tagged.ensures git.0 (git.1).holds (git.1).size)) in
+    err-is c.from_residual-in_err-tags.result c.args.bytes.now p.0 (StateShape 4) p.1 (p.2 ∙ why) (c.in_ok-rest.ensures.version, fault)
+
+pub returns-then-not-ends-clause-fault : goal.returns-then-not-ends-clause-fault
+returns-then-not-ends-clause-fault c =
+    let hg_is : c.in_ok-read_hg.field-0 ≡ Some c.in_ok-hg.hg = c.in_ok-hg.ensures.ok_part in
+    let hg = rw hg_is at c.in_ok-read_hg.ensures in
+    let git_is : c.in_ok-read_git.field-0 ≡ Some c.in_ok-git.git = c.in_ok-git.ensures.ok_part in
+    let git = rw git_is at c.in_ok-read_git.ensures in
+    let count : length c.in_ok-hg.hg.heads ≡ length c.in_ok-git.git.section.ids = omega (arith, c.if-as_slice-len.false, c.len.ensures, ap (λ (l : List Head). length l) c.as_slice.ensures) in
+    let are : c.in_ok-blocks.blocks ≡ paired c.in_ok-hg.hg.heads c.in_ok-git.git.section.ids = c.in_ok-blocks.ensures ∙ (λ i. paired (c.as_slice-2.ensures i) (c.as_slice-3.ensures i)) in
+    let rest_is : c.in_ok-read_pairs.field-0 ≡ Some c.in_ok-rest-2.rest = c.in_ok-rest-2.ensures.ok_part in
+    let pairs = rw rest_is at c.in_ok-read_pairs.ensures in
+    let tags_is : c.in_ok-read_tagged.field-0 ≡ Some c.in_ok-tags.tags = c.in_ok-tags.ensures.ok_part in
+    let tags = rw tags_is at (c.in_ok-read_tagged.ensures git.0 (git.1).holds (git.1).size) in
+    let fault = no-end c.args.bytes.now c.in_ok-rest.rest.now c.in_ok-rest.ensures.head c.in_ok-hg.hg.section c.in_ok-hg.hg.heads c.in_ok-hg.hg.rest.now hg.0 hg.1 c.in_ok-git.git.section c.in_ok-git.git.used c.in_ok-git.git.rest.now git.0 git.1 count c.in_ok-blocks.blocks are c.in_ok-rest-2.rest.now pairs c.in_ok-tags.tags.section c.in_ok-tags.tags.rest.now tags.0 tags.1
+    (λ last short. elim c.then-not-ends.branch [
+      | then-not-ends-via-then-not-ends w ↦ true≢false (sym (c.ends.ensures.1 last) ∙ w.if-not-ends.true)
+      | then-not-ends-via-else-not-ends+then-bytes-gt-SLOT_LIMIT w ↦ omega (arith, short, w.if-bytes-gt-SLOT_LIMIT.true)
+    ]) in
+    (c.in_ok-rest.ensures.version, fault)
+
+pub assemble-requires : goal.assemble-requires
+assemble-requires c =
+    let hg_is : c.in_ok-read_hg.field-0 ≡ Some c.in_ok-hg.hg = c.in_ok-hg.ensures.ok_part in
+    let hg = rw hg_is at c.in_ok-read_hg.ensures in
+    let git_is : c.in_ok-read_git.field-0 ≡ Some c.in_ok-git.git = c.in_ok-git.ensures.ok_part in
+    let git = rw git_is at c.in_ok-read_git.ensures in
+    let count : length c.in_ok-hg.hg.heads ≡ length c.in_ok-git.git.section.ids = omega (arith, c.if-as_slice-len.false, c.len.ensures, ap (λ (l : List Head). length l) c.as_slice.ensures) in
+    let are : c.in_ok-blocks.blocks ≡ paired c.in_ok-hg.hg.heads c.in_ok-git.git.section.ids = c.in_ok-blocks.ensures ∙ (λ i. paired (c.as_slice-2.ensures i) (c.as_slice-3.ensures i)) in
+    let rest_is : c.in_ok-read_pairs.field-0 ≡ Some c.in_ok-rest-2.rest = c.in_ok-rest-2.ensures.ok_part in
+    let pairs = rw rest_is at c.in_ok-read_pairs.ensures in
+    let tags_is : c.in_ok-read_tagged.field-0 ≡ Some c.in_ok-tags.tags = c.in_ok-tags.ensures.ok_part in
+    let tags = rw tags_is at (c.in_ok-read_tagged.ensures git.0 (git.1).holds (git.1).size) in
+    let last = c.ends.ensures.0 c.if-not-ends.false in
+    let short : length c.args.bytes.now ≤ slot_limit = omega (arith, c.if-bytes-gt-SLOT_LIMIT.false) in
+    record {
+      sections = (
+        state c.args.bytes.now c.in_ok-rest.rest.now c.in_ok-rest.ensures.head c.in_ok-hg.hg.section c.in_ok-hg.hg.heads c.in_ok-hg.hg.rest.now hg.0 hg.1 c.in_ok-git.git.section c.in_ok-git.git.used c.in_ok-git.git.rest.now git.0 git.1 count c.in_ok-blocks.blocks are c.in_ok-rest-2.rest.now pairs c.in_ok-tags.tags.section c.in_ok-tags.tags.rest.now tags.0 tags.1 last short,
+        are-sections c.args.bytes.now c.in_ok-rest.rest.now c.in_ok-rest.ensures.head c.in_ok-hg.hg.section c.in_ok-hg.hg.heads c.in_ok-hg.hg.rest.now hg.0 hg.1 c.in_ok-git.git.section c.in_ok-git.git.used c.in_ok-git.git.rest.now git.0 git.1 count c.in_ok-blocks.blocks are c.in_ok-rest-2.rest.now pairs c.in_ok-tags.tags.section c.in_ok-tags.tags.rest.now tags.0 tags.1 last short,
+      );
+    }
+
+pub returns-clause-ok : goal.returns-clause-ok
+returns-clause-ok c =
+    let hg_is : c.in_ok-read_hg.field-0 ≡ Some c.in_ok-hg.hg = c.in_ok-hg.ensures.ok_part in
+    let hg = rw hg_is at c.in_ok-read_hg.ensures in
+    let git_is : c.in_ok-read_git.field-0 ≡ Some c.in_ok-git.git = c.in_ok-git.ensures.ok_part in
+    let git = rw git_is at c.in_ok-read_git.ensures in
+    let count : length c.in_ok-hg.hg.heads ≡ length c.in_ok-git.git.section.ids = omega (arith, c.if-as_slice-len.false, c.len.ensures, ap (λ (l : List Head). length l) c.as_slice.ensures) in
+    let are : c.in_ok-blocks.blocks ≡ paired c.in_ok-hg.hg.heads c.in_ok-git.git.section.ids = c.in_ok-blocks.ensures ∙ (λ i. paired (c.as_slice-2.ensures i) (c.as_slice-3.ensures i)) in
+    let rest_is : c.in_ok-read_pairs.field-0 ≡ Some c.in_ok-rest-2.rest = c.in_ok-rest-2.ensures.ok_part in
+    let pairs = rw rest_is at c.in_ok-read_pairs.ensures in
+    let tags_is : c.in_ok-read_tagged.field-0 ≡ Some c.in_ok-tags.tags = c.in_ok-tags.ensures.ok_part in
+    let tags = rw tags_is at (c.in_ok-read_tagged.ensures git.0 (git.1).holds (git.1).size) in
+    let last = c.ends.ensures.0 c.if-not-ends.false in
+    let short : length c.args.bytes.now ≤ slot_limit = omega (arith, c.if-bytes-gt-SLOT_LIMIT.false) in
+    let m = state c.args.bytes.now c.in_ok-rest.rest.now c.in_ok-rest.ensures.head c.in_ok-hg.hg.section c.in_ok-hg.hg.heads c.in_ok-hg.hg.rest.now hg.0 hg.1 c.in_ok-git.git.section c.in_ok-git.git.used c.in_ok-git.git.rest.now git.0 git.1 count c.in_ok-blocks.blocks are c.in_ok-rest-2.rest.now pairs c.in_ok-tags.tags.section c.in_ok-tags.tags.rest.now tags.0 tags.1 last short in
+    let sections = are-sections c.args.bytes.now c.in_ok-rest.rest.now c.in_ok-rest.ensures.head c.in_ok-hg.hg.section c.in_ok-hg.hg.heads c.in_ok-hg.hg.rest.now hg.0 hg.1 c.in_ok-git.git.section c.in_ok-git.git.used c.in_ok-git.git.rest.now git.0 git.1 count c.in_ok-blocks.blocks are c.in_ok-rest-2.rest.now pairs c.in_ok-tags.tags.section c.in_ok-tags.tags.rest.now tags.0 tags.1 last short in
+    (m, is-text c.args.bytes.now c.in_ok-rest.rest.now c.in_ok-rest.ensures.head c.in_ok-hg.hg.section c.in_ok-hg.hg.heads c.in_ok-hg.hg.rest.now hg.0 hg.1 c.in_ok-git.git.section c.in_ok-git.git.used c.in_ok-git.git.rest.now git.0 git.1 count c.in_ok-blocks.blocks are c.in_ok-rest-2.rest.now pairs c.in_ok-tags.tags.section c.in_ok-tags.tags.rest.now tags.0 tags.1 last short, c.in_ok-assemble.ensures.stands m sections, c.in_ok-assemble.ensures.exactly m sections)

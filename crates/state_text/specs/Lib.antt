@@ -1,0 +1,5 @@
+pub mod Heads
+pub mod Sections
+pub mod Stands
+pub mod Whole
+pub mod Faults

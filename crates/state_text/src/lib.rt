@@ -1,0 +1,14 @@
+//! A saved state is read from its text and written as it.
+#![tactic(auto)]
+
+mod assemble;
+mod blocks;
+mod fault;
+mod heads;
+mod reading;
+mod sections;
+mod write;
+
+pub use fault::StateFault;
+pub use reading::read;
+pub use write::{dump_git, dump_hg, map_into, write_into};

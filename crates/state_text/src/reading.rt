@@ -1,0 +1,36 @@
+// A state is read from its text.
+ghost use Rattle.std.specs.Prelude.{IfErr, IfOk};
+ghost use Rattle.state_model.specs.Kept as model;
+ghost use Rattle.state_model.specs.Saved.{IsStateText};
+ghost use Rattle.state_text.specs.Faults.{IsStateFault};
+ghost use Rattle.state_text.specs.Stands.{Stands, HoldsExactly};
+
+use crate::assemble::assemble;
+use crate::blocks::blocks_of;
+use crate::fault::StateFault;
+use crate::sections::{ends, read_git, read_hg, read_pairs, read_tagged};
+use bridge_text::SLOT_LIMIT;
+use pair_state::State;
+use state_part::read_head;
+use std::alloc::Global;
+
+/// The state whose text these bytes are. `StateVersion` comes exactly where the first line names another version, and else `StateShape`
+/// with the number of the first section that doesn't fit.
+pub fn read(alloc: Global, bytes: &[u8]) -> Result<State, StateFault>
+    ensures ok { IfOk result (λ s. (m : model.State) × IsStateText bytes.now m × Stands s m × HoldsExactly s m) }
+    ensures fault { IfErr result (IsStateFault bytes.now) }
+{
+    let rest = read_head(bytes)?;
+    let hg = read_hg(alloc, rest)?.ok_or(StateFault::StateShape(1))?;
+    let git = read_git(alloc, hg.rest)?.ok_or(StateFault::StateShape(2))?;
+    if hg.heads.as_slice().len() != git.section.ids.len() {
+        return Err(StateFault::StateShape(3));
+    }
+    let blocks = blocks_of(alloc, hg.heads.as_slice(), git.section.ids.as_slice())?;
+    let rest = read_pairs(alloc, &blocks, git.rest)?.ok_or(StateFault::StateShape(3))?;
+    let tags = read_tagged(alloc, git.section, git.used, rest)?.ok_or(StateFault::StateShape(4))?;
+    if !ends(tags.rest) || bytes.len() > SLOT_LIMIT {
+        return Err(StateFault::StateShape(5));
+    }
+    Ok(assemble(alloc, hg.section, blocks, tags.section)?)
+}

@@ -1,0 +1,107 @@
+// A state is written as its text.
+ghost use Rattle.std.specs.Prelude.{◌≡◌, ◌++◌, List, Some, IfOk, OnErr, OnOk};
+ghost use Rattle.std.specs.Io.{StartsWith};
+ghost use Rattle.git_model.specs.Object.{Object, object_at};
+ghost use Rattle.git_model.specs.Stream.{object_text, stream_text};
+ghost use Rattle.pair_model.specs.Block.{changesets_in, commits_in};
+ghost use Rattle.state_model.specs.Kept as model;
+ghost use Rattle.state_model.specs.Saved.{AreBlocks};
+ghost use Rattle.state_model.specs.Text.{state_text};
+ghost use Rattle.saved_model.specs.Command.{map_text};
+ghost use Rattle.state_text.specs.Stands.{Stands, AreAt};
+
+use crate::blocks::pairs_of;
+use crate::sections::{GIT, HG, NAMES, TAGS};
+use bridge_text::{Id, NoMemory};
+use git_batch::put_with_id;
+use git_object::Objects;
+use git_store::GitStore;
+use pair_state::State;
+use state_part::{put_head, put_map, put_section, put_sorted_map};
+
+/// Appends the one text of the state. After want of memory `out` is as it was.
+pub fn write_into(state: &State, out: &mut Vec<u8>) -> Result<(), NoMemory>
+    requires stands { (m : model.State) × Stands state.now m }
+    ensures ok { OnOk result ((m : model.State) → Stands state.now m → AreBlocks m.blocks → out.new.items ≡ out.old.items ++ state_text m) }
+    ensures err { OnErr result (out.new.items ≡ out.old.items) }
+{
+    let start = out.len();
+    let put = append_state(state, out);
+    if put.is_err() {
+        out.truncate(start);
+    }
+    put
+}
+
+// The same; after want of memory what `out` was is its beginning.
+fn append_state(state: &State, out: &mut Vec<u8>) -> Result<(), NoMemory>
+    requires stands { (m : model.State) × Stands state.now m }
+    ensures ok { OnOk result ((m : model.State) → Stands state.now m → AreBlocks m.blocks → out.new.items ≡ out.old.items ++ state_text m) }
+    ensures front { StartsWith out.new.items out.old.items }
+{
+    let alloc = state.alloc();
+    let mut tags = Vec::new(alloc);
+    put_tags(&mut tags, &state.known().git, state.tags().as_slice())?;
+    put_head(out)?;
+    put_section(out, HG, dump_hg(state)?.as_slice())?;
+    put_section(out, GIT, dump_commits(state)?.as_slice())?;
+    put_map(out, pairs_of(alloc, state.blocks())?.as_slice())?;
+    put_section(out, TAGS, tags.as_slice())?;
+    put_section(out, NAMES, b"")
+}
+
+/// Appends `GIT HG` LF for each block, in rising order of the nodes. After want of memory `out` is as it was.
+pub fn map_into(state: &State, out: &mut Vec<u8>) -> Result<(), NoMemory>
+    ensures ok { OnOk result ((m : model.State) → Stands state.now m → out.new.items ≡ out.old.items ++ map_text m.blocks) }
+    ensures err { OnErr result (out.new.items ≡ out.old.items) }
+{
+    let pairs = pairs_of(state.alloc(), state.blocks())?;
+    put_sorted_map(out, pairs)
+}
+
+/// The bundle of the whole history.
+pub fn dump_hg(state: &State) -> Result<Vec<u8>, NoMemory>
+    requires stands { (m : model.State) × Stands state.now m }
+    ensures { IfOk result (λ bytes. (m : model.State) → Stands state.now m → bytes.items ≡ model.hg_dump (changesets_in m.blocks)) }
+{
+    hg_dump::write(state.alloc(), &state.known().hg, state.changesets(), 0)
+}
+
+/// The stream of the whole history, with the kept tags behind it.
+pub fn dump_git(state: &State) -> Result<Vec<u8>, NoMemory>
+    requires stands { (m : model.State) × Stands state.now m }
+    ensures { IfOk result (λ bytes. (m : model.State) → Stands state.now m
+        → bytes.items ≡ model.git_dump (commits_in m.blocks) ++ stream_text m.tags) }
+{
+    let mut out = dump_commits(state)?;
+    put_tags(&mut out, &state.known().git, state.tags().as_slice())?;
+    Ok(out)
+}
+
+// The stream of the commits.
+fn dump_commits(state: &State) -> Result<Vec<u8>, NoMemory>
+    requires stands { (m : model.State) × Stands state.now m }
+    ensures { IfOk result (λ bytes. (m : model.State) → Stands state.now m → bytes.items ≡ model.git_dump (commits_in m.blocks)) }
+{
+    git_dump::write(state.alloc(), &state.known().git, state.commits(), 0)
+}
+
+// Appends the objects with these ids, which are known.
+fn put_tags(out: &mut Vec<u8>, store: &GitStore, ids: &[Id]) -> Result<(), NoMemory>
+    ensures { OnOk result ((objects : List Object) → AreAt store.now ids.now objects → out.new.items ≡ out.old.items ++ stream_text objects) }
+{
+    for id in ids {
+        put_tag(out, store, id)?;
+    }
+    Ok(())
+}
+
+// Appends the object with this id, which is known.
+fn put_tag(out: &mut Vec<u8>, store: &GitStore, id: &Id) -> Result<(), NoMemory>
+    ensures { OnOk result ((o : Object) → object_at store.now id.now ≡ Some o → out.new.items ≡ out.old.items ++ object_text o) }
+{
+    match store.content(id) {
+        Some((kind, content)) => put_with_id(out, id, kind, content),
+        None => Ok(()),
+    }
+}
