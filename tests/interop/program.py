@@ -6,9 +6,11 @@ import threading
 from typing import List, NamedTuple
 
 SECONDS = 300
+STATE = 'hggit.state'
 
 
 class Answer(NamedTuple):
+    """What a run answers, and the files that it left beside those that it must leave: a pull that is done saves the state."""
     status: int
     output: bytes
     errors: bytes
@@ -37,7 +39,7 @@ class Program:
         """The answer to words and the bytes of an input."""
         with tempfile.TemporaryDirectory() as folder:
             run = subprocess.run([self.path, *words], input=data, capture_output=True, cwd=folder, timeout=SECONDS)
-            return Answer(run.returncode, run.stdout, run.stderr, os.listdir(folder))
+            return Answer(run.returncode, run.stdout, run.stderr, left_in(folder, words, run.returncode))
 
     def run_on(self, words, input=None, output=None, errors=None):
         """The same over open files; without one the input is empty, and output and errors are taken."""
@@ -48,7 +50,7 @@ class Program:
                 stdout=subprocess.PIPE if output is None else output,
                 stderr=subprocess.PIPE if errors is None else errors,
                 cwd=folder, timeout=SECONDS)
-            return Answer(run.returncode, run.stdout or b'', run.stderr or b'', os.listdir(folder))
+            return Answer(run.returncode, run.stdout or b'', run.stderr or b'', left_in(folder, words, run.returncode))
 
     def run_without(self, words, closed, data):
         """The same where the shell has closed one of the three standard streams first, as `1>&-`."""
@@ -56,7 +58,7 @@ class Program:
             run = subprocess.run(
                 ['/bin/sh', '-c', f'exec "$0" "$@" {closed}', self.path, *words],
                 input=data, capture_output=True, cwd=folder, timeout=SECONDS)
-            return Answer(run.returncode, run.stdout, run.stderr, os.listdir(folder))
+            return Answer(run.returncode, run.stdout, run.stderr, left_in(folder, words, run.returncode))
 
     def run_stream(self, words, blocks):
         """The same over blocks of bytes that come through a pipe and never stand in memory together."""
@@ -69,7 +71,15 @@ class Program:
             feeder.join()
             run.stdout.close()
             run.stderr.close()
-            return Answer(run.wait(), output, errors, os.listdir(folder))
+            return Answer(run.wait(), output, errors, left_in(folder, words, run.returncode))
+
+
+def left_in(folder, words, status):
+    """The files of the folder, without the state of a pull that is done, which must be there."""
+    left = os.listdir(folder)
+    if status == 0 and words and words[0] in ('pull-hg', 'pull-git'):
+        left.remove(STATE)
+    return left
 
 
 def _feed(pipe, blocks):
