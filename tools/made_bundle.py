@@ -19,15 +19,16 @@ class Store:
         self.texts = texts
 
     def add(self, text, hunks):
-        """A node over the last one; its link, which isn't known yet, is put in by `chunks_linked`."""
+        """A node over the last one; its link, which isn't known yet, is put in by `linked`."""
         node = hg.node_id(self.node, NULL, text)
         self.chunks.append((node, self.node, b''.join(hunks)))
         self.node, self.text = node, text
         self.texts.write(text)
         return node
 
-    def chunks_linked(self, links):
-        return [hg.entry(node, p, NULL, link, delta) for (node, p, delta), link in zip(self.chunks, links)]
+    def linked(self, links):
+        """Pairs of a link node and the entry that has it."""
+        return [(link, hg.entry(node, p, NULL, link, delta)) for (node, p, delta), link in zip(self.chunks, links)]
 
 
 class File(Store):
@@ -57,6 +58,12 @@ def new_line(numbers):
 def write_bundle(count, path, texts_path, file_count=FILES, extras=b''):
     """A bundle in which each changeset changes one file, and the texts of all its revisions; the first changesets add the files, one each. The extras
     stand in each changeset behind its date."""
+    write_parts([count], [path], texts_path, file_count, extras)
+
+
+def write_parts(counts, paths, texts_path, file_count=FILES, extras=b''):
+    """The same in parts of so many changesets, each a bundle over those before it."""
+    count = sum(counts)
     numbers = random.Random(count)
     with open(texts_path, 'wb') as texts:
         files = [File(path_of(place, file_count), texts) for place in range(file_count)]
@@ -66,9 +73,20 @@ def write_bundle(count, path, texts_path, file_count=FILES, extras=b''):
             place = number if number < file_count else numbers.randrange(file_count)
             commit(number, place, files, lines, manifests, changesets, numbers, extras)
     nodes = [node for node, _, _ in changesets.chunks]
+    first = 0
+    for size, path in zip(counts, paths):
+        write_part(path, set(nodes[first:first + size]), changesets.linked(nodes), manifests.linked(nodes), [(f.path, f.linked(f.links)) for f in files])
+        first += size
+
+
+def write_part(path, links, changesets, manifests, files):
+    """The bundle of the entries of these changesets."""
+    def part(entries):
+        return [chunk for link, chunk in entries if link in links]
+
+    groups = [(name, part(entries)) for name, entries in files]
     with open(path, 'wb') as file:
-        file.write(hg.bundle(changesets.chunks_linked(nodes), manifests.chunks_linked(nodes),
-                             [(f.path, f.chunks_linked(f.links)) for f in files]))
+        file.write(hg.bundle(part(changesets), part(manifests), [(name, entries) for name, entries in groups if entries]))
 
 
 def path_of(place, file_count):

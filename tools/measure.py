@@ -1,11 +1,14 @@
 """Measures commands beside each other: elapsed time, processor time and peak memory."""
 import multiprocessing
 import os
+import shutil
 import subprocess
+import tempfile
 import time
 from typing import Dict, List, NamedTuple
 
 ROUNDS = 3
+STATE = 'hggit.state'
 MB = 1 << 20
 
 
@@ -25,11 +28,13 @@ def apart(work, *args):
         raise RuntimeError(f'{work.__name__} failed')
 
 
-def run_once(words, path, output=os.devnull):
-    """Runs a command over a file as its input; it must end with status 0."""
-    with open(path, 'rb') as source, open(output, 'wb') as sink:
+def run_once(words, path, output=os.devnull, state=None):
+    """Runs a command over a file as its input, in a folder of its own with a copy of a saved state, where one is given; it must end with status 0."""
+    with tempfile.TemporaryDirectory() as folder, open(path, 'rb') as source, open(output, 'wb') as sink:
+        if state:
+            shutil.copy(state, os.path.join(folder, STATE))
         start = time.perf_counter()
-        child = subprocess.Popen(words, stdin=source, stdout=sink)
+        child = subprocess.Popen(words, stdin=source, stdout=sink, cwd=folder)
         _, status, usage = os.wait4(child.pid, 0)
         elapsed = time.perf_counter() - start
     child.returncode = os.waitstatus_to_exitcode(status)
@@ -38,12 +43,12 @@ def run_once(words, path, output=os.devnull):
     return Run(elapsed, usage.ru_utime + usage.ru_stime, usage.ru_maxrss * 1024)
 
 
-def best_runs(commands: Dict[str, List], rounds=ROUNDS) -> Dict[str, Run]:
-    """For each named pair of words and input file the best times of some runs; the commands take turns."""
+def best_runs(commands: Dict[str, List], rounds=ROUNDS, state=None) -> Dict[str, Run]:
+    """For each named pair of words and input file the best times of some runs, over a saved state where one is given; the commands take turns."""
     runs = {name: [] for name in commands}
     for _ in range(rounds):
         for name, (words, path) in commands.items():
-            runs[name].append(run_once(words, path))
+            runs[name].append(run_once(words, path, state=state))
     return {name: best_of(some) for name, some in runs.items()}
 
 

@@ -1,0 +1,154 @@
+"""The folder in a Git repository where a sync keeps the saved state, and runs of the program over it."""
+import contextlib
+import fcntl
+import os
+import re
+import shutil
+import subprocess
+import sys
+import time
+
+from repositories import Fault, environment
+
+SLOT = 'hggit'
+STATE = 'hggit.state'
+LOCK = 'lock'
+NAMES = 'names'
+WORK = 'work'
+PIECE = 1 << 20
+REFUSED, BAD_STATE = 1, 6
+FIRST_LINE = b'hg-git-bridge 2\n'
+PAIR_SIZE = 82
+
+
+class Locked(Fault):
+    """Another run is at work."""
+
+
+class Refused(Fault):
+    """The program refused an input; the words are its line."""
+
+
+def program_path():
+    """HGGIT, or the program beside this tool, or built in this repository, or in the path."""
+    if os.environ.get('HGGIT'):
+        return os.path.abspath(os.environ['HGGIT'])
+    here = os.path.dirname(os.path.realpath(__file__))
+    for folder in (os.path.dirname(os.path.abspath(sys.argv[0])), here, os.path.join(os.path.dirname(here), 'build')):
+        path = os.path.join(folder, 'hggit')
+        if os.path.isfile(path) and os.access(path, os.X_OK):
+            return path
+    found = shutil.which('hggit')
+    if found is None:
+        raise Fault('the program hggit is neither beside this tool nor in the path; the variable HGGIT can name it')
+    return os.path.abspath(found)
+
+
+@contextlib.contextmanager
+def locked(folder, seconds):
+    """Holds the slot's folder; gives the lock's descriptor, so that programs which change something there can hold it too. It waits so long for
+    another run."""
+    os.makedirs(folder, exist_ok=True)
+    with open(os.path.join(folder, LOCK), 'wb') as file:
+        wait_for(file, folder, seconds)
+        clean(folder)
+        yield file.fileno()
+
+
+def wait_for(file, folder, seconds):
+    end = time.monotonic() + seconds
+    while True:
+        try:
+            fcntl.flock(file, fcntl.LOCK_EX | fcntl.LOCK_NB)
+            return
+        except BlockingIOError:
+            if time.monotonic() >= end:
+                raise Locked(f'another run holds {os.path.join(folder, LOCK)}') from None
+            time.sleep(0.05)
+
+
+def clean(folder):
+    """What a run that was killed left of its work is taken away; what counts is the state."""
+    shutil.rmtree(os.path.join(folder, WORK), ignore_errors=True)
+    os.makedirs(os.path.join(folder, WORK), exist_ok=True)
+
+
+class Slot:
+    """A folder with the saved state, the program, and the descriptor of the lock, if it is held."""
+
+    def __init__(self, folder, lock=None):
+        self.folder = folder
+        self.program = program_path()
+        self.keep = () if lock is None else (lock,)
+
+    def path(self, *names):
+        return os.path.join(self.folder, *names)
+
+    def has_state(self):
+        return os.path.exists(self.path(STATE))
+
+    def run(self, word, source, target):
+        """Runs a command of the program from a file, or nothing, to a file."""
+        try:
+            run = subprocess.run([self.program, word], stdin=source or subprocess.DEVNULL, stdout=target, stderr=subprocess.PIPE, cwd=self.folder,
+                                 env=environment(), pass_fds=self.keep)
+        except OSError as error:
+            raise Fault(f'{self.program}: {error.strerror}') from None
+        said = run.stderr.decode(errors='replace').strip()
+        if run.returncode == REFUSED:
+            raise Refused(said)
+        if run.returncode == BAD_STATE:
+            raise Fault(f'{self.path(STATE)} holds no state of this program ({said})')
+        if run.returncode:
+            raise Fault(f'hggit {word} ended with status {run.returncode}: {said or "it said nothing"}')
+
+    def pull(self, word, source_path, target_path):
+        with open(source_path, 'rb') as source, open(target_path, 'wb') as target:
+            self.run(word, source, target)
+
+    def dump(self, word, target_path):
+        with open(target_path, 'wb') as target:
+            self.run(word, None, target)
+
+    def pairs(self):
+        """The commit of each changeset and the changeset of each commit, as hex digits."""
+        if not self.has_state():
+            return Pairs('')
+        try:
+            return Pairs(pairs_text(self.path(STATE)))
+        except ValueError:
+            raise Fault(f'{self.path(STATE)} holds no state of this program') from None
+
+
+def pairs_text(path):
+    """The lines `GITHEX HGHEX` of a saved state: its third section (docs/state-file.md). What stands before them is passed over; a pull checks all of it."""
+    with open(path, 'rb') as file:
+        if file.readline() != FIRST_LINE:
+            raise ValueError('another version')
+        for word in (b'hg', b'git'):
+            file.seek(number_of(word, file.readline()) + 1, os.SEEK_CUR)
+        size = number_of(b'map', file.readline()) * PAIR_SIZE
+        text = file.read(size)
+    if len(text) != size:
+        raise ValueError('cut short')
+    return text.decode('ascii')
+
+
+def number_of(word, line):
+    """The number in the line of a word."""
+    match = re.fullmatch(word + rb' ([0-9]+)\n', line)
+    if match is None:
+        raise ValueError(f'no line of {word}')
+    return int(match[1])
+
+
+class Pairs:
+    """What is paired with what."""
+
+    def __init__(self, text):
+        pairs = [line.split(' ') for line in text.splitlines()]
+        self.changeset_of = dict(pairs)
+        self.commit_of = {changeset: commit for commit, changeset in pairs}
+
+    def __len__(self):
+        return len(self.commit_of)

@@ -1,0 +1,113 @@
+"""Bundles HG10UN in which each delta has what differs alone. The program's bundles replace whole texts, for which `hg unbundle` takes several times as long.
+
+Only deltas change: the texts and the nodes are the same, and hg checks each node.
+"""
+import itertools
+import re
+import struct
+
+MAGIC = b'HG10UN'
+HEADER = 80  # a node, its parents and its link node
+HUNK = struct.Struct('>III')
+
+
+def write_small(source, target):
+    """Reads a bundle from a file, and writes it to another."""
+    magic = source.read(len(MAGIC))
+    if magic != MAGIC:
+        raise ValueError('no bundle HG10UN')
+    target.write(magic)
+    copy_group(source, target)
+    copy_group(source, target)
+    while path := read_chunk(source):
+        write_chunk(target, path)
+        copy_group(source, target)
+    write_chunk(target, b'')
+
+
+def copy_group(source, target):
+    """The entries of a kind or a path, each over the text before it."""
+    before = None
+    while entry := read_chunk(source):
+        header, delta = entry[:HEADER], entry[HEADER:]
+        text = whole_text(before, delta)
+        if text is not None and before is not None:
+            delta = difference(before, text)
+        write_chunk(target, header + delta)
+        before = text
+    write_chunk(target, b'')
+
+
+def whole_text(before, delta):
+    """The text, where the delta puts it in place of the whole text before it; None where it doesn't, or that isn't known to be whole."""
+    if not delta:
+        return before
+    start, end, length = HUNK.unpack_from(delta)
+    is_whole = start == 0 and length + HUNK.size == len(delta) and before is not None and end == len(before)
+    if is_whole or before is None and start == 0 == end:
+        return delta[HUNK.size:]
+    return None
+
+
+def difference(before, text):
+    """Hunks of whole lines, as hg reads the lines of a manifest from its deltas; nothing where the texts are equal."""
+    if before == text:
+        return b''
+    front, back = shared_ends(before, text)
+    old, new = before[front:len(before) - back], text[front:len(text) - back]
+    return b''.join(HUNK.pack(start, end, len(lines)) + lines for start, end, lines in changes(front, old, new))
+
+
+def shared_ends(before, text):
+    """How many bytes of whole lines both begin with, and how many more both end with."""
+    most = min(len(before), len(text))
+    front = before.rfind(b'\n', 0, common(before, text, most)) + 1
+    back = common(before[::-1], text[::-1], most - front)
+    if not (begins_line(before, len(before) - back) and begins_line(text, len(text) - back)):
+        back = len(before) - (before.find(b'\n', len(before) - back) + 1 or len(before))
+    return front, back
+
+
+def changes(place, old, new):
+    """What differs between two pieces at this place: lines in a row with the beginning and the end of those that they replace. Where the pieces have as many
+    lines, each is compared with the one in its row."""
+    rows = list(zip(lines_of(old), lines_of(new)))
+    if len(rows) != len(lines_of(old)) or len(rows) != len(lines_of(new)):
+        yield place, place + len(old), new
+        return
+    for differ, run in itertools.groupby(rows, lambda row: row[0] != row[1]):
+        run = list(run)
+        end = place + sum(len(line) for line, _ in run)
+        if differ:
+            yield place, end, b''.join(line for _, line in run)
+        place = end
+
+
+def lines_of(piece):
+    return re.findall(rb'[^\n]*\n|[^\n]+', piece)
+
+
+def begins_line(text, place):
+    return place == 0 or text[place - 1:place] == b'\n'
+
+
+def common(one, other, most):
+    """How many bytes both begin with, at most so many."""
+    low, high = 0, most
+    while low < high:
+        middle = (low + high + 1) // 2
+        if one[low:middle] == other[low:middle]:
+            low = middle
+        else:
+            high = middle - 1
+    return low
+
+
+def read_chunk(source):
+    """The payload of a chunk; nothing of an empty one, and at the end."""
+    length = int.from_bytes(source.read(4), 'big')
+    return source.read(length - 4) if length else b''
+
+
+def write_chunk(target, payload):
+    target.write(struct.pack('>I', len(payload) + 4 if payload else 0) + payload)
