@@ -7,7 +7,7 @@ use Rattle.text_model.specs.Text.{Bytes}
 use Rattle.hg_model.specs.Bundle.{ListsBundle}
 use Rattle.state_model.specs.Kept.{State, empty_state}
 use Rattle.state_model.specs.Saved.{SlotHolds}
-use Rattle.saved_model.specs.Command.{Command, Written, Refused, reads_input, reads_slot, ComesTo, BeginsWith}
+use Rattle.command_model.specs.Command.{Command, Written, Refused, reads_input, reads_slot, ComesTo, BeginsWith}
 use Rattle.bridge_text.specs.Refusals.{refusal_value}
 use Rattle.bridge_cli.specs.Over.{ToldOf, HeldBy, Over}
 use Rattle.bridge_cli.specs.Makes.{IsTextOf, IsEndAlone, MakesAlone, IsEndOf, Makes, ListsTheBundle, WorksTheListing}

@@ -6,8 +6,8 @@ use Rattle.text_model.specs.Fault.{Refusal}
 use Rattle.text_model.proofs.Options.{none_some}
 use Rattle.state_model.specs.Kept.{State, empty_state}
 use Rattle.state_model.specs.Saved.{SlotHolds}
-use Rattle.saved_model.specs.Run.{Report, Done, IsRefused, Usage, ReadFault, WriteFault, SlotFault, StateBad, Memory, BadState}
-use Rattle.saved_model.specs.Command.{Command, Refused, reads_input, reads_slot, ComesTo, BeginsWith, IsBadSlot}
+use Rattle.command_model.specs.Run.{Report, Done, IsRefused, Usage, ReadFault, WriteFault, SlotFault, StateBad, Memory, BadState}
+use Rattle.command_model.specs.Command.{Command, Refused, reads_input, reads_slot, ComesTo, BeginsWith, IsBadSlot}
 use Rattle.history_law.proofs.States.{slot-one}
 use Rattle.bridge_cli.specs.Over.{ToldOf, HeldBy, Over}
 use Rattle.bridge_cli.specs.Ends.{EndsBy}

@@ -10,7 +10,8 @@ use Rattle.hg_model.specs.Reading.{bundle_reading}
 use Rattle.git_model.specs.Stream.{Placed, stream_reading}
 use Rattle.git_model.specs.Object.{Object}
 use Rattle.state_model.specs.Kept.{empty_state}
-use Rattle.saved_model.specs.Command.{CheckHg, CheckGit, Written, is_manifests, is_files, revision_counts, object_counts, written_of, ComesTo}
+use Rattle.saved_model.specs.Written.{is_manifests, is_files, revision_counts, object_counts}
+use Rattle.command_model.specs.Command.{CheckHg, CheckGit, Written, written_of, ComesTo}
 use Rattle.history_model.specs.Pull.{is_changesets}
 use Rattle.hg_bundle.specs.declared.arrival.Arrival.{Arrival}
 use Rattle.git_batch.specs.declared.arrival.ObjectArrival.{ObjectArrival}

@@ -6,7 +6,7 @@ use Rattle.std.specs.Io.KnownBytes.{Appends, IsAtEnd}
 use Rattle.text_model.specs.Text.{Bytes}
 use Rattle.bridge_io.specs.Sink.{AppendsPrefix}
 use Rattle.state_model.specs.Kept.{State}
-use Rattle.saved_model.specs.Command.{Command, Written, reads_input, ComesTo}
+use Rattle.command_model.specs.Command.{Command, Written, reads_input, ComesTo}
 use Rattle.bridge_cli.specs.Over.{Over}
 use Rattle.bridge_cli.specs.Ends.{Keeps, EndsBy}
 use Rattle.bridge_cli.specs.Makes.{IsTextOf, IsEndOf, Stores, Finishes}

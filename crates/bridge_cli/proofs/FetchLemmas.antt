@@ -4,7 +4,7 @@ use Rattle.std.specs.Prelude.{Bool, Result, IfSome, OnOk}
 use Rattle.text_model.specs.Text.{Bytes, IsBytes}
 use Rattle.state_model.specs.Kept as model
 use Rattle.state_model.specs.Saved.{SlotHolds, IsStateText}
-use Rattle.saved_model.specs.Command.{IsBadSlot}
+use Rattle.command_model.specs.Command.{IsBadSlot}
 use Rattle.bridge_io.specs.Slot.{FetchGives}
 use Rattle.bridge_io.specs.declared.slot.SlotFault.{SlotFault}
 use Rattle.pair_state.specs.declared.state.State.{State}

@@ -9,8 +9,8 @@ use Rattle.state_model.specs.Kept.{State}
 use Rattle.state_model.specs.Limits.{slot_limit}
 use Rattle.state_model.specs.Text.{Sections, sections_of, section_text, text_up_to, state_text, version_word, version}
 use Rattle.state_model.specs.Saved.{IsStateText, IsVersionFault, SectionsHold, SectionsFit}
-use Rattle.saved_model.specs.Run.{BadState, TooLong, OtherVersion, BadShape}
-use Rattle.saved_model.specs.Command.{IsBadSlot}
+use Rattle.command_model.specs.Run.{BadState, TooLong, OtherVersion, BadShape}
+use Rattle.command_model.specs.Command.{IsBadSlot}
 
 -- ---- sections
 

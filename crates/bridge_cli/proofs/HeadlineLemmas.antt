@@ -6,9 +6,10 @@ use Rattle.text_model.specs.Fault.{Refusal}
 use Rattle.state_model.specs.Kept.{State, Kept, kept_of, with_kept}
 use Rattle.state_model.specs.Saved.{SlotHolds}
 use Rattle.saved_model.specs.Step.{Pull, OfBundle, OfStream, Steps, Refuses}
-use Rattle.saved_model.specs.Run.{Report, Done, IsRefused, Usage, ReadFault, WriteFault, SlotFault, StateBad, Memory}
-use Rattle.saved_model.specs.Command.{Command, ListHg, CheckHg, ListGit, CheckGit, PullHg, PullGit, DumpHg, DumpGit, Map, IsKept}
-use Rattle.saved_model.specs.Theorem.{IsSaved, GoesOn, EndsAs, Headline}
+use Rattle.command_model.specs.Run.{Report, Done, IsRefused, Usage, ReadFault, WriteFault, SlotFault, StateBad, Memory}
+use Rattle.command_model.specs.Command.{Command, ListHg, CheckHg, ListGit, CheckGit, PullHg, PullGit, DumpHg, DumpGit, Map, SetNamesHg, SetNamesGit, NamesHg, NamesGit, IsKept}
+use Rattle.saved_model.specs.Theorem.{IsSaved, GoesOn}
+use Rattle.command_model.specs.Headline.{EndsAs, Headline}
 use Rattle.history_law.proofs.States.{done, stopped}
 use Rattle.bridge_cli.specs.Ends.{EndsBy}
 use Rattle.bridge_cli.specs.Status.{status_of}
@@ -33,6 +34,10 @@ headline-holds CheckGit input rest old new slot kept report ends same = tt
 headline-holds DumpHg input rest old new slot kept report ends same = tt
 headline-holds DumpGit input rest old new slot kept report ends same = tt
 headline-holds Map input rest old new slot kept report ends same = tt
+headline-holds SetNamesHg input rest old new slot kept report ends same = tt
+headline-holds SetNamesGit input rest old new slot kept report ends same = tt
+headline-holds NamesHg input rest old new slot kept report ends same = tt
+headline-holds NamesGit input rest old new slot kept report ends same = tt
 headline-holds PullHg None rest old new slot kept report ends same = tt
 headline-holds PullHg (Some x) rest old new None kept report ends same = tt
 headline-holds PullHg (Some x) rest old new (Some held) None report ends same = tt
@@ -103,6 +108,10 @@ same-headline CheckGit input slot kept r q e h = tt
 same-headline DumpHg input slot kept r q e h = tt
 same-headline DumpGit input slot kept r q e h = tt
 same-headline Map input slot kept r q e h = tt
+same-headline SetNamesHg input slot kept r q e h = tt
+same-headline SetNamesGit input slot kept r q e h = tt
+same-headline NamesHg input slot kept r q e h = tt
+same-headline NamesGit input slot kept r q e h = tt
 same-headline PullHg None slot kept r q e h = tt
 same-headline PullHg (Some x) None kept r q e h = tt
 same-headline PullHg (Some x) (Some before) None r q e h = tt

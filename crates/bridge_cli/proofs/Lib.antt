@@ -9,3 +9,5 @@ pub mod HeadlineLemmas
 pub mod RunLemmas
 pub mod GoodText
 pub mod CompleteLemmas
+pub mod NamedLemmas
+pub mod AcrossLemmas

@@ -3,7 +3,7 @@ use Rattle.std.proofs.Common.{◌≡◌, Bool, true, false, [], Option, None, So
 use Rattle.std.specs.Prelude.{unwrap_or, IfSome}
 use Rattle.text_model.specs.Text.{Bytes}
 use Rattle.state_model.specs.Kept.{State}
-use Rattle.saved_model.specs.Command.{Command, reads_input, reads_slot}
+use Rattle.command_model.specs.Command.{Command, reads_input, reads_slot}
 use Rattle.bridge_cli.specs.Over.{ToldOf, HeldBy, Over}
 
 pub some-is : {X : Type 0} {x y : X} → Some x ≡ Some y → x ≡ y

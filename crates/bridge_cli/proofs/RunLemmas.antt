@@ -7,9 +7,9 @@ use Rattle.text_model.specs.Fault.{Refusal}
 use Rattle.text_model.proofs.Options.{none_some}
 use Rattle.bridge_io.specs.Causes.{HasCause}
 use Rattle.bridge_io.specs.Sink.{AppendsPrefix}
-use Rattle.saved_model.specs.Run.{Report, Done, IsRefused}
-use Rattle.saved_model.specs.Command.{Command}
-use Rattle.saved_model.specs.Theorem.{Headline}
+use Rattle.command_model.specs.Run.{Report, Done, IsRefused}
+use Rattle.command_model.specs.Command.{Command}
+use Rattle.command_model.specs.Headline.{Headline}
 use Rattle.bridge_cli.specs.Ends.{EndsBy}
 use Rattle.bridge_cli.specs.Outside.{TakesOrFails}
 use Rattle.bridge_cli.specs.Report.{report_value}

@@ -4,7 +4,7 @@ use Rattle.text_model.specs.Text.{Bytes}
 use Rattle.text_model.specs.Fault.{Refusal}
 use Rattle.bridge_io.specs.Causes.{Rose}
 use Rattle.state_model.specs.Kept.{State}
-use Rattle.saved_model.specs.Command.{Command, Refused, reads_input, reads_slot, ComesTo, BeginsWith}
+use Rattle.command_model.specs.Command.{Command, Refused, reads_input, reads_slot, ComesTo, BeginsWith}
 use Rattle.bridge_cli.specs.declared.status.Status.{Status}
 use Rattle.bridge_cli.specs.declared.status.Status.TheVariants.{Done, Memory}
 

@@ -2,7 +2,7 @@
 use Rattle.std.specs.Prelude.{◌++◌, List, codes}
 use Rattle.text_model.specs.Text.{Bytes}
 use Rattle.text_model.specs.Id.{blob, tree, commit, tag}
-use Rattle.saved_model.specs.Command.{count_line}
+use Rattle.saved_model.specs.Written.{count_line}
 use Rattle.hg_bundle.specs.declared.arrival.Arrival.{Arrival}
 use Rattle.hg_bundle.specs.declared.arrival.RevKind.TheVariants.{Changeset, Manifest, File}
 use Rattle.hg_bundle.specs.Arrivals.{count_of_kind}

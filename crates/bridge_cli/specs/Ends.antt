@@ -4,8 +4,8 @@ use Rattle.std.specs.Io.KnownBytes.{Appends, IsAtEnd}
 use Rattle.text_model.specs.Text.{Bytes}
 use Rattle.bridge_io.specs.Sink.{AppendsPrefix}
 use Rattle.state_model.specs.Kept.{State}
-use Rattle.saved_model.specs.Run.{Report, Done, IsRefused, Usage, ReadFault, WriteFault, SlotFault, StateBad, Memory}
-use Rattle.saved_model.specs.Command.{Command, Written, Refused, command_of, reads_input, reads_slot, ComesTo, BeginsWith, IsBadSlot, IsKept}
+use Rattle.command_model.specs.Run.{Report, Done, IsRefused, Usage, ReadFault, WriteFault, SlotFault, StateBad, Memory}
+use Rattle.command_model.specs.Command.{Command, Written, Refused, command_of, reads_input, reads_slot, ComesTo, BeginsWith, IsBadSlot, IsKept}
 use Rattle.bridge_cli.specs.Over.{HeldBy, Over}
 
 -- the slot holds the text of the state that the command saves, or what it held

@@ -4,7 +4,7 @@ use Rattle.text_model.specs.Text.{Bytes, IsBytes}
 use Rattle.state_model.specs.Kept as model
 use Rattle.state_model.specs.Text.{state_text}
 use Rattle.state_model.specs.Saved.{SlotHolds, IsStateText}
-use Rattle.saved_model.specs.Command.{IsBadSlot}
+use Rattle.command_model.specs.Command.{IsBadSlot}
 use Rattle.pair_state.specs.declared.state.State.{State}
 use Rattle.pull_engine.specs.Read.{IsReadState}
 use Rattle.bridge_cli.specs.Report.{bad_value}

@@ -5,6 +5,7 @@ pub mod Makes
 pub mod Outside
 pub mod Report
 pub mod Status
+pub mod Sides
 pub mod Steps
 pub mod Fetched
 pub mod Complete

@@ -11,7 +11,7 @@ use Rattle.state_model.specs.Kept.{State, empty_state}
 use Rattle.state_model.specs.Saved.{IsState, IsStateText}
 use Rattle.pair_state.specs.declared.state.State as pair
 use Rattle.state_text.specs.Stands.{Stands}
-use Rattle.saved_model.specs.Command.{Command, Written, Refused, reads_input, reads_slot, ComesTo, BeginsWith, IsBadSlot}
+use Rattle.command_model.specs.Command.{Command, Written, Refused, reads_input, reads_slot, ComesTo, BeginsWith, IsBadSlot}
 use Rattle.bridge_text.specs.Refusals.{refusal_value}
 use Rattle.bridge_cli.specs.Over.{HeldBy, Over}
 use Rattle.bridge_cli.specs.Report.{bad_value}

@@ -2,7 +2,7 @@
 use Rattle.std.specs.Prelude.{◌≡◌, Bool, [], Option, None, IfSome, MatchBool}
 use Rattle.text_model.specs.Text.{Bytes}
 use Rattle.state_model.specs.Kept.{State}
-use Rattle.saved_model.specs.Command.{Command, reads_input, reads_slot, BeginsWith}
+use Rattle.command_model.specs.Command.{Command, reads_input, reads_slot, BeginsWith}
 
 -- what is said of the bytes of an input that a command reads, where it tells them; one that it doesn't read has none
 abbrev pub ToldOf : Bool → Option Bytes → (Bytes → Type 0) → Type 0

@@ -6,11 +6,13 @@ use Rattle.git_batch.specs.declared.fault.BatchFault as batch_fault
 use Rattle.git_batch.specs.StreamFaults.{stream_fault}
 use Rattle.git_batch.specs.declared.stream_fault.StreamFault as object_fault
 use Rattle.git_batch.specs.declared.stream_fault.StreamFault.TheVariants as object
-use Rattle.saved_model.specs.Run as report
+use Rattle.command_model.specs.Run as report
 use Rattle.state_text.specs.declared.fault.StateFault.{StateFault}
 use Rattle.state_text.specs.declared.fault.StateFault.TheVariants as state
 use Rattle.pull_outcome.specs.declared.refused.PullFault.{PullFault}
 use Rattle.pull_outcome.specs.declared.refused.PullFault.TheVariants as pull
+use Rattle.name_engine.specs.declared.fault.SetFault.{SetFault}
+use Rattle.name_engine.specs.declared.fault.SetFault.TheVariants as set
 use Rattle.bridge_cli.specs.declared.report.Report as code_report
 use Rattle.bridge_cli.specs.declared.report.Report.TheVariants as code
 use Rattle.bridge_cli.specs.declared.report.BadState as code_bad
@@ -52,6 +54,12 @@ abbrev pub pull_report : PullFault → code_report.Report
 pull_report (pull.Refused why) = code.Refused why
 pull_report pull.Read = code.ReadFault
 pull_report pull.Memory = code.Memory
+
+-- how a run ends that sets no names
+abbrev pub set_report : SetFault → code_report.Report
+set_report (set.Refused why) = code.Refused why
+set_report set.Read = code.ReadFault
+set_report set.Memory = code.Memory
 
 -- how a run ends whose slot holds the text of no state
 abbrev pub state_report : StateFault → code_report.Report

@@ -1,11 +1,11 @@
 -- The statuses and commands of the code, as those of the definitions.
 use Rattle.std.specs.Prelude.{ℕ}
-use Rattle.saved_model.specs.Command as command
-use Rattle.saved_model.specs.Run as report
+use Rattle.command_model.specs.Command as command
+use Rattle.command_model.specs.Run as report
 use Rattle.bridge_cli.specs.declared.status.Status.{Status}
 use Rattle.bridge_cli.specs.declared.status.Status.TheVariants.{Done, Refused, Usage, ReadFault, WriteFault, SlotFault, StateBad, Memory, Mismatch}
 use Rattle.bridge_cli.specs.declared.words.Command.{Command}
-use Rattle.bridge_cli.specs.declared.words.Command.TheVariants.{ListHg, CheckHg, ListGit, CheckGit, PullHg, PullGit, DumpHg, DumpGit, Map}
+use Rattle.bridge_cli.specs.declared.words.Command.TheVariants.{ListHg, CheckHg, ListGit, CheckGit, PullHg, PullGit, DumpHg, DumpGit, Map, SetNamesHg, SetNamesGit, NamesHg, NamesGit}
 
 abbrev pub command_value : Command → command.Command
 command_value ListHg = command.ListHg
@@ -17,6 +17,10 @@ command_value PullGit = command.PullGit
 command_value DumpHg = command.DumpHg
 command_value DumpGit = command.DumpGit
 command_value Map = command.Map
+command_value SetNamesHg = command.SetNamesHg
+command_value SetNamesGit = command.SetNamesGit
+command_value NamesHg = command.NamesHg
+command_value NamesGit = command.NamesGit
 
 -- the exit status of the program
 abbrev pub code_of : Status → ℕ

@@ -3,7 +3,7 @@ use Rattle.std.specs.Prelude.{◌≡◌, ◌≤◌, ℕ, Option, Some, None}
 use Rattle.text_model.specs.Text.{Bytes}
 use Rattle.state_model.specs.Kept.{kept_of}
 use Rattle.saved_model.specs.Step.{known_of}
-use Rattle.saved_model.specs.Command.{Command, PullHg, PullGit}
+use Rattle.command_model.specs.Command.{Command, PullHg, PullGit}
 use Rattle.pull_outcome.specs.Steps.{StepsHg, StepsGit}
 use Rattle.bridge_cli.specs.Over.{OverAny}
 

@@ -2,10 +2,11 @@
 ghost use Rattle.std.specs.Prelude.{◌≡◌, ◌≢◌, ◌↔◌, OnOk, IfSome, None, Some, false};
 ghost use Rattle.std.specs.Io.KnownBytes.{IsAtEnd};
 ghost use Rattle.bridge_io.specs.Sink.{IsOut};
-ghost use Rattle.saved_model.specs.Command as model;
-ghost use Rattle.saved_model.specs.Command.{command_of, reads_input, reads_slot};
-ghost use Rattle.saved_model.specs.Run as run;
-ghost use Rattle.saved_model.specs.Theorem.{Headline};
+ghost use Rattle.command_model.specs.Command as model;
+ghost use Rattle.command_model.specs.Command.{command_of, reads_input, reads_slot};
+ghost use Rattle.command_model.specs.Run as run;
+ghost use Rattle.command_model.specs.Headline.{Headline};
+ghost use Rattle.command_model.specs.Across.{NamesLaw};
 ghost use Rattle.bridge_cli.specs.Complete.{Completes, NoFault};
 ghost use Rattle.bridge_cli.specs.Ends.{Ends, EndsBy};
 ghost use Rattle.bridge_cli.specs.Makes.{Finishes};
@@ -42,6 +43,12 @@ pub fn run<I: Source, O: Sink, E: Sink, K: Slot, L: Ledger>(
     // leaves the history of that list and this pull, and one that is refused leaves all as it was.
     ensures headline { (command : model.Command) → command_of words.now ≡ Some command → (report : run.Report) → result ≡ status_of report
         → Headline command (I.left input.old) (K.held slot.old) (K.held slot.new) report }
+
+    // What one side sets comes back from the other, and a pull leaves it. Behind a run that is done and sets names, what the command of either side
+    // writes of them leaves the state as it is where that side sets it again. Behind a pull that is done the names are those that were there, and
+    // the command of either side writes the same of them.
+    ensures names { (command : model.Command) → command_of words.now ≡ Some command → result ≡ Status.Done
+        → NamesLaw command (I.left input.old) (K.held slot.old) (K.held slot.new) }
 
     ensures usage { (result ≡ Status.Usage) ↔ (command_of words.now ≡ None) }
     ensures untouched { result ≡ Status.Usage → (input.new ≡ input.old) × (output.new ≡ output.old) × (slot.new ≡ slot.old) }

@@ -1,7 +1,7 @@
 // What a check prints: how many revisions or objects of each kind there are.
 ghost use Rattle.std.specs.Prelude.{◌≡◌, ◌++◌, IfOk, OnOk};
 ghost use Rattle.std.specs.Io.{StartsWith};
-ghost use Rattle.saved_model.specs.Command.{count_line};
+ghost use Rattle.saved_model.specs.Written.{count_line};
 ghost use Rattle.bridge_cli.specs.Counts.{arrival_counts, stream_counts};
 
 use bridge_text::{Kind, NoMemory, decimal_into};

@@ -5,6 +5,7 @@ mod command;
 mod counts;
 mod fetch;
 mod line;
+mod names;
 mod output;
 mod report;
 mod saved;

@@ -1,6 +1,6 @@
 // The line that a run prints on its errors, built without memory.
 ghost use Rattle.std.specs.Prelude.{◌≡◌, ◌≤◌, length};
-ghost use Rattle.saved_model.specs.Run.{BadShape, refused_line, state_line, report_line};
+ghost use Rattle.command_model.specs.Run.{BadShape, refused_line, state_line, report_line};
 ghost use Rattle.bridge_text.specs.Refusals.{refusal_value};
 ghost use Rattle.bridge_cli.specs.Report.{bad_value, report_value};
 

@@ -1,12 +1,13 @@
 // What each command is to write.
 ghost use Rattle.std.specs.Prelude.{◌≡◌, false, None, IfOk};
-ghost use Rattle.saved_model.specs.Command as model;
-ghost use Rattle.saved_model.specs.Command.{reads_input, reads_slot};
+ghost use Rattle.command_model.specs.Command as model;
+ghost use Rattle.command_model.specs.Command.{reads_input, reads_slot};
 ghost use Rattle.bridge_cli.specs.Makes.{LeavesCount, LeavesSlotCount, ListsTheBundle, Makes, MakesAlone, WorksTheListing};
 ghost use Rattle.bridge_cli.specs.Status.{command_value};
 ghost use Rattle.bridge_cli.specs.Steps.{StepsOf};
 
 use crate::counts::{object_counts, revision_counts};
+use crate::names::{names_of_text, text_of_names};
 use crate::report::Report;
 use crate::saved::{
     bundle_of_history, changesets_of_stream, commits_of_bundle, map_of_history, stream_of_history,
@@ -16,6 +17,7 @@ use crate::work::Work;
 use bridge_io::{Slot, Source, Steps};
 use git_store::GitStore;
 use hg_store::HgStore;
+use name_engine::Side;
 use std::alloc::Global;
 use std::sync::ledger::Ledger;
 
@@ -48,6 +50,10 @@ pub fn work_of<I: Source, K: Slot, L: Ledger>(
         Command::DumpHg => bundle_of_history(alloc, slot),
         Command::DumpGit => stream_of_history(alloc, slot),
         Command::Map => map_of_history(alloc, slot),
+        Command::SetNamesHg => names_of_text(alloc, Side::Hg, input, slot),
+        Command::SetNamesGit => names_of_text(alloc, Side::Git, input, slot),
+        Command::NamesHg => text_of_names(alloc, Side::Hg, slot),
+        Command::NamesGit => text_of_names(alloc, Side::Git, slot),
     }
 }
 

@@ -1,6 +1,6 @@
 // How a run ends, with what is printed of it.
 ghost use Rattle.std.specs.Prelude.{◌≡◌};
-ghost use Rattle.bridge_cli.specs.Report.{bundle_report, objects_report, pull_report, report_value, state_report, stream_report};
+ghost use Rattle.bridge_cli.specs.Report.{bundle_report, objects_report, pull_report, report_value, set_report, state_report, stream_report};
 ghost use Rattle.bridge_cli.specs.Status.{status_of};
 ghost use Rattle.bridge_cli.specs.declared.report.Report.TheVariants.{Memory};
 
@@ -8,6 +8,7 @@ use crate::status::Status;
 use bridge_text::{NoMemory, Refusal};
 use git_batch::{BatchFault, StreamFault};
 use hg_bundle::BundleFault;
+use name_engine::SetFault;
 use pull_engine::PullFault;
 use state_text::StateFault;
 
@@ -101,6 +102,18 @@ impl From<PullFault> for Report {
             PullFault::Refused(why) => Report::Refused(why),
             PullFault::Read => Report::ReadFault,
             PullFault::Memory => Report::Memory,
+        }
+    }
+}
+
+impl From<SetFault> for Report {
+    ghost from_gives = { λ fault e. e ≡ set_report fault };
+
+    fn from(fault: SetFault) -> Report {
+        match fault {
+            SetFault::Refused(why) => Report::Refused(why),
+            SetFault::Read => Report::ReadFault,
+            SetFault::Memory => Report::Memory,
         }
     }
 }

@@ -1,7 +1,7 @@
 // The commands over a saved state.
 ghost use Rattle.std.specs.Prelude.{◌≡◌, ℕ, Option, IfOk};
 ghost use Rattle.text_model.specs.Text.{Bytes};
-ghost use Rattle.saved_model.specs.Command as model;
+ghost use Rattle.command_model.specs.Command as model;
 ghost use Rattle.state_model.specs.Kept as saved;
 ghost use Rattle.state_model.specs.Saved.{IsState, IsStateText};
 ghost use Rattle.state_text.specs.Stands.{Stands};
@@ -104,8 +104,8 @@ fn saved_work(pulled: Pulled) -> Result<Work, NoMemory>
     })
 }
 
-// The text of a state.
-fn text_of(state: &State) -> Result<Vec<u8>, NoMemory>
+/// The text of a state.
+pub fn text_of(state: &State) -> Result<Vec<u8>, NoMemory>
     requires stands { (m : saved.State) × Stands state.now m }
     ensures { IfOk result (λ text. (m : saved.State) → Stands state.now m → IsState m → IsStateText text.items m) }
 {

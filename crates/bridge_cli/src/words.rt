@@ -1,6 +1,6 @@
 // The words of a command line.
 ghost use Rattle.std.specs.Prelude.{◌≡◌, ◌++◌, ◌∷◌, [], List, ℕ, OnOk, OnErr, option_map};
-ghost use Rattle.saved_model.specs.Command.{command_of};
+ghost use Rattle.command_model.specs.Command.{command_of, command_named, names_commands};
 ghost use Rattle.bridge_cli.specs.Status.{command_value};
 
 use bridge_text::{Bytes, NoMemory};
@@ -28,6 +28,14 @@ pub enum Command {
     DumpGit,
     /// Write the ids of each commit and its changeset.
     Map,
+    /// Set the names that a text of Mercurial's side gives.
+    SetNamesHg,
+    /// Set the names that a text of refs gives.
+    SetNamesGit,
+    /// Write the names for Mercurial's side.
+    NamesHg,
+    /// Write the names as refs.
+    NamesGit,
 }
 
 /// The words of a command line, after the program's name.
@@ -105,6 +113,24 @@ fn command_named(word: &[u8]) -> Option<Command>
     }
     if b"map".as_slice() == word {
         return Some(Command::Map);
+    }
+    command_on_names(word)
+}
+
+fn command_on_names(word: &[u8]) -> Option<Command>
+    ensures { option_map command_value result ≡ command_named word.now names_commands }
+{
+    if b"set-names-hg".as_slice() == word {
+        return Some(Command::SetNamesHg);
+    }
+    if b"set-names-git".as_slice() == word {
+        return Some(Command::SetNamesGit);
+    }
+    if b"names-hg".as_slice() == word {
+        return Some(Command::NamesHg);
+    }
+    if b"names-git".as_slice() == word {
+        return Some(Command::NamesGit);
     }
     None
 }

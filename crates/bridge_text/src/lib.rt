@@ -30,7 +30,7 @@ pub use kind::{Added, Kind};
 pub use laws::{decimal_laws, escape_laws, hex_laws, node_laws};
 pub use limits::{
     CHANGESET_LIMIT, COMMIT_LIMIT, COMPONENT_LIMIT, DUMP_LIMIT, INPUT_LIMIT, LINK_LIMIT,
-    PARENT_LIMIT, PATH_LIMIT, ROWS_LIMIT, SLOT_LIMIT, SUM_LIMIT, TEXT_LIMIT,
+    NAME_LIMIT, PARENT_LIMIT, PATH_LIMIT, REF_LIMIT, ROWS_LIMIT, SLOT_LIMIT, SUM_LIMIT, TEXT_LIMIT,
 };
 pub use memory::NoMemory;
 pub use path::{fit_name, fit_path};

@@ -35,3 +35,9 @@ pub const CHANGESET_LIMIT: usize = 1_000_000;
 
 /// The links of a block: a commit of `PARENT_LIMIT` parents has two fewer.
 pub const LINK_LIMIT: u8 = 62;
+
+/// The bytes of a ref's name.
+pub const REF_LIMIT: usize = 4096;
+
+/// The names of a saved state.
+pub const NAME_LIMIT: usize = 100_000;

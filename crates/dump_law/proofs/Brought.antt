@@ -18,7 +18,7 @@ use Rattle.git_model.proofs.RowOrder.{each_ordered}
 use Rattle.view_model.specs.View.{ChangesetView, IsChangesetView, IsRevision, AreManifestParents, Row, ManifestParents, NoManifest, Over, changeset_node}
 use Rattle.view_model.specs.Dump.{manifest_revision, file_revision, revisions_of, revisions_in, brought_by, of_group, path_of_group, paths_in, written_from, written_group, written_file, written_bundle}
 use Rattle.state_model.specs.Kept.{hg_dump}
-use Rattle.hg_dump.proofs.PathLemmas.{has, has-in_order, has-first}
+use Rattle.path_law.proofs.Order.{has, has-in_order, has-first}
 use Rattle.hg_dump.proofs.OnceLemmas.{Each-filter, Each-new}
 use Rattle.hg_dump_law.proofs.Known.{is_of-is}
 use Rattle.dump_law.proofs.Elements.{of-first}

@@ -28,7 +28,7 @@ use Rattle.hg_bundle.specs.Arrivals.{refused, revisions_of}
 use Rattle.hg_bundle.proofs.Reading.{arrivals_of, ends_Ok, ends_Err, reading_is, magic_refused}
 use Rattle.hg_bundle.proofs.Groups.{framing_payload}
 use Rattle.hg_bundle.proofs.Taken.{Brings, entry_brings, path_brings, err_ok, same_ok}
-use Rattle.hg_dump.proofs.PathLemmas.{has, IsUp, AreApart, up-in_order, apart-first}
+use Rattle.path_law.proofs.Order.{has, IsUp, AreApart, up-in_order, apart-first}
 use Rattle.hg_dump.proofs.OnceLemmas.{Each-filter}
 use Rattle.hg_dump_law.specs.Taken.{in_bundle_order}
 use Rattle.dump_law.proofs.Bundles.{delta-long}

@@ -16,6 +16,8 @@ pub mod StreamRead
 pub mod Commits
 pub mod Parts
 pub mod CommitsHeld
+pub mod Blocks
+pub mod Names
 pub mod TextOne
 pub mod Sums
 pub mod Same

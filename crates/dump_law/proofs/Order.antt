@@ -12,7 +12,7 @@ use Rattle.view_model.specs.View.{ChangesetView, changeset_node}
 use Rattle.view_model.specs.Held.{AreChangesetsHeld}
 use Rattle.view_model.specs.Dump.{revisions_in, brought_by, of_group, paths_in}
 use Rattle.state_model.specs.Saved.{AreDumped}
-use Rattle.hg_dump.proofs.PathLemmas.{has, AreApart}
+use Rattle.path_law.proofs.Order.{has, AreApart}
 use Rattle.hg_dump_law.specs.Taken.{in_bundle_order}
 use Rattle.hg_dump_law.proofs.Known.{new-known, new-first}
 use Rattle.dump_law.proofs.News.{only_new-nothing}

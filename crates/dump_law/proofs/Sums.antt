@@ -26,7 +26,7 @@ use Rattle.view_model.specs.Dump.{revisions_in, brought_by, of_group, path_of_gr
 use Rattle.pair_model.specs.Block.{Block, changesets_in, commits_in}
 use Rattle.state_model.specs.Kept.{hg_dump, git_dump}
 use Rattle.state_model.specs.Limits.{dump_limit}
-use Rattle.hg_dump.proofs.PathLemmas.{has}
+use Rattle.path_law.proofs.Order.{has}
 use Rattle.dump_law.specs.Grown.{added_entries}
 use Rattle.dump_law.specs.Sizes.{entries_size, file_size, BundleSize, StreamSize, added_to, paths_among, added_size, BundleGrows, LimitIsKept}
 use Rattle.dump_law.proofs.News.{first_of_each-append}

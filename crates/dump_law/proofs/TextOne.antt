@@ -1,5 +1,5 @@
 -- A text is that of one state.
-use Rattle.std.proofs.Common.{◌≡◌, ◌<◌, ◌^◌, ℕ, false, true≢false, List, [], ◌∷◌, ◌++◌, length, decimal, codes, refl, sym, ap, ◌∙◌, arith, append_assoc}
+use Rattle.std.proofs.Common.{◌≡◌, ◌<◌, ◌^◌, ℕ, false, true≢false, List, [], ◌∷◌, ◌++◌, length, decimal, codes, refl, sym, ap, subst, ◌∙◌, arith, append_assoc}
 use Rattle.std.specs.Prelude.{IsTrue}
 use Rattle.std.proofs.lemmas.List.{append_cancel_left}
 use Rattle.text_model.specs.Lists.{Each}
@@ -10,15 +10,20 @@ use Rattle.view_model.specs.View.{ChangesetView}
 use Rattle.view_model.specs.Dump.{objects_in}
 use Rattle.pair_model.specs.Block.{Block, changesets_in, commits_in}
 use Rattle.pair_model.specs.Octopus.{is_link_view}
-use Rattle.state_model.specs.Kept.{State, hg_dump, git_dump}
-use Rattle.state_model.specs.Text.{Sections, sections_of, section_text, text_up_to, state_text, sized, map_lines, no_links}
+use Rattle.state_model.specs.Kept.{State, NameRow, hg_dump, git_dump}
+use Rattle.state_model.specs.Text.{Sections, sections_of, section_text, text_up_to, state_text, sized, map_lines, no_links, refs_text}
+use Rattle.state_model.specs.Names.{Targets, targets_of, AreNames}
 use Rattle.state_model.specs.Saved.{AreBlocks, IsStateText}
+use Rattle.name_model.specs.Targets.{AreTargets}
+use Rattle.name_law.proofs.Across.{refs-one}
+use Rattle.name_law.proofs.Sizes.{refs-short}
 use Rattle.dump_law.proofs.Elements.{heads, tails}
 use Rattle.dump_law.proofs.DumpOne.{one_dump}
 use Rattle.dump_law.proofs.Trees.{cut_two, split_at}
 use Rattle.dump_law.proofs.Streams.{decimal_lacks, decimal_is, one_stream}
 use Rattle.dump_law.proofs.StreamRead.{stream_is_read}
 use Rattle.dump_law.proofs.Commits.{one_git_dump}
+use Rattle.dump_law.proofs.Names.{targets-same, targets-saved}
 
 -- ---- sections
 
@@ -78,6 +83,11 @@ one_history (b ∷ bs) (c ∷ cs) x y e f =
     let parts = links_one b.links c.links b.changeset c.changeset (changesets_in bs) (changesets_in cs) x.0.0 y.0.0 x.0.1 y.0.1 e in
     (λ i. record { links = parts.links i; changeset = parts.changeset i; commit = commit i } ∷ one_history bs cs x.1 y.1 parts.rest commits i)
 
+-- ---- names
+
+few-refs : (t : Targets) → AreTargets t → (names : List NameRow) → AreNames t names → length (refs_text names) < 2 ^ 64
+few-refs t a names n = omega (arith, refs-short t a names n, n.few)
+
 -- ---- the whole
 
 pub one_text : (text : Bytes) (s t : State) → IsStateText text s → IsStateText text t → s ≡ t
@@ -99,5 +109,9 @@ one_text text s t x y =
     let five = one_sized (codes "tags") (stream_text a.tags) (stream_text b.tags) _ _ (omega (arith, h.0.1.short)) (omega (arith, k.0.1.short)) four in
     let tags : s.tags ≡ t.tags = one_stream a.tags b.tags (stream_is_read (objects_in b.commits) b.tags (omega (arith, k.0.1.short)) (k.0.1).read).ids (omega (arith, h.0.1.short)) five.0 in
     let blocks : s.blocks ≡ t.blocks = one_history s.blocks t.blocks x.0.0 y.0.0 changesets commits in
-    let names : s.names ≡ t.names = h.1.0 ∙ sym k.1.0 in
+    let targets : targets_of a ≡ targets_of b = (λ i. targets_of (record { changesets = changesets i; commits = commits i; tags = tags i; names = [] })) in
+    let ids : AreTargets (targets_of a) = subst AreTargets (sym (targets-same s x.0.0)) (targets-saved s x.0) in
+    let others : AreNames (targets_of a) t.names = subst (λ (u : Targets). AreNames u t.names) (sym targets) k.1.0 in
+    let six = one_sized (codes "names") (refs_text s.names) (refs_text t.names) [] [] (few-refs (targets_of a) ids s.names h.1.0) (few-refs (targets_of a) ids t.names others) (ap (λ (l : Bytes). l ++ []) five.1) in
+    let names : s.names ≡ t.names = refs-one (targets_of a) ids s.names t.names h.1.0 others six.0 in
     (λ i. record { blocks = blocks i; tags = tags i; names = names i })

@@ -13,9 +13,11 @@ ghost use Rattle.git_model.specs.Stream.{Placed, stream_reading};
 ghost use Rattle.view_model.specs.View.{ChangesetView, CommitView, IsChangesetView, changeset_node, commit_id};
 ghost use Rattle.view_model.specs.Held.{AreChangesetsHeld, AreCommitsHeld};
 ghost use Rattle.view_model.specs.Dump.{brought_by, of_group, objects_in, hg_increment};
-ghost use Rattle.state_model.specs.Kept.{State, hg_dump, git_dump};
+ghost use Rattle.state_model.specs.Kept.{State, kept_of, hg_dump, git_dump};
 ghost use Rattle.state_model.specs.Limits.{dump_limit};
-ghost use Rattle.state_model.specs.Saved.{AreDumped, AreCommitsSaved, IsStateText};
+ghost use Rattle.state_model.specs.Names.{targets_in, AreNames};
+ghost use Rattle.state_model.specs.Saved.{AreDumped, AreCommitsSaved, IsState, IsStateText};
+ghost use Rattle.name_model.specs.Targets.{AreTargets};
 ghost use Rattle.hg_dump_law.specs.Taken.{AreParentsEarlier, Brings, in_bundle_order};
 ghost use Rattle.dump_law.specs.Grown.{StreamGrows, RevisionsGrow, GroupGrows};
 ghost use Rattle.dump_law.specs.Sizes.{BundleSize, StreamSize, BundleGrows, LimitIsKept};
@@ -74,6 +76,13 @@ pub fn dump_has_no_base()
 /// A text is that of one state.
 pub fn state_texts_are_one()
     ensures { (text : Bytes) (s t : State) → IsStateText text s → IsStateText text t → s ≡ t }
+{}
+
+/// What names may name in a state that has a text are ids, of which no node and no commit stands twice (`targets`), and its names can be
+/// kept over them (`names`).
+pub fn saved_names_are_kept()
+    ensures targets { (s : State) → IsState s → AreTargets (targets_in (kept_of s)) }
+    ensures names { (s : State) → IsState s → AreNames (targets_in (kept_of s)) s.names }
 {}
 
 /// Over known revisions and objects that are the same up to their order and their links, a changeset is the same, and bytes bring the

@@ -6,6 +6,8 @@ mod bundles;
 #[cfg(test)]
 mod inputs;
 #[cfg(test)]
+mod names;
+#[cfg(test)]
 mod outside;
 #[cfg(test)]
 mod pulls;

@@ -14,7 +14,7 @@ const EMPTY: &[&[u8]] = &[
 ];
 
 /// The text of the state of `ONE_CHANGESET`.
-const ONE: &[&[u8]] = &[
+pub const ONE: &[&[u8]] = &[
     b"hg-git-bridge 2\nhg 427\n",
     ONE_CHANGESET,
     b"\ngit 295\n",
@@ -29,9 +29,21 @@ const LINE: &[u8] =
     b"fb8491d27293299d600326567e91d35289f99b8d a4ea4b987a267e07d9e0d37626d8ca8509814b76\n";
 
 /// A tag of its commit.
-const TAG: &[u8] =
+pub const TAG: &[u8] =
     b"4e026e3f8efe351cd7c35b98f6e630d8bc384c32 tag 97\nobject fb8491d27293299d600326567e91d35289f9\
     9b8d\ntype commit\ntag v1\ntagger u <u@v> 0 +0000\n\nfirst\n\n";
+
+/// The beginning of the state with the tag, without its names.
+pub const SIDES: &[&[u8]] = &[
+    b"hg-git-bridge 2\nhg 427\n",
+    ONE_CHANGESET,
+    b"\ngit 295\n",
+    ONE_COMMIT,
+    b"\nmap 1\n",
+    LINE,
+    b"tags 146\n",
+    TAG,
+];
 
 /// The state with the tag.
 const TAGGED: &[&[u8]] = &[
@@ -46,7 +58,8 @@ const TAGGED: &[&[u8]] = &[
     b"\nnames 0\n\n",
 ];
 
-fn text_of(alloc: Global, parts: &[&[u8]]) -> Result<Vec<u8>, AllocError> {
+/// The text whose parts these are.
+pub fn text_of(alloc: Global, parts: &[&[u8]]) -> Result<Vec<u8>, AllocError> {
     let mut text = Vec::new(alloc);
     for part in parts {
         text.extend_from_slice(part)?;
@@ -164,8 +177,8 @@ const DUMPS: &[Step] = &[
     },
 ];
 
-// Whether a run is done, with this output and this state behind it.
-fn is_done(made: &Outcome, output: &[u8], held: &[u8]) -> bool {
+/// Whether a run is done, with this output and this state behind it.
+pub fn is_done(made: &Outcome, output: &[u8], held: &[u8]) -> bool {
     let is_held = match &made.held {
         Some(text) => text.as_slice() == held,
         None => false,

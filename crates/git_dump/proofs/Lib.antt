@@ -4,3 +4,6 @@ pub mod Leaves
 pub mod Objects
 pub mod OnlyNew
 pub mod CommitLemmas
+pub mod There
+pub mod FrontLemmas
+pub mod ListedLemmas

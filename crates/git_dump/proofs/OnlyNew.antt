@@ -11,7 +11,6 @@ use Rattle.text_model.proofs.Elements.{each_in}
 use Rattle.git_model.specs.Object.{Object, same_object}
 use Rattle.git_store.proofs.DistinctLemmas.{bytes_eq-comm}
 use Rattle.tree_shape.proofs.FileSets.{bool-same}
-use Rattle.git_model.specs.Stream.{stream_text}
 use Rattle.git_dump.specs.declared.walk.Walk.{Walk}
 use Rattle.git_dump.specs.Visits.{ids_of, first_met, Visited}
 use Rattle.git_dump.proofs.WalkLemmas.{first-met, of-first}
@@ -90,10 +89,9 @@ first_met-new old new =
 
 -- ---- the whole
 
--- what is written of new objects behind old ones that were visited with nothing written
-pub written-new : (a b c : Walk) (old new : List Object) → a.met ≡ [] → a.out.items ≡ [] → a.writes ≡ false → Visited old a b → Visited new (record { met = b.met; out = b.out; writes = true }) c
-    → c.out.items ≡ stream_text (only_new same_object old new)
-written-new a b c old new none nothing quiet v w =
+-- what is listed of new objects behind old ones that were visited before the list was begun
+pub listed-new : (a b c : Walk) (begun : List Id) (old new : List Object) → a.met ≡ [] → begun ≡ [] → Visited old a b → Visited new (record { met = b.met; listed = begun }) c
+    → c.listed ≡ ids_of (only_new same_object old new)
+listed-new a b c begun old new none empty v w =
     let met : b.met ≡ ids_of (first_met [] old) = v.met ∙ (λ i. none i ++ ids_of (first_met (none i) old)) in
-    let out : b.out.items ≡ [] = v.out ∙ (λ i. nothing i ++ (if quiet i then stream_text (first_met a.met old) else [])) in
-    w.out ∙ (λ i. out i ++ stream_text (first_met (met i) new)) ∙ ap stream_text (first_met-new old new)
+    w.listed ∙ (λ i. empty i ++ ids_of (first_met (met i) new)) ∙ ap ids_of (first_met-new old new)

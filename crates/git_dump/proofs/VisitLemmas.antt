@@ -1,7 +1,6 @@
 -- Objects that were visited one after the other.
 use Rattle.std.proofs.Common.{◌≡◌, Bool, true, false, true≢false, not, List, [], ◌∷◌, ◌++◌, Option, Some, None, refl, sym, ap, ◌∙◌, append-nil, append_assoc}
-use Rattle.std.specs.Prelude.{ℕ, if◌then◌else◌, option_map}
-use Rattle.std.specs.Global.{Vec}
+use Rattle.std.specs.Prelude.{if◌then◌else◌, option_map}
 use Rattle.std.proofs.lemmas.List.{map-append}
 use Rattle.std.proofs.lemmas.List.Concat.{flat_map-append}
 use Rattle.text_model.specs.Text.{Bytes}
@@ -27,37 +26,32 @@ first_met-append met (x ∷ xs) ys = by (has_id met x.id) (first_met-append met 
         ap (λ (l : List Object). x ∷ l) new
         ∙ ap (λ (m : List Id). x ∷ (first_met (met ++ x.id ∷ []) xs ++ first_met m ys)) (append_assoc met (x.id ∷ []) (ids_of (first_met (met ++ x.id ∷ []) xs)))
 
-stream_text-append : (xs ys : List Object) → stream_text (xs ++ ys) ≡ stream_text xs ++ stream_text ys
+pub stream_text-append : (xs ys : List Object) → stream_text (xs ++ ys) ≡ stream_text xs ++ stream_text ys
 unfolding stream_text
 stream_text-append xs ys = flat_map-append object_text xs ys
 
--- what is written of objects
-abbrev written : Bool → List Object → Bytes
-written writes objects = if writes then stream_text objects else []
+-- ---- what is listed
 
-written-append : (writes : Bool) (xs ys : List Object) → written writes (xs ++ ys) ≡ written writes xs ++ written writes ys
-written-append true xs ys = stream_text-append xs ys
-written-append false xs ys = refl
+abbrev pub HasListed : List Id → List Id → List Object → Type 0
+HasListed before after objects = after ≡ before ++ ids_of objects
 
-written-none : (writes : Bool) → written writes [] ≡ []
-unfolding stream_text
-written-none true = refl
-written-none false = refl
+listed-append : (first later whole : List Object) (a b c : List Id) → whole ≡ first ++ later → HasListed a b first → HasListed b c later → HasListed a c whole
+listed-append first later whole a b c is p q =
+    q ∙ ap (λ (l : List Id). l ++ ids_of later) p ∙ append_assoc a (ids_of first) (ids_of later)
+    ∙ ap (λ (l : List Id). a ++ l) (sym (map-append (λ (o : Object). o.id) first later)) ∙ ap (λ (l : List Object). a ++ ids_of l) (sym is)
 
 pub visited-none : (a : Walk) → Visited [] a a
-visited-none a = record { met = sym (append-nil a.met); out = sym (ap (λ (b : Bytes). a.out.items ++ b) (written-none a.writes) ∙ append-nil a.out.items); writes = refl }
+visited-none a = record { met = sym (append-nil a.met); listed = sym (append-nil a.listed) }
 
 pub visited-append : (xs ys : List Object) (a b c : Walk) → Visited xs a b → Visited ys b c → Visited (xs ++ ys) a c
 visited-append xs ys a b c v w =
     let first : List Object = first_met a.met xs in
     let later : List Object = first_met (a.met ++ ids_of first) ys in
+    let same : first_met b.met ys ≡ later = ap (λ (m : List Id). first_met m ys) v.met in
     let whole : first_met a.met (xs ++ ys) ≡ first ++ later = first_met-append a.met xs ys in
     record {
-      met = w.met ∙ ap (λ (m : List Id). m ++ ids_of (first_met m ys)) v.met ∙ append_assoc a.met (ids_of first) (ids_of later)
-          ∙ ap (λ (l : List Id). a.met ++ l) (sym (map-append (λ (o : Object). o.id) first later)) ∙ ap (λ (l : List Object). a.met ++ ids_of l) (sym whole);
-      out = w.out ∙ (λ i. v.out i ++ written (v.writes i) (first_met (v.met i) ys)) ∙ append_assoc a.out.items (written a.writes first) (written a.writes later)
-          ∙ ap (λ (l : Bytes). a.out.items ++ l) (sym (written-append a.writes first later)) ∙ ap (λ (l : List Object). a.out.items ++ written a.writes l) (sym whole);
-      writes = w.writes ∙ v.writes;
+      met = listed-append first later (first_met a.met (xs ++ ys)) a.met b.met c.met whole v.met (w.met ∙ ap (λ (l : List Object). b.met ++ ids_of l) same);
+      listed = listed-append first later (first_met a.met (xs ++ ys)) a.listed b.listed c.listed whole v.listed (w.listed ∙ ap (λ (l : List Object). b.listed ++ ids_of l) same);
     }
 
 -- ---- one object
@@ -86,33 +80,40 @@ is_not true false h = refl
 is_not false true h = refl
 is_not false false h = absurd (true≢false (sym h))
 
-pub visited-old : (o : Object) (met after : List Id) (out : Vec ℕ) (writes fresh : Bool) → fresh ≡ not (has_id met o.id) → fresh ≡ false → after ≡ (if fresh then met ++ o.id ∷ [] else met)
-    → Visited (o ∷ []) (record { met = met; out = out; writes = writes }) (record { met = after; out = out; writes = writes })
-visited-old o met after out writes fresh is old ok =
+pub visited-old : (o : Object) (met after listed : List Id) (fresh : Bool) → fresh ≡ not (has_id met o.id) → fresh ≡ false → after ≡ (if fresh then met ++ o.id ∷ [] else met)
+    → Visited (o ∷ []) (record { met = met; listed = listed }) (record { met = after; listed = listed })
+visited-old o met after listed fresh is old ok =
     let known : has_id met o.id ≡ true = is_not fresh (has_id met o.id) is ∙ ap not old in
     let none : first_met met (o ∷ []) ≡ [] = ap (λ (t : Bool). if t then [] else o ∷ []) known in
     record {
       met = ok ∙ ap (λ (t : Bool). if t then met ++ o.id ∷ [] else met) old ∙ sym (append-nil met) ∙ ap (λ (l : List Object). met ++ ids_of l) (sym none);
-      out = sym (append-nil out.items) ∙ ap (λ (b : Bytes). out.items ++ b) (sym (written-none writes)) ∙ ap (λ (l : List Object). out.items ++ written writes l) (sym none);
-      writes = refl;
+      listed = sym (append-nil listed) ∙ ap (λ (l : List Object). listed ++ ids_of l) (sym none);
     }
 
-pub visited-new : (o : Object) (met after : List Id) (out out_after : Vec ℕ) (writes fresh : Bool) → fresh ≡ not (has_id met o.id) → fresh ≡ true → after ≡ (if fresh then met ++ o.id ∷ [] else met)
-    → out_after.items ≡ out.items ++ written writes (o ∷ []) → Visited (o ∷ []) (record { met = met; out = out; writes = writes }) (record { met = after; out = out_after; writes = writes })
-visited-new o met after out out_after writes fresh is new ok put =
+pub visited-new : (o : Object) (met after listed longer : List Id) (fresh : Bool) → fresh ≡ not (has_id met o.id) → fresh ≡ true → after ≡ (if fresh then met ++ o.id ∷ [] else met)
+    → longer ≡ listed ++ o.id ∷ [] → Visited (o ∷ []) (record { met = met; listed = listed }) (record { met = after; listed = longer })
+visited-new o met after listed longer fresh is new ok push =
     let known : has_id met o.id ≡ false = is_not fresh (has_id met o.id) is ∙ ap not new in
     let one : first_met met (o ∷ []) ≡ o ∷ [] = ap (λ (t : Bool). if t then [] else o ∷ []) known in
     record {
       met = ok ∙ ap (λ (t : Bool). if t then met ++ o.id ∷ [] else met) new ∙ ap (λ (l : List Object). met ++ ids_of l) (sym one);
-      out = put ∙ ap (λ (l : List Object). out.items ++ written writes l) (sym one);
-      writes = refl;
+      listed = push ∙ ap (λ (l : List Object). listed ++ ids_of l) (sym one);
     }
 
-pub one-written : (o : Object) (writes : Bool) → writes ≡ true → object_text o ≡ written writes (o ∷ [])
-unfolding stream_text
-one-written o true h = sym (append-nil (object_text o))
-one-written o false h = absurd (true≢false (sym h))
+-- ---- one object in a stream
 
-pub one-unwritten : (o : Object) (out : Bytes) (writes : Bool) → writes ≡ false → out ≡ out ++ written writes (o ∷ [])
-one-unwritten o out true h = absurd (true≢false h)
-one-unwritten o out false h = sym (append-nil out)
+pub one-text : (o : Object) → object_text o ≡ stream_text (o ∷ [])
+unfolding stream_text
+one-text o = sym (append-nil (object_text o))
+
+pub no-text : [] ≡ stream_text []
+unfolding stream_text
+no-text = refl
+
+-- nothing is known under an id
+pub not-there : (known : List Object) (id : Id) → None ≡ option_map {U = ObjectKind × Bytes} kind_and_content (object_at known id) → objects_at known id ≡ []
+not-there known id h = by (object_at known id) h
+  where
+    by : (found : Option Object) → None ≡ option_map {U = ObjectKind × Bytes} kind_and_content found → object_list found ≡ []
+    by None e = refl
+    by (Some o) e = absurd (none_some e)

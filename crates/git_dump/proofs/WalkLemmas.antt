@@ -13,7 +13,6 @@ use Rattle.text_model.proofs.OrderLemmas.{has_id-In, In-has_id}
 use Rattle.git_model.specs.Tree.{TreeEntry, is_directory, is_blob_mode}
 use Rattle.git_model.specs.Object.{Object, object_at, entries_of, tree_at}
 use Rattle.git_model.specs.Unfold.{is_kind_there}
-use Rattle.git_model.specs.Stream.{stream_text}
 use Rattle.text_model.proofs.Options.{none_some, some_is}
 use Rattle.text_model.proofs.Elements.{in_left, in_right}
 use Rattle.tree_shape.proofs.Elements.{in-append}
@@ -91,8 +90,7 @@ visited-again objects a h =
     let nothing = visited-none a in
     record {
       met = nothing.met ∙ ap (λ (l : List Object). a.met ++ ids_of l) (sym none);
-      out = nothing.out ∙ ap (λ (l : List Object). a.out.items ++ (if a.writes then stream_text l else [])) (sym none);
-      writes = refl;
+      listed = nothing.listed ∙ ap (λ (l : List Object). a.listed ++ ids_of l) (sym none);
     }
 
 -- ---- what was visited is met

@@ -1,3 +1,4 @@
 pub mod Walks
 pub mod Visits
 pub mod Commits
+pub mod Fronts

@@ -15,6 +15,10 @@ object_list (Some o) = o ∷ []
 abbrev pub objects_at : List Object → Id → List Object
 objects_at known id = object_list (object_at known id)
 
+-- the known objects with these ids
+abbrev pub objects_of : List Object → List Id → List Object
+objects_of known ids = flat_map (objects_at known) ids
+
 -- an object with this id is known
 abbrev pub IsKnown : List Object → Id → Type 0
 IsKnown known id = (o : Object) × (object_at known id ≡ Some o)

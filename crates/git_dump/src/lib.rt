@@ -3,6 +3,10 @@
 #![tactic(auto)]
 
 mod dump;
+mod front;
+mod length;
+mod listed;
 mod walk;
 
-pub use dump::write;
+pub use dump::{append, is_stream, write, written_len};
+pub use length::len_at;

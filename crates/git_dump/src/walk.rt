@@ -1,5 +1,5 @@
 // The walk through the trees of commits.
-ghost use Rattle.std.specs.Prelude.{◌≡◌, List, [], true, false, OnOk};
+ghost use Rattle.std.specs.Prelude.{◌≡◌, List, [], true, OnOk};
 ghost use Rattle.view_model.specs.View.{CommitView, commit_objects};
 ghost use Rattle.git_dump.specs.Commits.{IsWalkableCommit, AreWalkableCommits};
 ghost use Rattle.git_dump.specs.Visits.{Visited};
@@ -7,34 +7,30 @@ ghost use Rattle.git_model.specs.Tree.{is_blob_mode};
 ghost use Rattle.git_dump.specs.Walks.{IsKnown, objects_at, file_objects, walk_objects, IsWalkable, IsClosed};
 ghost use Rattle.view_model.specs.Dump.{objects_in};
 
-use bridge_text::{Id, IdSet, NoMemory};
-use git_batch::put_with_id;
+use bridge_text::{Id, IdList, IdSet, NoMemory};
 use git_object::{Objects, TreeEntry};
 use git_store::GitStore;
 use std::alloc::Global;
 use tree_shape::LEVELS;
 
-/// The objects that a walk has met, and the stream of those that it writes.
+/// The objects that a walk has met.
 #[derive(Drop)]
 pub struct Walk {
     /// The ids of the objects. With a tree all that it reaches is among them.
     pub met: IdSet,
-    pub out: Vec<u8>,
-    /// Whether an object that is met for the first time is written.
-    pub writes: bool,
+    /// The ids of those that were met for the first time since the list was begun, in that order.
+    pub listed: IdList,
 }
 
 impl Walk {
-    /// A walk that has met nothing, and doesn't write.
+    /// A walk that has met nothing.
     pub fn new(alloc: Global) -> Walk
         ensures met { result.met ≡ [] }
-        ensures out { result.out.items ≡ [] }
-        ensures writes { result.writes ≡ false }
+        ensures listed { result.listed ≡ [] }
     {
         Walk {
             met: IdSet::new(alloc),
-            out: Vec::new(alloc),
-            writes: false,
+            listed: IdList::new(alloc),
         }
     }
 
@@ -109,10 +105,10 @@ impl Walk {
         ensures { OnOk result (Visited (objects_at store.now id.now) self.old self.new) }
     {
         let is_new = self.met.insert(*id)?;
-        if is_new && self.writes {
-            let (kind, content) = store.content(id).unwrap();
-            put_with_id(&mut self.out, id, kind, content)?;
+        if is_new {
+            self.listed.push(*id)
+        } else {
+            Ok(())
         }
-        Ok(())
     }
 }

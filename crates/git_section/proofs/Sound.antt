@@ -1,28 +1,28 @@
 -- Commits whose dump was read can be saved, and the section holds them.
-use Rattle.std.proofs.Common.{◌≡◌, ◌<◌, ◌≤◌, ◌^◌, Bool, true, List, [], ◌∷◌, length, map, Ok, refl, sym, ap, subst, ◌∙◌, arith}
-use Rattle.std.specs.Prelude.{filter, is_ok}
-use Rattle.text_model.specs.Lists.{Each, only_new}
+use Rattle.std.proofs.Common.{◌≡◌, ◌≤◌, true, List, [], ◌∷◌, length, map, refl, sym, ap, ◌∙◌, arith}
+use Rattle.std.specs.Prelude.{is_ok}
+use Rattle.text_model.specs.Lists.{Each}
 use Rattle.text_model.specs.Text.{Bytes}
 use Rattle.text_model.specs.Limits.{rows_limit}
-use Rattle.text_model.specs.Id.{Id, IsId, commit, same_kind}
-use Rattle.text_model.proofs.EachLemmas.{Each-weaker}
+use Rattle.text_model.specs.Id.{Id, commit, same_kind}
 use Rattle.git_model.specs.Tree.{has_distinct}
-use Rattle.git_model.specs.Object.{Object, same_object, objects_after_all}
-use Rattle.git_model.specs.Stream.{Placed, IsFit, IsFitStream, stream_text, stream_reading}
+use Rattle.git_model.specs.Object.{Object, objects_after_all}
+use Rattle.git_model.specs.Stream.{stream_reading}
 use Rattle.git_store.specs.Known.{AreKnown}
 use Rattle.view_model.specs.View.{CommitView, IsCommitView, commit_id, rows_size}
 use Rattle.view_model.specs.Held.{AreCommitsHeld}
-use Rattle.view_model.specs.Dump.{objects_in, git_increment}
+use Rattle.view_model.specs.Dump.{objects_in}
 use Rattle.state_model.specs.Kept.{git_dump}
 use Rattle.state_model.specs.Saved.{AreCommitsSaved}
 use Rattle.git_view.proofs.Held.{held-id}
 use Rattle.git_view.proofs.Right.{held-is_view}
 use Rattle.git_dump.specs.Commits.{AreWalkableCommits}
+use Rattle.git_dump.proofs.There.{all_there}
 use Rattle.git_section.specs.declared.section.GitSection.{GitSection}
 use Rattle.git_section.specs.Sections.{HoldsCommits, IsRead, objects_of, commit_ids}
 use Rattle.git_section.proofs.Sizes.{rows_within}
 use Rattle.git_section.proofs.Distinct.{distinct_filter, distinct_new}
-use Rattle.git_section.proofs.Known.{all_there, one_content}
+use Rattle.git_section.proofs.Known.{one_content}
 use Rattle.git_section.proofs.Written.{written, stream, same}
 
 module _ (known : List Object) (are : AreKnown known) where

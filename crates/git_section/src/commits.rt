@@ -8,7 +8,7 @@ ghost use Rattle.git_section.specs.Sections.{HoldsCommits};
 use crate::section::{GitSection, read_section};
 use crate::walks::have_walks;
 use bridge_text::NoMemory;
-use git_dump::write;
+use git_dump::is_stream;
 use std::alloc::Global;
 
 /// The commits whose dump these bytes are; `None` exactly where no list of commits that can be saved has this dump.
@@ -22,8 +22,8 @@ pub fn read_commits(alloc: Global, bytes: &[u8]) -> Result<Option<GitSection>, N
     if !have_walks(alloc, &section.store, section.ids.as_slice())? {
         return Ok(None);
     }
-    let dump = write(alloc, &section.store, &section.ids, 0)?;
-    if dump.as_slice() == bytes {
+    let is_whole = is_stream(alloc, &section.store, section.ids.as_slice(), bytes)?;
+    if is_whole {
         Ok(Some(section))
     } else {
         Ok(None)

@@ -4,7 +4,7 @@ ghost use Rattle.git_dump.specs.Commits.{IsWalkableCommit, AreWalkableCommits};
 
 // Streams of what a store has.
 use bridge_text::{Id, IdList, Kind, decimal_into, object_id};
-use git_dump::write;
+use git_dump::{append, is_stream, write, written_len};
 use git_store::GitStore;
 use git_view::commits_are_held;
 use std::alloc::Global;
@@ -192,9 +192,50 @@ fn is_written(rt: &impl Abort, alloc: Global, store: &GitStore, case: &Case) -> 
     let Case(commits, from, want) = case;
     let order = order_of(alloc, store, commits)?;
     assert!(rt; *from <= order.len());
+    let len = written_len(alloc, store, order.as_slice())?;
     let bytes = write(alloc, store, &order, *from)?;
     let want = stream_of(alloc, want)?;
-    Ok(bytes == want)
+    let is_told = *from > 0 || is_told(alloc, store, order.as_slice(), want.as_slice())?;
+    let mut out = b"front ".to_vec(alloc)?;
+    append(alloc, &mut out, store, &order, *from)?;
+    let is_appended = out.strip_prefix(b"front ") == Some(want.as_slice());
+    Ok(bytes == want && is_appended && is_told && (*from > 0 || len == want.len() as u64))
+}
+
+// Whether these bytes are told to be the stream of the commits, and neither fewer of them nor more nor others.
+fn is_told(alloc: Global, store: &GitStore, order: &[Id], stream: &[u8]) -> Result<bool, Fail>
+    requires { (cs : List CommitView) × AreWalkableCommits store.now order.now cs }
+{
+    let is_same = is_stream(alloc, store, order, stream)?;
+    let mut more = stream.to_vec(alloc)?;
+    more.push(b'\n')?;
+    let is_more = is_stream(alloc, store, order, more.as_slice())?;
+    let is_fewer = match stream.split_last() {
+        Some((_, fewer)) => is_stream(alloc, store, order, fewer)?,
+        None => false,
+    };
+    Ok(is_same && !is_more && !is_fewer && others_are_told(alloc, store, order, stream)?)
+}
+
+// Whether no bytes that differ from the stream in one are told to be it.
+fn others_are_told(
+    alloc: Global,
+    store: &GitStore,
+    order: &[Id],
+    stream: &[u8],
+) -> Result<bool, Fail>
+    requires { (cs : List CommitView) × AreWalkableCommits store.now order.now cs }
+{
+    for i in 0..stream.len() {
+        let mut other = stream.to_vec(alloc)?;
+        if let Some(byte) = other.get_mut(i) {
+            *byte ^= 1;
+        }
+        if is_stream(alloc, store, order, other.as_slice())? {
+            return Ok(false);
+        }
+    }
+    Ok(true)
 }
 
 #[test]

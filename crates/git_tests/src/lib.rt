@@ -14,4 +14,6 @@ mod stores;
 #[cfg(test)]
 mod streams;
 #[cfg(test)]
+mod sums;
+#[cfg(test)]
 mod trees;

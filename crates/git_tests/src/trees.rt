@@ -12,8 +12,8 @@ use tree_shape::{BuildFault, FileRow, Files, TreeFault, TreeItem, build, flatten
 /// A row: its path, its mode, and the byte that stands 20 times in its id.
 type Row = (&'static [u8], Mode, u8);
 
-// Adds an object, and gives its id.
-fn keep(alloc: Global, store: &mut GitStore, kind: Kind, content: &[u8]) -> Result<Id, Fail> {
+/// Adds an object, and gives its id.
+pub fn keep(alloc: Global, store: &mut GitStore, kind: Kind, content: &[u8]) -> Result<Id, Fail> {
     let content = content.to_vec(alloc)?;
     let its_id = object_id(kind, &content);
     store.add(its_id, kind, content).map_err(|_| "an object")?;
@@ -126,7 +126,7 @@ fn rows_that_are_no_files(rt: HostRuntime) -> Result<(), Fail> {
 }
 
 /// The content of a tree with one entry.
-fn one_entry(alloc: Global, mode: &[u8], name: u8, id: &Id) -> Result<Vec<u8>, Fail> {
+pub fn one_entry(alloc: Global, mode: &[u8], name: u8, id: &Id) -> Result<Vec<u8>, Fail> {
     let mut content = mode.to_vec(alloc)?;
     content.push(b' ')?;
     content.push(name)?;
@@ -140,13 +140,13 @@ fn fault_at(alloc: Global, store: &GitStore, root: &Id) -> Option<TreeFault> {
 }
 
 /// Adds a tree with one entry, and gives its id.
-fn keep_entry(alloc: Global, store: &mut GitStore, mode: &[u8], id: &Id) -> Result<Id, Fail> {
+pub fn keep_entry(alloc: Global, store: &mut GitStore, mode: &[u8], id: &Id) -> Result<Id, Fail> {
     let content = one_entry(alloc, mode, b'd', id)?;
     keep(alloc, store, Kind::Tree, &content)
 }
 
-// The ids of a blob and the empty tree, which it adds.
-fn keep_leaves(alloc: Global, store: &mut GitStore) -> Result<[Id; 2], Fail> {
+/// The ids of a blob and the empty tree, which it adds.
+pub fn keep_leaves(alloc: Global, store: &mut GitStore) -> Result<[Id; 2], Fail> {
     let blob = keep(alloc, store, Kind::Blob, b"x")?;
     let empty = keep(alloc, store, Kind::Tree, b"")?;
     Ok([blob, empty])
@@ -179,7 +179,7 @@ fn faults_of_walks(rt: HostRuntime) -> Result<(), Fail> {
 }
 
 /// Adds a tree in a tree and so on, so many of them, over a blob, and gives the outermost.
-fn nested(alloc: Global, store: &mut GitStore, count: u16) -> Result<Id, Fail> {
+pub fn nested(alloc: Global, store: &mut GitStore, count: u16) -> Result<Id, Fail> {
     let mut inner = keep(alloc, store, Kind::Blob, b"x")?;
     let mut mode = b"100644".as_slice();
     for _ in 0..count {

@@ -1,7 +1,8 @@
 -- The bytes of entries and groups.
-use Rattle.std.proofs.Common.{◌≡◌, ◌+◌, ◌<◌, ◌++◌, ℕ, zero, suc, true, false, drop, List, [], ◌∷◌, length, map, Some, None, refl, sym, ap, subst, ◌∙◌, arith, append_assoc, length-append}
+use Rattle.std.proofs.Common.{◌≡◌, ◌+◌, ◌<◌, ◌++◌, ℕ, zero, suc, true, false, drop, get_or, List, [], ◌∷◌, length, map, Some, None, refl, sym, ap, subst, ◌∙◌, arith, append_assoc, length-append}
 use Rattle.std.specs.Prelude.{unwrap_or, slice_get, is_some}
 use Rattle.std.proofs.lemmas.List.{length-map}
+use Rattle.std.proofs.lemmas.Option.{slice_get-get_or}
 use Rattle.std.specs.List.{flat_map}
 use Rattle.byteorder.specs.Endian.{big_bytes}
 use Rattle.text_model.specs.Lists.{Each}
@@ -99,6 +100,17 @@ entry-written known group ref r size n p q out mid new text is at parents ids co
 
     same : spelled ≡ entry_over size r
     same = (λ i. record { node = node i; p = (pair i).0; q = (pair i).1; link = (is.reference_is i).link; delta = whole_delta size (texts i) })
+
+-- the parts of an entry
+pub entry-parts : (known : List Revision) (group : Group) (ref : Reference) (r : Revision) (size n : ℕ) (p q : Id) (text : Bytes) → IsOf known group ref r
+    → text_of known group ref.node ≡ Some text → ((s : Revision) → revision_of known group ref.node ≡ Some s → AreParentsOf known group ref.node s (p, q))
+    → IsId ref.node × IsId p × IsId q × IsId ref.link → n ≡ length (whole_delta size text)
+    → (big_bytes 4 (n + 84) ++ ref.node ++ p ++ q ++ ref.link) ++ whole_delta size text ≡ entry_chunk (entry_over size r)
+entry-parts known group ref r size n p q text is at parents ids count =
+    entry-written known group ref r size n p q [] (big_bytes 4 (n + 84) ++ ref.node ++ p ++ q ++ ref.link) ((big_bytes 4 (n + 84) ++ ref.node ++ p ++ q ++ ref.link) ++ whole_delta size text) text is at parents ids count refl refl
+
+pub at-place : (references : List Reference) (i : ℕ) (r : Reference) → i < length references → r ≡ get_or references i r → slice_get references i ≡ Some r
+at-place references i r below is = slice_get-get_or references i r below ∙ ap Some (sym is)
 
 -- the revision of a reference at a place
 pub record OfAt (known : List Revision) (group : Group) (reference : Reference) (rs : List Revision) (i : ℕ) : Type 0 where

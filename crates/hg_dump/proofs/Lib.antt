@@ -1,4 +1,5 @@
 pub mod BroughtLemmas
+pub mod BundleLemmas
 pub mod EntryLemmas
 pub mod FileLemmas
 pub mod GroupLemmas
@@ -8,3 +9,4 @@ pub mod NamedLemmas
 pub mod OnceLemmas
 pub mod PathLemmas
 pub mod RefersLemmas
+pub mod StripLemmas

@@ -1,3 +1,4 @@
+pub mod Begins
 pub mod Marks
 pub mod Referred
 pub mod Written

@@ -1,4 +1,5 @@
-ghost use Rattle.std.specs.Prelude.{◌≡◌, ◌≤◌, List, length, take, drop, IfOk};
+ghost use Rattle.std.specs.Prelude.{◌≡◌, ◌≤◌, ◌-◌, ◌++◌, ◌^◌, ◌↔◌, [], true, List, length, min, take, drop, IfOk, OnOk};
+ghost use Rattle.std.specs.Io.{StartsWith};
 ghost use Rattle.hg_model.specs.Revision.{Revision};
 ghost use Rattle.hg_model.specs.Bundle.{bundle_text};
 ghost use Rattle.view_model.specs.View.{ChangesetView};
@@ -8,12 +9,15 @@ ghost use Rattle.hg_dump.specs.State.{AreBrought};
 
 use crate::brought::Brought;
 use crate::group::{put_files, put_group};
-use bridge_text::{IdList, NoMemory};
+use crate::length::bundle_len;
+use crate::strip::is_bundle;
+use bridge_text::{Id, IdList, NoMemory};
 use hg_chunk::put_empty;
 use hg_store::{Group, HgStore};
 use std::alloc::Global;
 
-const MAGIC: &[u8; 6] = b"HG10UN";
+/// The word that a bundle begins with.
+pub const MAGIC: &[u8; 6] = b"HG10UN";
 
 /// The bundle of the changesets of a list from place `from` on, without what the changesets before that place refer to.
 ///
@@ -34,30 +38,67 @@ pub fn write(
     ensures { IfOk result (λ bytes. (hs : List ChangesetView) → AreChangesetsHeld store.now order.now hs
         → bytes.items ≡ hg_increment store.now (take from hs) (drop from hs)) }
 {
-    store.check();
-    let brought = Brought::collect(alloc, store, order.as_slice(), from)?;
-    put_bundle(alloc, store, &brought)
+    let mut out = Vec::new(alloc);
+    append(&mut out, alloc, store, order, from)?;
+    Ok(out)
 }
 
-fn put_bundle(alloc: Global, store: &HgStore, brought: &Brought) -> Result<Vec<u8>, NoMemory>
-    requires { (rs : List Revision) × AreBrought store.now brought.now rs }
-    ensures { IfOk result (λ bytes. (rs : List Revision) → AreBrought store.now brought.now rs → bytes.items ≡ bundle_text (written_bundle store.now rs)) }
+/// Appends the bundle that [`write`] gives. The room for it is taken at once. After want of memory `out` begins with what it was.
+pub fn append(
+    out: &mut Vec<u8>,
+    alloc: Global,
+    store: &HgStore,
+    order: &IdList,
+    from: usize,
+) -> Result<(), NoMemory>
+    requires from { from ≤ length order.now }
+    requires held { (hs : List ChangesetView) × AreChangesetsHeld store.now order.now hs }
+    ensures ok { OnOk result ((hs : List ChangesetView) → AreChangesetsHeld store.now order.now hs
+        → out.new.items ≡ out.old.items ++ hg_increment store.now (take from hs) (drop from hs)) }
+    ensures front { StartsWith out.new.items out.old.items }
 {
-    let mut out = Vec::new(alloc);
+    store.check();
+    let brought = Brought::collect(alloc, store, order.as_slice(), from)?;
+    put_bundle(out, store, &brought)
+}
+
+/// Whether bytes are the bundle of all changesets of a list, as [`write`] gives it from place 0 on. The bundle is not written.
+pub fn is_dump(
+    alloc: Global,
+    store: &HgStore,
+    order: &IdList,
+    bytes: &[u8],
+) -> Result<bool, NoMemory>
+    requires { (hs : List ChangesetView) × AreChangesetsHeld store.now order.now hs }
+    ensures { IfOk result (λ yes. (hs : List ChangesetView) → AreChangesetsHeld store.now order.now hs
+        → (yes ≡ true) ↔ (bytes.now ≡ hg_increment store.now [] hs)) }
+{
+    store.check();
+    let brought = Brought::collect(alloc, store, order.as_slice(), 0)?;
+    Ok(is_bundle(bytes, store, &brought))
+}
+
+/// How many bytes the bundle of all changesets of a list has, or 2^64 - 1 if that is less. The bundle is not written.
+pub fn written_len(alloc: Global, store: &HgStore, order: &[Id]) -> Result<u64, NoMemory>
+    requires { (hs : List ChangesetView) × AreChangesetsHeld store.now order.now hs }
+    ensures { IfOk result (λ len. (hs : List ChangesetView) → AreChangesetsHeld store.now order.now hs
+        → len ≡ min (length (hg_increment store.now [] hs)) (2 ^ 64 - 1)) }
+{
+    store.check();
+    let brought = Brought::collect(alloc, store, order, 0)?;
+    Ok(bundle_len(store, &brought))
+}
+
+// Appends the bundle of what was brought.
+fn put_bundle(out: &mut Vec<u8>, store: &HgStore, brought: &Brought) -> Result<(), NoMemory>
+    requires { (rs : List Revision) × AreBrought store.now brought.now rs }
+    ensures ok { OnOk result ((rs : List Revision) → AreBrought store.now brought.now rs → out.new.items ≡ out.old.items ++ bundle_text (written_bundle store.now rs)) }
+    ensures front { StartsWith out.new.items out.old.items }
+{
+    out.reserve(bundle_len(store, brought) as usize)?;
     out.extend_from_slice(MAGIC)?;
-    put_group(
-        &mut out,
-        store,
-        Group::Changesets,
-        brought.changesets.brought(),
-    )?;
-    put_group(
-        &mut out,
-        store,
-        Group::Manifests,
-        brought.manifests.brought(),
-    )?;
-    put_files(&mut out, store, &brought.files)?;
-    put_empty(&mut out)?;
-    Ok(out)
+    put_group(out, store, Group::Changesets, brought.changesets.brought())?;
+    put_group(out, store, Group::Manifests, brought.manifests.brought())?;
+    put_files(out, store, &brought.files)?;
+    put_empty(out)
 }

@@ -1,5 +1,6 @@
 // An entry of a group.
 ghost use Rattle.std.specs.Prelude.{◌≡◌, ◌+◌, ◌++◌, ◌<◌, ◌≤◌, ◌^◌, length, IsTrue, Some, IfOk, OnOk};
+ghost use Rattle.std.specs.Io.{StartsWith};
 ghost use Rattle.byteorder.specs.Endian.{big_bytes};
 ghost use Rattle.text_model.specs.Id.{IsId};
 ghost use Rattle.hg_model.specs.Revision.{Revision, revision_of, knows};
@@ -14,7 +15,7 @@ use hg_hunk::replace_into;
 use hg_store::{Group, HgStore};
 
 /// How many bytes stand before a delta: the length of the chunk, and four ids.
-const HEADER_LEN: usize = 84;
+pub const HEADER_LEN: usize = 84;
 
 /// How many bytes stand before the text in a delta that replaces a whole base.
 const HUNK_HEADER_LEN: usize = 12;
@@ -29,6 +30,7 @@ pub fn put_entry(
 ) -> Result<u32, NoMemory>
     requires { (r : Revision) × IsOf store.now (group_value group) reference.now r }
     ensures entry { OnOk result ((r : Revision) → IsOf store.now (group_value group.entry) reference.now r → out.new.items ≡ out.old.items ++ entry_chunk (entry_over base_len r)) }
+    ensures front { StartsWith out.new.items out.old.items }
     ensures len { IfOk result (λ len. (r : Revision) → IsOf store.now (group_value group.entry) reference.now r → len ≡ length r.text) }
 {
     let text = store.revision_text(group, &reference.node).unwrap();
@@ -36,6 +38,23 @@ pub fn put_entry(
     put_header(out, delta_len(base_len, text), reference, &p, &q)?;
     replace_into(out, base_len, text)?;
     Ok(text.len() as u32)
+}
+
+/// How many bytes the entry of a revision has, over a base of this length, and how long the revision's text is.
+pub fn entry_len(
+    store: &HgStore,
+    group: Group<'_>,
+    reference: &Reference,
+    base_len: u32,
+) -> (u64, u32)
+    requires { (r : Revision) × IsOf store.now (group_value group) reference.now r }
+    ensures entry { (r : Revision) → IsOf store.now (group_value group.entry) reference.now r → result.0 ≡ length (entry_chunk (entry_over base_len r)) }
+    ensures len { (r : Revision) → IsOf store.now (group_value group.entry) reference.now r → result.1 ≡ length r.text }
+{
+    let text = store.revision_text(group, &reference.node).unwrap();
+    let _ids = (reference.node.bytes(), reference.link.bytes());
+    let len = HEADER_LEN + delta_len(base_len, text);
+    (len as u64, text.len() as u32)
 }
 
 /// The parents of a known revision in the order in which they are written.
@@ -50,9 +69,9 @@ pub fn parents(store: &HgStore, group: Group<'_>, node: &Id) -> (Id, Id)
     }
 }
 
-// How long the delta is that replaces a base of this length by the text.
+/// How long the delta is that replaces a base of this length by the text.
 #[tactic(auto, unfolding(hg_model::specs::Delta::number32))]
-fn delta_len(base_len: u32, text: &[u8]) -> usize
+pub fn delta_len(base_len: u32, text: &[u8]) -> usize
     requires { length text.now < 2 ^ 32 }
     ensures len { result ≡ length (whole_delta base_len text.now) }
     ensures most { result ≤ length text.now + 12 }
@@ -73,6 +92,7 @@ fn put_header(
 ) -> Result<(), NoMemory>
     requires { delta_len + 84 < 2 ^ 32 }
     ensures bytes { OnOk result (out.new.items ≡ out.old.items ++ big_bytes 4 (delta_len + 84) ++ reference.now.node ++ p.now ++ q.now ++ reference.now.link) }
+    ensures front { StartsWith out.new.items out.old.items }
     ensures ids { OnOk result (IsId reference.now.node × IsId p.now × IsId q.now × IsId reference.now.link) }
 {
     out.reserve(HEADER_LEN + delta_len)?;

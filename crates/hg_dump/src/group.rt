@@ -1,5 +1,6 @@
 // The groups of a bundle.
 ghost use Rattle.std.specs.Prelude.{◌≡◌, ◌++◌, List, OnOk};
+ghost use Rattle.std.specs.Io.{StartsWith};
 ghost use Rattle.std.specs.List.{flat_map};
 ghost use Rattle.hg_model.specs.Revision.{FilesAt, Revision};
 ghost use Rattle.hg_model.specs.Bundle.{group_text};
@@ -23,8 +24,9 @@ pub fn put_group(
     references: &[Reference],
 ) -> Result<(), NoMemory>
     requires { (rs : List Revision) × AreOf store.now (group_value group) references.now rs }
-    ensures { OnOk result ((rs : List Revision) → AreOf store.now (group_value group.entry) references.now rs
+    ensures ok { OnOk result ((rs : List Revision) → AreOf store.now (group_value group.entry) references.now rs
         → out.new.items ≡ out.old.items ++ group_text (written_group store.now (group_value group.entry) rs)) }
+    ensures front { StartsWith out.new.items out.old.items }
 {
     let mut base_len = first_base_len(store, group, references);
     for reference in references {
@@ -33,8 +35,8 @@ pub fn put_group(
     put_empty(out)
 }
 
-// How long the base of a group's first entry is: the text of the first parent.
-fn first_base_len(store: &HgStore, group: Group<'_>, references: &[Reference]) -> u32
+/// How long the base of a group's first entry is: the text of the first parent.
+pub fn first_base_len(store: &HgStore, group: Group<'_>, references: &[Reference]) -> u32
     requires { (rs : List Revision) × AreOf store.now (group_value group) references.now rs }
     ensures { (rs : List Revision) → AreOf store.now (group_value group.entry) references.now rs → result ≡ base_size store.now (group_value group.entry) rs }
 {
@@ -59,6 +61,7 @@ pub fn put_files(
 ) -> Result<(), NoMemory>
     requires { (rs : List Revision) × AreFiles store.now files.now rs }
     ensures bytes { OnOk result ((rs : List Revision) → AreFiles store.now files.now rs → out.new.items ≡ out.old.items ++ flat_map (file_part store.now rs) (paths_of files.now)) }
+    ensures front { StartsWith out.new.items out.old.items }
     ensures rising { OnOk result (AreRising (paths_of files.now)) }
 {
     for (path, references) in files {
@@ -74,8 +77,9 @@ fn put_file(
     references: &[Reference],
 ) -> Result<(), NoMemory>
     requires { (rs : List Revision) × AreOf store.now (FilesAt path.now) references.now rs }
-    ensures { OnOk result ((rs : List Revision) → AreOf store.now (FilesAt path.now) references.now rs
+    ensures ok { OnOk result ((rs : List Revision) → AreOf store.now (FilesAt path.now) references.now rs
         → out.new.items ≡ out.old.items ++ file_part_of (record { path = path.now; entries = written_group store.now (FilesAt path.now) rs }) rs) }
+    ensures front { StartsWith out.new.items out.old.items }
 {
     if references.is_empty() {
         return Ok(());

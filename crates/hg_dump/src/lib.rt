@@ -7,9 +7,11 @@ mod bundle;
 mod entry;
 mod group;
 mod held;
+mod length;
 mod references;
 mod refers;
+mod strip;
 
-pub use bundle::write;
+pub use bundle::{append, is_dump, write, written_len};
 pub use held::are_held;
 pub use refers::Refers;

@@ -20,7 +20,7 @@ use Rattle.view_model.specs.View.{Row, ManifestParents, NoManifest, Over, Change
 use Rattle.view_model.specs.Held.{IsFileHeld, IsManifestHeld, IsChangesetHeld, AreChangesetsHeld}
 use Rattle.view_model.specs.Dump.{manifest_revision, file_revision, revisions_of, revisions_in, of_group, path_of_group, paths_in}
 use Rattle.hg_dump.proofs.HeldLemmas.{node-is}
-use Rattle.hg_dump.proofs.PathLemmas.{has, has-in_order, has-first}
+use Rattle.path_law.proofs.Order.{has, has-in_order, has-first}
 use Rattle.hg_dump_law.specs.Taken.{IsOneOf, in_bundle_order}
 use Rattle.hg_dump_law.proofs.Known.{IsKnown, HoldsIn, Holds, is_of-is, knows-cons, holds-left, holds-right, holds-each, each-known, holds-after_all, knows-after}
 use Rattle.hg_dump_law.proofs.Written.{IsSamePair, pair-is}

@@ -29,7 +29,7 @@ use Rattle.view_model.specs.View.{ChangesetView, Row, ManifestParents, NoManifes
 use Rattle.view_model.specs.Dump.{written_from, written_group, written_file, written_bundle, of_group, path_of_group, paths_in, brought_by, manifest_revision, file_revision, revisions_of, revisions_in, hg_increment}
 use Rattle.hg_dump.specs.Written.{IsHeldIn}
 use Rattle.hg_dump.proofs.OnceLemmas.{Each-filter, Each-new, Each-append}
-use Rattle.hg_dump.proofs.PathLemmas.{has, has-in_order, has-first}
+use Rattle.path_law.proofs.Order.{has, has-in_order, has-first}
 use Rattle.hg_dump_law.specs.Taken.{IsOneOf, KnowsOld, AreParentsEarlier, in_bundle_order, IsShortIncrement, Brings}
 use Rattle.hg_dump_law.proofs.After.{all-after, order-holds}
 use Rattle.hg_dump_law.proofs.Known.{IsKnown, each-known, HoldsIn, Holds, is_of-is, knows-cons, holds-both, holds-each, holds-after_all, knows-group, holds-new}

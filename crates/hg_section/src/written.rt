@@ -5,7 +5,7 @@ ghost use Rattle.view_model.specs.View.{ChangesetView};
 ghost use Rattle.hg_section.specs.Section.{IsWrittenOf};
 
 use bridge_text::{IdList, NoMemory};
-use hg_dump::{are_held, write};
+use hg_dump::{are_held, is_dump};
 use hg_store::HgStore;
 use std::alloc::Global;
 
@@ -24,6 +24,5 @@ pub fn is_written(
     if !are_held(store, nodes) {
         return Ok(false);
     }
-    let written = write(alloc, store, nodes, 0)?;
-    Ok(written.as_slice() == bytes)
+    is_dump(alloc, store, nodes, bytes)
 }

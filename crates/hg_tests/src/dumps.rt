@@ -1,6 +1,6 @@
 // Bundles of what a store has.
 use bridge_text::{Id, IdList, fit_path};
-use hg_dump::{are_held, write};
+use hg_dump::{append, are_held, is_dump, write, written_len};
 use hg_store::{Group, HgStore};
 use std::alloc::Global;
 use std::process::Abort;
@@ -361,7 +361,15 @@ fn written(
 ) -> Result<Vec<u8>, Fail> {
     assert!(rt; from <= order.len());
     assert!(rt; are_held(store, order));
-    Ok(write(alloc, store, order, from)?)
+    let len = written_len(alloc, store, order.as_slice())?;
+    let bytes = write(alloc, store, order, from)?;
+    assert!(rt; from > 0 || len == bytes.len() as u64);
+    let is_dump = is_dump(alloc, store, order, bytes.as_slice())?;
+    assert!(rt; is_dump == (from == 0));
+    let mut out = b"front ".to_vec(alloc)?;
+    append(&mut out, alloc, store, order, from)?;
+    assert!(rt; out.strip_prefix(b"front ") == Some(bytes.as_slice()));
+    Ok(bytes)
 }
 
 fn is_written(rt: &impl Abort, alloc: Global, store: &HgStore, case: &Case) -> Result<bool, Fail> {

@@ -1,23 +1,20 @@
 -- What a saved state gives: its text, once it is read, is a sound state that holds each changeset.
-use Rattle.std.proofs.Common.{◌≡◌, ◌≢◌, true, false, true≢false, not, ◌&&◌, List, [], ◌∷◌, ◌++◌, map, Ok, refl, sym, ap, subst, ◌∙◌, append_assoc, inl, inr}
-use Rattle.std.specs.Prelude.{bytes_eq, IsTrue}
-use Rattle.std.specs.List.{list_any}
+use Rattle.std.proofs.Common.{◌≡◌, ◌≢◌, true≢false, List, [], ◌∷◌, ◌++◌, map, Ok, refl, sym, ap, subst, ◌∙◌, inl}
+use Rattle.std.specs.Prelude.{IsTrue}
 use Rattle.std.proofs.lemmas.Slice.Eq.{bytes_eq-Decides}
 use Rattle.text_model.specs.Lists.{Each, In, rises}
 use Rattle.text_model.specs.Text.{is_below}
-use Rattle.text_model.specs.Id.{Id, null, object_id}
+use Rattle.text_model.specs.Id.{null, object_id}
 use Rattle.text_model.proofs.EachLemmas.{Each-append}
-use Rattle.text_model.proofs.Elements.{in_map, in_left, in_right, each_in, none_in, none_all, map_append}
-use Rattle.text_model.proofs.TestLemmas.{both}
-use Rattle.text_model.proofs.Options.{not_true}
+use Rattle.text_model.proofs.Elements.{in_left, in_right, each_in}
 use Rattle.hg_model.specs.Revision.{Revision, known_after_all}
 use Rattle.hg_model.specs.Reading.{Arrival, bundle_reading}
 use Rattle.git_model.specs.Object.{Object}
 use Rattle.git_model.specs.Stream.{IsChecked}
 use Rattle.git_model.specs.Tree.{has_distinct}
-use Rattle.view_model.specs.View.{ChangesetView, IsCommitView, changeset_node, commit_id, tree_paths}
+use Rattle.view_model.specs.View.{ChangesetView, IsCommitView, changeset_node, tree_paths}
 use Rattle.view_model.specs.Held.{AreChangesetsHeld}
-use Rattle.pair_model.specs.Block.{Block, node_of, id_of, changesets_in, commits_in}
+use Rattle.pair_model.specs.Block.{Block, node_of, changesets_in, commits_in}
 use Rattle.partner_model.specs.Partner.{IsHeldView}
 use Rattle.partner_model.specs.Table.{IsTable}
 use Rattle.history_model.specs.Pull.{revisions_among}
@@ -26,50 +23,10 @@ use Rattle.state_model.specs.Saved.{AreDumped, AreCommitsSaved, IsState}
 use Rattle.saved_model.specs.Step.{dump_revisions, dump_objects}
 use Rattle.pull_law.specs.Sound.{HasOwnNode}
 use Rattle.pull_law.proofs.Known.{objects-after, held-node}
+use Rattle.dump_law.proofs.Blocks.{nodes-distinct, ids-blocks}
 use Rattle.history_law.specs.Sound.{HasViews, IsSound}
 use Rattle.history_law.proofs.Known.{changesets_of}
 use Rattle.history_law.proofs.Read.{read-own}
-
--- ---- ids
-
--- where all are distinct, those behind are
-distinct-rest : (xs ys : List Id) → has_distinct (xs ++ ys) ≡ true → has_distinct ys ≡ true
-distinct-rest [] ys h = h
-distinct-rest (x ∷ xs) ys h = distinct-rest xs ys (both (not (list_any (bytes_eq x) (xs ++ ys))) (has_distinct (xs ++ ys)) h).1
-
--- and the first is none of the others
-distinct-first : (x : Id) (ys : List Id) → has_distinct (x ∷ ys) ≡ true → (list_any (bytes_eq x) ys ≡ false) × (has_distinct ys ≡ true)
-distinct-first x ys h = let b = both (not (list_any (bytes_eq x) ys)) (has_distinct ys) h in (not_true (list_any (bytes_eq x) ys) b.0, b.1)
-
--- the node of each block is one of the nodes of its changesets
-node-in : (blocks : List Block) (node : Id) → In node (map node_of blocks) → In node (map changeset_node (changesets_in blocks))
-node-in [] node i = absurd i
-node-in (b ∷ blocks) node i = subst (In node) (sym (map_append changeset_node (changesets_of b) (changesets_in blocks))) (by i (node-in blocks node))
-  where
-    own : In (node_of b) (map changeset_node (changesets_of b))
-    own = in_map changeset_node b.changeset (changesets_of b) (in_right b.changeset b.links (b.changeset ∷ []) (inl refl))
-
-    by : In node (map node_of (b ∷ blocks)) → (In node (map node_of blocks) → In node (map changeset_node (changesets_in blocks)))
-        → In node (map changeset_node (changesets_of b) ++ map changeset_node (changesets_in blocks))
-    by (inl e) later = subst (λ (n : Id). In n (map changeset_node (changesets_of b) ++ map changeset_node (changesets_in blocks))) (sym e)
-        (in_left (node_of b) (map changeset_node (changesets_of b)) (map changeset_node (changesets_in blocks)) own)
-    by (inr j) later = in_right node (map changeset_node (changesets_of b)) (map changeset_node (changesets_in blocks)) (later j)
-
-nodes-distinct : (blocks : List Block) → has_distinct (map changeset_node (changesets_in blocks)) ≡ true → has_distinct (map node_of blocks) ≡ true
-nodes-distinct [] h = refl
-nodes-distinct (b ∷ blocks) h =
-    let rest = map changeset_node (changesets_in blocks) in
-    let links = map changeset_node b.links in
-    let split : map changeset_node (changesets_in (b ∷ blocks)) ≡ links ++ node_of b ∷ rest =
-    map_append changeset_node (changesets_of b) (changesets_in blocks) ∙ ap (λ (l : List Id). l ++ rest) (map_append changeset_node b.links (b.changeset ∷ []))
-    ∙ append_assoc links (node_of b ∷ []) rest in
-    let first = distinct-first (node_of b) rest (distinct-rest links (node_of b ∷ rest) (sym (ap has_distinct split) ∙ h)) in
-    let none = none_all (bytes_eq (node_of b)) (map node_of blocks) (λ n i. none_in (bytes_eq (node_of b)) rest n first.0 (node-in blocks n i)) in
-    (λ i. not (none i) && nodes-distinct blocks first.1 i)
-
-ids-are : (blocks : List Block) → map commit_id (commits_in blocks) ≡ map id_of blocks
-ids-are [] = refl
-ids-are (b ∷ blocks) = ap (λ (l : List Id). id_of b ∷ l) (ids-are blocks)
 
 -- ---- what the dumps say
 
@@ -105,7 +62,7 @@ module _ (blocks : List Block) (known : List Revision) (own : Each HasOwnNode kn
   pub saved-table : AreDumped (changesets_in blocks) → AreCommitsSaved (commits_in blocks) → IsTable blocks
   saved-table changesets commits = record {
     nodes = nodes-distinct blocks changesets.distinct;
-    ids = ap has_distinct (sym (ids-are blocks)) ∙ commits.distinct;
+    ids = ap has_distinct (sym (ids-blocks blocks)) ∙ commits.distinct;
     there = nodes-there blocks (λ h i. i);
     rows = rows-rise blocks commits.views;
   }

@@ -14,7 +14,7 @@ use Rattle.pair_model.specs.Block.{Parents}
 use Rattle.pair_model.specs.Rule.{entry_at, same_entry, parents_rows, ruled_files}
 use Rattle.pair_known.specs.Rows.{RowValue, row_value}
 use Rattle.text_model.proofs.Search.{find-map}
-use Rattle.hg_dump.proofs.PathLemmas.{IsUp}
+use Rattle.path_law.proofs.Order.{IsUp}
 use Rattle.manifest_rule.specs.Listed.{entry_of_value, entries_or_none, AreParentEntries, AreListed, AreListedBy}
 use Rattle.manifest_rule.specs.Merged.{said, differs}
 use Rattle.manifest_rule.proofs.MergeLemmas.{entry_paths, at_path, all_paths, is_listed_at, listed_among}

@@ -10,7 +10,7 @@ use Rattle.text_model.proofs.EachLemmas.{Each-weaker}
 use Rattle.text_model.proofs.OrderLemmas.{is_below-same, is_below-chain, below-other as other, above-other}
 use Rattle.text_model.proofs.TestLemmas.{bytes_eq-is, bytes_eq-self as same}
 use Rattle.hg_model.specs.Manifest.{ManifestEntry}
-use Rattle.hg_dump.proofs.PathLemmas.{has, IsUp, same-rising, up-in_order, has-in_order, apart-first, has-first}
+use Rattle.path_law.proofs.Order.{has, IsUp, same-rising, up-in_order, has-in_order, apart-first, has-first}
 use Rattle.manifest_rule.specs.Merged.{is_listed, with_path, IsAtFront}
 
 -- ---- one list of entries, whose paths rise

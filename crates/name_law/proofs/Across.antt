@@ -6,10 +6,11 @@ use Rattle.text_model.specs.Text.{Bytes}
 use Rattle.text_model.specs.Id.{hex}
 use Rattle.state_model.specs.Kept.{NameRow}
 use Rattle.state_model.specs.Text.{refs_text}
-use Rattle.name_model.specs.Ref.{is_fit_ref}
+use Rattle.state_model.specs.Ref.{is_fit_ref}
+use Rattle.state_model.specs.Names.{Targets, is_target, AreNames}
 use Rattle.name_model.specs.Line.{line_words}
-use Rattle.name_model.specs.Targets.{Targets, AreTargets, is_target, line_of_ref}
-use Rattle.name_model.specs.Reading.{of_ref_line, of_name_line, refs_reading, names_reading, names_text, AreNames}
+use Rattle.name_model.specs.Targets.{AreTargets, line_of_ref}
+use Rattle.name_model.specs.Reading.{of_ref_line, of_name_line, refs_reading, names_reading, names_text}
 use Rattle.name_model.proofs.OrderLemmas.{rises-up, up-apart}
 use Rattle.name_model.proofs.TextLemmas.{Returns, printed}
 use Rattle.name_law.proofs.Results.{ok_is}

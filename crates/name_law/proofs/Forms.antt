@@ -1,7 +1,8 @@
 -- The line of a ref that can be kept gives that ref.
-use Rattle.std.proofs.Common.{◌≡◌, ◌==◌, Bool, true, false, not, ◌&&◌, ◌||◌, [], ◌∷◌, ◌++◌, length, take, drop, take-append-drop, Option, Some, None, Ok, Err, refl, sym, ap, subst, ◌∙◌, true≢false}
+use Rattle.std.proofs.Common.{◌≡◌, ◌≤◌, ◌==◌, Bool, true, false, not, ◌&&◌, ◌||◌, [], ◌∷◌, ◌++◌, length, take, drop, take-append-drop, Option, Some, None, Ok, Err, refl, sym, ap, subst, ◌∙◌, true≢false, arith}
 use Rattle.std.specs.Prelude.{nat_le, if◌then◌else◌, is_some, bytes_eq, codes}
 use Rattle.std.specs.List.{list_all, starts_with, ends_with}
+use Rattle.std.proofs.lemmas.Bool.Decides.{nat_tests}
 use Rattle.std.proofs.lemmas.Slice.Eq.{bytes_eq-Decides}
 use Rattle.text_model.specs.Text.{Bytes, has_piece}
 use Rattle.text_model.specs.Id.{Id, IsId, hex, has_id}
@@ -13,10 +14,11 @@ use Rattle.text_model.proofs.LackLemmas.{Lacks-rest}
 use Rattle.text_model.proofs.Options.{some_is, none_some}
 use Rattle.state_model.specs.Kept.{NameRow}
 use Rattle.state_model.specs.Text.{ref_line}
-use Rattle.name_model.specs.Limits.{ref_limit}
-use Rattle.name_model.specs.Ref.{is_ref_byte, is_ref_part, is_fit_ref}
+use Rattle.state_model.specs.Limits.{ref_limit}
+use Rattle.state_model.specs.Ref.{is_ref_byte, is_ref_part, is_fit_ref}
+use Rattle.state_model.specs.Names.{Targets, changeset_of, is_target}
 use Rattle.name_model.specs.Line.{Phase, Public, Draft, Secret, NameLine, OtherRef, heads, tags, phase_ref, ref_name, line_words, line_text}
-use Rattle.name_model.specs.Targets.{Targets, AreTargets, changeset_of, is_target, found_or, known_or, target, row_of, given, behind, phase_in, phase_line, tag_or_phase, commit_line_by, commit_line, tag_line_by, tag_line, line_with, line_of_ref}
+use Rattle.name_model.specs.Targets.{AreTargets, found_or, known_or, target, row_of, given, behind, phase_in, phase_line, tag_or_phase, commit_line_by, commit_line, tag_line_by, tag_line, line_with, line_of_ref}
 use Rattle.name_model.specs.Reading.{is_other, is_first_form, in_first_form, given_by, of_ref_line, of_name_line}
 use Rattle.name_law.proofs.Pairs.{found_passes, among_ids, ArePartners, partners}
 use Rattle.name_law.proofs.Words.{IsLine, one_line, line-back, ref_line-back, ref_line-lacks}
@@ -29,12 +31,25 @@ bytes-lack (b ∷ name) h =
     let parts = both (is_ref_byte b) (list_all is_ref_byte name) h in
     ((λ e. true≢false (sym parts.0 ∙ ap is_ref_byte e)), bytes-lack name parts.1)
 
-third : (a b c d e f g : Bool) → (a && b && c && d && e && f && g) ≡ true → c ≡ true
-third a b c d e f g h =
+three : (a b c d e f g : Bool) → (a && b && c && d && e && f && g) ≡ true → (a && b && c) ≡ true
+three a b c d e f g h =
     let six = (both (a && b && c && d && e && f) g h).0 in
     let five = (both (a && b && c && d && e) f six).0 in
     let four = (both (a && b && c && d) e five).0 in
-    (both (a && b) c (both (a && b && c) d four).0).1
+    (both (a && b && c) d four).0
+
+second : (a b c d e f g : Bool) → (a && b && c && d && e && f && g) ≡ true → b ≡ true
+second a b c d e f g h = (both a b (both (a && b) c (three a b c d e f g h)).0).1
+
+third : (a b c d e f g : Bool) → (a && b && c && d && e && f && g) ≡ true → c ≡ true
+third a b c d e f g h = (both (a && b) c (three a b c d e f g h)).1
+
+pub fit-short : (name : Bytes) → is_fit_ref name ≡ true → length name ≤ ref_limit
+unfolding is_fit_ref
+fit-short name h =
+    let test = second (starts_with ◌==◌ name (codes "refs/")) (nat_le (length name) ref_limit) (list_all is_ref_byte name) (list_all is_ref_part (components name))
+    (not (ends_with ◌==◌ name (codes "."))) (not (has_piece (codes "..") name)) (not (has_piece (codes "@{") name)) h in
+    grind (arith, test, nat_tests)
 
 fit-lacks : (name : Bytes) → is_fit_ref name ≡ true → Lacks 10 name
 unfolding is_fit_ref
@@ -120,7 +135,8 @@ module _ (t : Targets) (a : AreTargets t) (row : NameRow) (fit : is_fit_ref row.
       by (Some node) e = of_commit node (partner node e)
       by None e = of_tag (kept e)
 
-  id_is : IsId row.id
+  -- what a ref names is an id
+  pub id_is : IsId row.id
   id_is = by (changeset_of t row.id) refl
     where
       by : (o : Option Id) → changeset_of t row.id ≡ o → IsId row.id

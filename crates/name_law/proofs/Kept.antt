@@ -7,10 +7,11 @@ use Rattle.text_model.specs.Id.{Id, has_id}
 use Rattle.text_model.specs.Fault.{FaultName, RefUnfit, TargetUnknown, TagUnknown, Refusal}
 use Rattle.text_model.proofs.TestLemmas.{or_true}
 use Rattle.state_model.specs.Kept.{NameRow}
-use Rattle.name_model.specs.Ref.{is_fit_ref}
+use Rattle.state_model.specs.Ref.{is_fit_ref}
+use Rattle.state_model.specs.Names.{Targets, changeset_of, is_target, is_name_below, AreNames}
 use Rattle.name_model.specs.Line.{NameLine, Bookmark, PlainTag, Annotated, InPhase, OtherRef, ref_name, name_line_of, ref_line_of}
-use Rattle.name_model.specs.Targets.{Targets, commit_of, changeset_of, is_target, found_or, known_or, target, row_of, given}
-use Rattle.name_model.specs.Reading.{Reader, in_first_form, given_by, of_ref_line, of_name_line, is_name_below, first_refused, rows_of, set_by, set_of, refs_reading, names_reading, AreNames}
+use Rattle.name_model.specs.Targets.{commit_of, found_or, known_or, target, row_of, given}
+use Rattle.name_model.specs.Reading.{Reader, in_first_form, given_by, of_ref_line, of_name_line, first_refused, rows_of, set_by, set_of, refs_reading, names_reading}
 use Rattle.name_model.proofs.OrderLemmas.{each-ordered, length-ordered, up-ordered, up-rises}
 use Rattle.name_model.proofs.TextLemmas.{taken, each_row}
 use Rattle.name_law.proofs.Results.{ok_is, err_ok}

@@ -4,3 +4,4 @@ mod Words
 mod Forms
 pub mod Kept
 pub mod Across
+pub mod Sizes

@@ -1,12 +1,13 @@
 //! Laws of the names of commits and tags: what a text sets can be kept, and comes back from the text of either side. No code.
 #![tactic(auto)]
 
-ghost use Rattle.std.specs.Prelude.{◌≡◌, List, Ok};
+ghost use Rattle.std.specs.Prelude.{◌≡◌, List, length, Ok, ◌≤◌, ◌*◌};
 ghost use Rattle.text_model.specs.Text.{Bytes};
 ghost use Rattle.state_model.specs.Kept.{NameRow};
 ghost use Rattle.state_model.specs.Text.{refs_text};
-ghost use Rattle.name_model.specs.Targets.{Targets, AreTargets};
-ghost use Rattle.name_model.specs.Reading.{refs_reading, names_reading, names_text, AreNames};
+ghost use Rattle.state_model.specs.Names.{Targets, AreNames};
+ghost use Rattle.name_model.specs.Targets.{AreTargets};
+ghost use Rattle.name_model.specs.Reading.{refs_reading, names_reading, names_text};
 
 /// What a text of refs sets can be kept (`refs`), and what a text of Mercurial's side sets (`names`): the limit holds, each ref is fit and
 /// names a saved commit or a kept tag, and the refs rise.
@@ -28,4 +29,9 @@ pub fn names_go_across()
 pub fn names_are_one()
     ensures names { (t : Targets) (xs ys : List NameRow) → AreTargets t → AreNames t xs → AreNames t ys → names_text t xs ≡ names_text t ys → xs ≡ ys }
     ensures refs { (t : Targets) (xs ys : List NameRow) → AreTargets t → AreNames t xs → AreNames t ys → refs_text xs ≡ refs_text ys → xs ≡ ys }
+{}
+
+/// A line of a text of refs has at most 4,138 bytes: 40 digits, a space, the ref and LF.
+pub fn names_are_short()
+    ensures { (t : Targets) (names : List NameRow) → AreTargets t → AreNames t names → length (refs_text names) ≤ 4138 * length names }
 {}

@@ -6,7 +6,7 @@ use Rattle.text_model.proofs.EachLemmas.{Each-weaker}
 use Rattle.text_model.proofs.OrderLemmas.{is_below-one_way, is_below-same, is_below-chain, below-other}
 use Rattle.text_model.proofs.TestLemmas.{both, bytes_eq-self}
 use Rattle.state_model.specs.Kept.{NameRow}
-use Rattle.name_model.specs.Reading.{is_name_below}
+use Rattle.state_model.specs.Names.{is_name_below}
 
 -- each name is below all that come after it
 abbrev pub Up : List NameRow → Type 0

@@ -11,8 +11,9 @@ use Rattle.text_model.proofs.LineLemmas.{whole_lines-line, whole_lines-none}
 use Rattle.text_model.proofs.EachLemmas.{Each-weaker}
 use Rattle.text_model.proofs.Options.{some_none, or_parts, or_neither}
 use Rattle.state_model.specs.Kept.{NameRow}
-use Rattle.name_model.specs.Limits.{name_limit}
-use Rattle.name_model.specs.Reading.{Reader, is_row_of, row_in, is_name_below, gives_name, fault_of, line_fault, refusal_or, first_refused, rows_of, set_by, set_of}
+use Rattle.state_model.specs.Limits.{name_limit}
+use Rattle.state_model.specs.Names.{is_name_below}
+use Rattle.name_model.specs.Reading.{Reader, is_row_of, row_in, gives_name, fault_of, line_fault, refusal_or, first_refused, rows_of, set_by, set_of}
 use Rattle.name_model.proofs.OrderLemmas.{Up, Apart, ordered-stays}
 
 any-append : (test : Bytes → Bool) (xs ys : List Bytes) → list_any test (xs ++ ys) ≡ (list_any test xs || list_any test ys)

@@ -1,5 +1,3 @@
-pub mod Limits
-pub mod Ref
 pub mod Line
 pub mod Targets
 pub mod Reading

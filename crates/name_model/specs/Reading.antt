@@ -1,14 +1,14 @@
 -- The texts of names, what they set, and why one is refused. Names come in any order and are kept in that of their refs.
-use Rattle.std.specs.Prelude.{ℕ, ◌+◌, ◌≤◌, Bool, true, false, nat_le, if◌then◌else◌, List, [], ◌∷◌, ◌++◌, length, Option, Some, None, Result, Ok, Err, bytes_eq, IsTrue}
+use Rattle.std.specs.Prelude.{ℕ, ◌+◌, Bool, true, false, nat_le, if◌then◌else◌, List, [], ◌∷◌, ◌++◌, length, Option, Some, None, Result, Ok, Err, bytes_eq}
 use Rattle.std.specs.List.{list_any, flat_map, filter_map}
-use Rattle.text_model.specs.Lists.{Each, rises, in_order}
-use Rattle.text_model.specs.Text.{Bytes, is_below, whole_lines}
+use Rattle.text_model.specs.Lists.{in_order}
+use Rattle.text_model.specs.Text.{Bytes, whole_lines}
 use Rattle.text_model.specs.Fault.{FaultName, NameShape, NameTwice, NameLimit, Refusal, refusal_at}
 use Rattle.state_model.specs.Kept.{NameRow}
-use Rattle.name_model.specs.Limits.{name_limit}
-use Rattle.name_model.specs.Ref.{is_fit_ref}
+use Rattle.state_model.specs.Limits.{name_limit}
+use Rattle.state_model.specs.Names.{Targets, is_name_below}
 use Rattle.name_model.specs.Line.{NameLine, Bookmark, PlainTag, Annotated, InPhase, OtherRef, line_text, name_line_of, ref_line_of}
-use Rattle.name_model.specs.Targets.{Targets, is_target, given, line_of_ref}
+use Rattle.name_model.specs.Targets.{given, line_of_ref}
 
 -- ---- what one line gives, or why not
 
@@ -50,10 +50,6 @@ is_row_of name (Err why) = false
 abbrev pub row_in : Result NameRow FaultName → Option NameRow
 row_in (Ok row) = Some row
 row_in (Err why) = None
-
--- the refs in the order of their names
-abbrev pub is_name_below : NameRow → NameRow → Bool
-is_name_below a b = is_below a.name b.name
 
 -- what each line of a text gives, or why not
 abbrev pub Reader : Type 0
@@ -103,11 +99,3 @@ names_reading t text = set_of (of_name_line t) text
 -- what is printed of names for Mercurial's side; `refs_text` is the other side's
 abbrev pub names_text : Targets → List NameRow → Bytes
 names_text t names = flat_map (λ row. line_text (line_of_ref t row)) names
-
--- ---- the names that a state may keep
-
-pub record AreNames (t : Targets) (names : List NameRow) : Type 0 where
-  pub few : length names ≤ name_limit
-  pub fit : Each (λ row. IsTrue (is_fit_ref row.name)) names
-  pub targets : Each (λ row. IsTrue (is_target t row.id)) names
-  pub rising : IsTrue (rises is_name_below names)

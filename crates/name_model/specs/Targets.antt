@@ -1,20 +1,15 @@
--- What names may name: the changesets and commits of a saved history, and its kept tags.
-use Rattle.std.specs.Prelude.{◌==◌, Bool, ◌||◌, is_some, if◌then◌else◌, List, [], ◌∷◌, length, map, drop, Option, Some, None, option_map, Result, Ok, Err, bytes_eq, IsTrue}
+-- What a line of names gives over what names may name, and the line of a ref.
+use Rattle.std.specs.Prelude.{◌==◌, Bool, if◌then◌else◌, [], ◌∷◌, length, map, drop, Option, Some, None, option_map, Result, Ok, Err, bytes_eq, IsTrue}
 use Rattle.std.specs.List.{find, starts_with}
 use Rattle.text_model.specs.Lists.{Each}
 use Rattle.text_model.specs.Text.{Bytes}
 use Rattle.text_model.specs.Id.{Id, IsId, has_id}
 use Rattle.text_model.specs.Fault.{FaultName, RefUnfit, TargetUnknown, TagUnknown}
 use Rattle.git_model.specs.Tree.{has_distinct}
-use Rattle.pair_model.specs.Block.{node_of, id_of}
-use Rattle.state_model.specs.Kept.{Kept, NameRow, ids_of}
-use Rattle.name_model.specs.Ref.{is_fit_ref}
+use Rattle.state_model.specs.Kept.{NameRow}
+use Rattle.state_model.specs.Ref.{is_fit_ref}
+use Rattle.state_model.specs.Names.{Targets, changeset_of, is_target}
 use Rattle.name_model.specs.Line.{Phase, Public, Draft, Secret, NameLine, Bookmark, PlainTag, Annotated, InPhase, OtherRef, heads, tags, phase_ref, ref_name}
-
--- the nodes and ids of a history's pairs, and the ids of the kept tags
-pub record Targets : Type 0 where
-  pub pairs : List (Id × Id)
-  pub tags : List Id
 
 -- ids, of which no node and no commit stands twice
 pub record AreTargets (t : Targets) : Type 0 where
@@ -23,19 +18,9 @@ pub record AreTargets (t : Targets) : Type 0 where
   pub nodes : IsTrue (has_distinct (map (λ e. e.0) t.pairs))
   pub commits : IsTrue (has_distinct (map (λ e. e.1) t.pairs))
 
-abbrev pub targets_in : Kept → Targets
-targets_in k = record { pairs = map (λ b. (node_of b, id_of b)) k.blocks; tags = ids_of k.tags }
-
--- the partner of a changeset and of a commit
+-- the partner of a changeset
 abbrev pub commit_of : Targets → Id → Option Id
 commit_of t node = option_map (λ e. e.1) (find (λ e. bytes_eq e.0 node) t.pairs)
-
-abbrev pub changeset_of : Targets → Id → Option Id
-changeset_of t id = option_map (λ e. e.0) (find (λ e. bytes_eq e.1 id) t.pairs)
-
--- a saved commit or a kept tag
-abbrev pub is_target : Targets → Id → Bool
-is_target t id = is_some (changeset_of t id) || has_id t.tags id
 
 -- ---- from a line to the ref that it gives
 

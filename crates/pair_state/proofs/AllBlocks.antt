@@ -17,6 +17,8 @@ use Rattle.pair_model.specs.Block.{Block, changesets_in}
 use Rattle.pair_known.proofs.HeldViews.{one_view}
 use Rattle.pair_state.specs.AllBlocks.{HasAllBlocks, is_referred, stands_in}
 use Rattle.pair_state.specs.Blocks.{IsStateOf}
+use Rattle.pair_state.specs.Names.{with_names}
+use Rattle.state_model.specs.Kept.{NameRow}
 use Rattle.history_model.specs.Pull.{is_saved}
 use Rattle.pair_state.specs.declared.state_parts.StateParts.{StateParts}
 use Rattle.pair_state.proofs.BlockLemmas.{has-view, parts_of, nodes-append}
@@ -109,3 +111,17 @@ pub stands-more : (blocks new : List Block) (node : Id) → stands_in blocks nod
 stands-more blocks new node h =
     sym (has-view (changesets_in (blocks ++ new)) node) ∙ ap (λ (ns : List Id). has_id ns node) (nodes-append blocks new)
     ∙ more-nodes (map changeset_node (changesets_in blocks)) (map changeset_node (changesets_in new)) node (has-view (changesets_in blocks) node ∙ h)
+
+-- other names change nothing of the history
+pub named-all : (s : StateParts) (names : List NameRow) (blocks : List Block) → HasAllBlocks s blocks → HasAllBlocks (with_names s names) blocks
+named-all s names blocks h = record {
+  state = record {
+    held = (h.state).held;
+    sound = (h.state).sound;
+    blocks_are = (h.state).blocks_are;
+    changesets = (h.state).changesets;
+    commits = (h.state).commits;
+    agreed = (h.state).agreed;
+  };
+  saved = h.saved;
+}

@@ -1,5 +1,5 @@
 -- A store that grows by one object after another, turn by turn of a loop.
-use Rattle.std.proofs.Common.{◌≡◌, List, [], ◌∷◌, ◌++◌, refl, sym, ap, subst, ◌∙◌, append_assoc, map, Result, Ok, Err}
+use Rattle.std.proofs.Common.{◌≡◌, List, [], ◌∷◌, ◌++◌, refl, sym, ap, subst, ◌∙◌, append_assoc, map, Result, Err}
 use Rattle.text_model.specs.Lists.{Each}
 use Rattle.text_model.proofs.EachLemmas.{Each-rest}
 use Rattle.git_model.specs.Object.{Object}

@@ -3,7 +3,7 @@ use Rattle.std.proofs.Common.{◌≡◌, ◌≢◌, ◌≤◌, ◌+◌, ◌⊎�
 use Rattle.std.specs.Prelude.{bytes_eq, filter, if◌then◌else◌}
 use Rattle.std.specs.List.{flat_map, filter_map, cons_option, find}
 use Rattle.std.proofs.lemmas.Slice.Eq.{bytes_eq-Decides}
-use Rattle.text_model.specs.Lists.{In, first_of_each, with_inserted, in_order}
+use Rattle.text_model.specs.Lists.{In, first_of_each, with_inserted}
 use Rattle.text_model.specs.Text.{Bytes}
 use Rattle.text_model.specs.Id.{Id, blob, tree, object_id}
 use Rattle.git_model.specs.Tree.{Mode, Directory, is_directory, is_blob_mode, TreeEntry, tree_text, is_entry_below}

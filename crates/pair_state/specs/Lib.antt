@@ -3,3 +3,4 @@ pub mod AllBlocks
 pub mod Push
 pub mod Step
 pub mod Came
+pub mod Names

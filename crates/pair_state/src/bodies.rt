@@ -16,8 +16,8 @@ use hg_manifest::Manifest;
 use hg_store::HgStore;
 use pair_known::{Cursor, HgDraft, HgRow, HgRows, Known};
 
-// Whether the blob of each file of a changeset is its body. A file with the revision that an agreed parent has needs no look at
-// its body: that of the parent is a blob of the store.
+/// Whether the blob of each file of a changeset is its body. Such a blob is an object of the store by its id, which need not be that of the
+/// body. A file with the revision that an agreed parent has needs no look at its body: that of the parent is a blob of the store.
 pub fn have_bodies(known: &Known, agreed: &IdSet, h: &HgDraft) -> bool
     requires rows { (xs : List Row) × AreAsked known.now.hg known.now.git h.now.rows xs }
     requires agreed { HaveBlobs known.now.hg known.now.git agreed.now }

@@ -5,7 +5,6 @@ mod blocks;
 mod bodies;
 mod fault;
 mod files;
-mod names;
 mod node_list;
 mod objects;
 mod order;
@@ -16,8 +15,9 @@ mod state;
 mod state_parts;
 
 pub use blocks::{Block, Blocks};
+pub use bodies::have_bodies;
 pub use fault::PushFault;
-pub use names::{NameRow, Names};
 pub use node_list::NodeList;
+pub use revisions::add_changeset;
 pub use state::State;
 pub use state_parts::StateParts;

@@ -47,8 +47,8 @@ pub fn add_revision(
     }
 }
 
-// Adds the revisions of a changeset: its own with this node and text, its manifest's and its files'. The lines are those of the
-// manifest, where they were made.
+/// Adds the revisions of a changeset: its own with this node and text, its manifest's and its files'. The lines are those of the
+/// manifest, where they were made. Collision comes where one of them has the null id, or is known with another text or other parents.
 pub fn add_changeset(
     alloc: Global,
     hg: &mut HgStore,

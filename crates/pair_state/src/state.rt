@@ -2,12 +2,13 @@ ghost use Rattle.std.specs.Prelude.{◌≡◌, [], ◌==◌, List, length};
 ghost use Rattle.pair_model.specs.Block.{Block};
 ghost use Rattle.pair_known.specs.Partners.{git_at, hg_at};
 ghost use Rattle.pair_state.specs.AllBlocks.{HasAllBlocks};
+ghost use Rattle.pair_state.specs.Names.{with_names};
 
 use crate::blocks::Blocks;
-use crate::names::Names;
 use crate::state_parts::StateParts;
 use bridge_text::{Id, IdList};
 use pair_known::Known;
+use ref_map::Rows;
 use std::alloc::Global;
 use std::marker::Model;
 
@@ -104,11 +105,20 @@ impl State {
         &self.parts.tags
     }
 
-    /// The names of commits and kept tags.
-    pub fn names(&self) -> &Names
+    /// The names of commits and kept tags, in the order of their refs.
+    pub fn names(&self) -> &Rows
         ensures { result.now ≡ self.now.names }
     {
         &self.parts.names
+    }
+
+    /// The state with these names in place of its own.
+    pub fn with_names(self, names: Rows) -> State
+        ensures { result ≡ with_names self names }
+    {
+        let mut parts = self.into_parts();
+        parts.names = names;
+        State::from_parts(parts)
     }
 
     /// The commit whose partner is the changeset with this node; `None` exactly where it has none.

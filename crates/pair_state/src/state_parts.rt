@@ -2,12 +2,12 @@ ghost use Rattle.std.specs.Prelude.{◌≡◌, []};
 ghost use Rattle.pair_state.specs.Blocks.{IsStateOf};
 
 use crate::blocks::Blocks;
-use crate::names::Names;
 use crate::node_list::NodeList;
 use bridge_text::{IdList, IdSet};
 use git_store::GitStore;
 use hg_store::HgStore;
 use pair_known::{Known, Partners};
+use ref_map::Rows;
 use std::alloc::Global;
 
 /// The parts of a state while a pull changes them: what both sides hold, the pairs of their history in its order, and the tags
@@ -24,8 +24,8 @@ pub struct StateParts {
     pub commits: IdList,
     /// The ids of the kept tags, in the order in which they came.
     pub tags: IdList,
-    /// The names of commits and kept tags.
-    pub names: Names,
+    /// The names of commits and kept tags, in the order of their refs.
+    pub names: Rows,
     /// The nodes of changesets whose bodies were compared with the blobs of their commits.
     pub agreed: IdSet,
     /// The allocator from which the state takes its memory.
@@ -51,7 +51,7 @@ impl StateParts {
             changesets: NodeList::new(alloc),
             commits: IdList::new(alloc),
             tags: IdList::new(alloc),
-            names: Names::new(alloc),
+            names: Rows::new(alloc),
             agreed: IdSet::new(alloc),
             alloc,
         }

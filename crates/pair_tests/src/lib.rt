@@ -6,6 +6,8 @@ mod drafts;
 #[cfg(test)]
 mod files;
 #[cfg(test)]
+mod histories;
+#[cfg(test)]
 mod links;
 #[cfg(test)]
 mod manifests;

@@ -1,5 +1,5 @@
 -- What a pull comes to, by what its parts say.
-use Rattle.std.proofs.Common.{◌≡◌, ◌≤◌, ◌+◌, ◌*◌, ◌⊎◌, ℕ, true, inl, inr, List, [], ◌∷◌, ◌++◌, length, take, drop, map, Option, Some, None, Ok, refl, sym, ap, subst, ◌∙◌, arith, length-append, append-nil}
+use Rattle.std.proofs.Common.{◌≡◌, ◌≤◌, ◌+◌, ◌*◌, ◌⊎◌, ℕ, true, inl, inr, List, [], ◌∷◌, ◌++◌, length, take, drop, map, Option, Some, None, Ok, Err, refl, sym, ap, subst, ◌∙◌, arith, length-append, append-nil}
 use Rattle.std.specs.Prelude.{IfSome, IsTrue}
 use Rattle.std.proofs.lemmas.List.{length-map}
 use Rattle.text_model.specs.Lists.{Each, In, SomeOf}
@@ -49,6 +49,14 @@ use Rattle.pull_bundle.proofs.StepLemmas.{count-is, some-taken}
 pub memory-refused : (o : Option Bytes) (s : StateParts) → IfSome o (λ bytes. (blocks : List Block) → HasAllBlocks s blocks → RefusesHg s blocks bytes Memory)
 memory-refused None s = tt
 memory-refused (Some bytes) s = λ blocks has. tt
+
+-- the bytes are refused
+pub read-refused : (o : Option Bytes) (s : StateParts) (e : PullFault) → IfSome o (λ bytes. IsRefusedBy (λ why. bundle_reading s.known.hg bytes ≡ Err why) e)
+    → IfSome o (λ bytes. (blocks : List Block) → HasAllBlocks s blocks → RefusesHg s blocks bytes e)
+read-refused None s e due = tt
+read-refused (Some bytes) s (Refused why) due = λ blocks has. inl due
+read-refused (Some bytes) s Read due = λ blocks has. tt
+read-refused (Some bytes) s Memory due = λ blocks has. tt
 
 pub no-read_cause : (before now : ℕ) (e : PullFault) → IsNoRead e → now ≡ before → FaultCause before now e
 no-read_cause before now (Refused why) h same = same

@@ -10,6 +10,7 @@ use Rattle.git_batch.proofs.StreamLaws.{brings_all}
 use Rattle.view_model.specs.Dump.{brought_by, written_bundle, written_group, written_from, paths_in, git_increment}
 use Rattle.state_model.specs.Kept.{empty_state, hg_dump}
 use Rattle.state_model.specs.Limits.{dump_limit, slot_limit}
+use Rattle.state_model.specs.Names.{targets_of, AreNames}
 use Rattle.state_model.specs.Saved.{AreDumped, AreCommitsSaved, AreTagsSaved, IsState, links_lead}
 use Rattle.state_model.specs.Text.{text_up_to, section_text, sections_of, sized}
 use Rattle.saved_model.specs.Step.{in_written_order}
@@ -38,6 +39,9 @@ no-commits = record { views = tt; distinct = refl; short = omega arith; read = s
 no-tags : AreTagsSaved [] []
 unfolding git_increment stream_text
 no-tags = record { tags_only = tt; distinct = refl; read = stream-read; targets = tt; lead = tt; short = omega arith }
+
+no-names : AreNames (targets_of (sections_of empty_state)) []
+no-names = record { few = omega arith; fit = tt; targets = tt; rising = refl }
 
 -- ---- the length of its text
 
@@ -81,12 +85,12 @@ text-short = omega (
 
 pub is-state : IsState empty_state
 unfolding links_lead
-is-state = (tt, (((((tt, record { dumped = no-changesets; links = refl }), no-commits), refl), no-tags), (refl, text-short)))
+is-state = (tt, (((((tt, record { dumped = no-changesets; links = refl }), no-commits), refl), no-tags), (no-names, text-short)))
 
 pub empty-is-read : EmptyIsRead
 unfolding in_written_order brought_by paths_in
 empty-is-read s blocks revisions objects tags names = record {
   saved = is-state;
-  stands = record { blocks = blocks; tags = tags; tags_held = tt; no_names = (names, refl) };
+  stands = record { blocks = blocks; tags = tags; tags_held = tt; names = names };
   holds = record { revisions = revisions; objects = objects };
 }

@@ -87,5 +87,5 @@ module _ (s : StateParts) (m : saved.State) (read : IsReadState s m) where
     blocks = has;
     tags = at.0;
     tags_held = at.1;
-    no_names = (names ∙ (read.stands).no_names.0, (read.stands).no_names.1);
+    names = names ∙ (read.stands).names;
   }

@@ -5,9 +5,9 @@ use Rattle.git_model.specs.Object.{Object}
 use Rattle.git_model.specs.Order.{has}
 use Rattle.git_model.specs.Stream.{Placed}
 use Rattle.git_batch.specs.declared.arrival.ObjectArrival.{ObjectArrival}
-use Rattle.bridge_text.specs.declared.fault.Fault.TheVariants.{ObjectUnknown}
 use Rattle.pair_model.specs.Block.{Block, id_of}
 use Rattle.state_model.specs.Kept.{ids_of}
+use Rattle.tag_rule.specs.Answers as tag_rule
 use Rattle.tag_rule.specs.Answers.{HaveCome, IsSetOf, IsTagFault}
 use Rattle.tag_rule.specs.declared.fault.TagFault.{TagFault}
 use Rattle.tag_rule.specs.declared.fault.TagFault.TheVariants as tag
@@ -15,6 +15,7 @@ use Rattle.pull_outcome.specs.declared.refused.PullFault.TheVariants.{Refused}
 use Rattle.pair_known.specs.declared.known.Known.{Known}
 use Rattle.pair_state.specs.declared.state_parts.StateParts.{StateParts}
 use Rattle.pair_state.specs.AllBlocks.{HasAllBlocks}
+use Rattle.pull_engine.specs.Names.{IsTargetFault}
 use Rattle.pull_engine.specs.Tags.{HasTags, IsAsked, IsLacking, tag_refused}
 
 abbrev pub with_ids : StateParts → List Id → StateParts
@@ -54,8 +55,12 @@ has-tags s ids more are = record {
 -- ---- the target of a tag
 
 pub lacking-of : (found : Option Placed) (fault : TagFault) → IsTagFault found fault → IsLacking found (tag_refused fault)
-lacking-of found (tag.ObjectUnknown id at) (o, is, id_is, at_is) = inr (o, is, (λ i. Refused (record { fault = ObjectUnknown; id = id_is i; place = at_is i })))
+lacking-of found (tag.Refused why) (o, is, same) = inr (o, is, ap Refused same)
 lacking-of found tag.Memory h = inl refl
+
+pub target-of : (fault : TagFault) → tag_rule.IsTargetFault fault → IsTargetFault (tag_refused fault)
+target-of (tag.Refused why) is = is
+target-of tag.Memory is = tt
 
 -- the sets and the objects that are asked
 module _ (s : StateParts) (arrivals : List ObjectArrival) (blocks : List Block) (tags : List Object) (placed : List Placed) (asked : IsAsked s arrivals blocks tags placed) where

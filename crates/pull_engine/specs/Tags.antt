@@ -5,11 +5,10 @@ use Rattle.text_model.specs.Id.{Id}
 use Rattle.git_model.specs.Object.{Object}
 use Rattle.git_model.specs.Stream.{Placed}
 use Rattle.git_batch.specs.declared.arrival.ObjectArrival.{ObjectArrival}
-use Rattle.bridge_text.specs.declared.fault.Fault.TheVariants.{ObjectUnknown}
 use Rattle.pair_model.specs.Block.{Block, id_of}
 use Rattle.state_model.specs.Kept.{ids_of}
 use Rattle.saved_model.specs.Step.{new_tags, lacks_target}
-use Rattle.tag_rule.specs.Answers.{HaveCome}
+use Rattle.tag_rule.specs.Answers.{HaveCome, target_unknown}
 use Rattle.tag_rule.specs.declared.fault.TagFault.{TagFault}
 use Rattle.tag_rule.specs.declared.fault.TagFault.TheVariants as tag
 use Rattle.pair_state.specs.declared.state_parts.StateParts.{StateParts}
@@ -27,15 +26,16 @@ pub record IsAsked (s : StateParts) (arrivals : List ObjectArrival) (blocks : Li
 abbrev pub AreNewTags : List Block → List Object → List Placed → List Id → Type 0
 AreNewTags blocks tags came ids = (ids ≡ ids_of (new_tags tags came)) × (find (lacks_target blocks tags came) came ≡ None)
 
+-- the same refusal, of the pull
 abbrev pub tag_refused : TagFault → PullFault
-tag_refused (tag.ObjectUnknown id at) = Refused (record { fault = ObjectUnknown; id = id; place = at })
+tag_refused (tag.Refused why) = Refused why
 tag_refused tag.Memory = Memory
 
 -- the refusal is that of the first tag that lacks its target
 abbrev pub IsLacking : Option Placed → PullFault → Type 0
 IsLacking found fault =
     (fault ≡ Memory)
-    ⊎ ((o : Placed) × (found ≡ Some o) × (fault ≡ Refused (record { fault = ObjectUnknown; id = (o.object).id; place = o.at })))
+    ⊎ ((o : Placed) × (found ≡ Some o) × (fault ≡ Refused (target_unknown (o.object).id o.at)))
 
 -- the next parts have these tags behind their own, and else what the parts had
 pub record HasTags (s next : StateParts) (ids : List Id) : Type 0 where

@@ -44,6 +44,7 @@ pub fn pull_git<S: Source, L: Ledger>(
     ensures refused { IfErr result (λ fault. IfSome (S.left src.old) (λ bytes.
         (m : saved.State) → IsReadState state m → IsRefusedBy (Refuses (kept_of m) (OfStream bytes)) fault)) }
     ensures next { IfOk result (λ pulled. (m : saved.State) → IsReadState state m → (n : saved.State) × Stands pulled.state n) }
+    ensures names_stay { IfOk result (λ pulled. (pulled.state).names ≡ state.names) }
     ensures bytes { OnOk result (IfSome (S.left src.old) IsBytes) }
     ensures names { IfErr result IsOfPullGit }
     ensures end { OnOk result (IsAtEnd (S.left src.new)) }

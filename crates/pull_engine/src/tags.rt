@@ -14,7 +14,7 @@ ghost use Rattle.pull_engine.specs.Tags.{IsAsked, AreNewTags, IsLacking, HasTags
 use bridge_text::{IdList, IdSet, NoMemory};
 use git_batch::ObjectArrivals;
 use pair_state::State;
-use pull_outcome::{Fault, PullFault, Refusal};
+use pull_outcome::PullFault;
 use std::alloc::Global;
 use tag_rule::{TagFault, new_tags};
 
@@ -40,11 +40,7 @@ fn tag_fault(fault: TagFault) -> PullFault
     ensures { result ≡ tag_refused fault }
 {
     match fault {
-        TagFault::ObjectUnknown { id, at } => PullFault::Refused(Refusal {
-            fault: Fault::ObjectUnknown,
-            id,
-            place: at,
-        }),
+        TagFault::Refused(why) => PullFault::Refused(why),
         TagFault::Memory => PullFault::Memory,
     }
 }

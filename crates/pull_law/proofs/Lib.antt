@@ -11,6 +11,3 @@ pub mod Bundle
 pub mod Commits
 pub mod CommitBlocks
 pub mod Stream
-pub mod Counts
-pub mod BundleFormatLaws
-pub mod StreamFormatLaws

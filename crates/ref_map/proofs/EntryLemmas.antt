@@ -9,7 +9,7 @@ use Rattle.text_model.specs.Id.{Id}
 use Rattle.text_model.proofs.TestLemmas.{bytes_eq-sym}
 use Rattle.text_model.proofs.Options.{none_is}
 use Rattle.state_model.specs.Kept.{NameRow}
-use Rattle.name_model.specs.Reading.{is_name_below}
+use Rattle.state_model.specs.Names.{is_name_below}
 use Rattle.ref_map.specs.Entries.{entry_row}
 use Rattle.ref_map.specs.Rows.{has_name}
 

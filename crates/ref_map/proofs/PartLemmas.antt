@@ -4,7 +4,7 @@ use Rattle.std.specs.List.{list_all}
 use Rattle.text_model.specs.Text.{Bytes}
 use Rattle.text_model.specs.Path.{components}
 use Rattle.text_model.proofs.PathLemmas.{Turn}
-use Rattle.name_model.specs.Ref.{is_ref_part}
+use Rattle.state_model.specs.Ref.{is_ref_part}
 
 -- what is left is all that is left to test
 abbrev pub Left : Bytes → Bytes → Type 0

@@ -8,7 +8,7 @@ use Rattle.text_model.specs.Fault.{FaultName, NameTwice, NameLimit, Refusal, ref
 use Rattle.text_model.specs.Fault as why
 use Rattle.text_model.proofs.LineLemmas.{whole_lines-none}
 use Rattle.state_model.specs.Kept.{NameRow}
-use Rattle.name_model.specs.Limits.{name_limit}
+use Rattle.state_model.specs.Limits.{name_limit}
 use Rattle.name_model.specs.Reading.{Reader, is_row_of, row_in, gives_name, fault_of, line_fault, refusal_or, first_refused, rows_of, set_by, set_of}
 use Rattle.ref_map.specs.Faults.{IsNameFault, fault_at}
 use Rattle.ref_map.specs.Rows.{has_name, fault_after, row_fault, IsRowFault, IsTaken}

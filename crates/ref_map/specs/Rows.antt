@@ -4,9 +4,9 @@ use Rattle.std.specs.List.{list_any}
 use Rattle.text_model.specs.Text.{Bytes}
 use Rattle.text_model.specs.Fault.{FaultName, NameTwice, NameLimit}
 use Rattle.state_model.specs.Kept.{NameRow}
-use Rattle.name_model.specs.Limits.{name_limit}
+use Rattle.state_model.specs.Limits.{name_limit}
+use Rattle.state_model.specs.Names.{Targets}
 use Rattle.name_model.specs.Line.{NameLine, name_line_of, ref_line_of}
-use Rattle.name_model.specs.Targets.{Targets}
 use Rattle.name_model.specs.Reading.{Reader, in_first_form, of_ref_line, of_name_line}
 use Rattle.ref_map.specs.declared.row.Side.{Side}
 use Rattle.ref_map.specs.declared.row.Side.TheVariants.{Hg, Git}

@@ -3,18 +3,15 @@ ghost use Rattle.std.specs.Prelude.{◌≡◌};
 ghost use Rattle.std.specs.List.{list_all};
 ghost use Rattle.text_model.specs.Text as text;
 ghost use Rattle.text_model.specs.Path.{components};
-ghost use Rattle.name_model.specs.Ref.{is_ref_byte, is_ref_part, is_fit_ref};
+ghost use Rattle.state_model.specs.Ref.{is_ref_byte, is_ref_part, is_fit_ref};
 
-use bridge_text::cut_at;
+use bridge_text::{REF_LIMIT, cut_at};
 use memchr::memmem;
-
-/// The bytes of a ref's name. As many may be reached and not passed.
-pub const REF_LIMIT: usize = 4096;
 
 /// Whether the name of a ref is fit: it begins with `refs/`, has 4,096 bytes at most, and `git check-ref-format` takes it. No part
 /// between slashes is empty, begins with `.` or ends with `.lock`; the name doesn't end with `.`; it has no `..`, no `@{`, no space,
 /// no control character, and none of `~^:?*[\`.
-#[tactic(auto, unfolding(name_model::specs::Ref::is_fit_ref))]
+#[tactic(auto, unfolding(state_model::specs::Ref::is_fit_ref))]
 pub fn fit_ref(name: &[u8]) -> bool
     ensures { result ≡ is_fit_ref name.now }
 {

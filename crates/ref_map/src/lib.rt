@@ -15,7 +15,7 @@ mod rows;
 
 pub use calls::{read_names, read_refs, write_names, write_refs};
 pub use fault::{LineFault, NameFault};
-pub use fit::{REF_LIMIT, fit_ref};
+pub use fit::fit_ref;
 pub use form::{commit_line, tag_line};
 pub use line::NameLine;
 pub use lookup::Lookup;
@@ -23,4 +23,4 @@ pub use phase::Phase;
 pub use put::{put_line, put_ref};
 pub use read::{first_line, name_line, ref_line};
 pub use row::{Row, Side, line_of, row_at};
-pub use rows::{NAME_LIMIT, Rows};
+pub use rows::Rows;

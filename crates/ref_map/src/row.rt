@@ -2,6 +2,7 @@
 ghost use Rattle.std.specs.Prelude.{◌≡◌, Ok, IfOk, IfErr, option_map};
 ghost use Rattle.text_model.specs.Id.{has_id};
 ghost use Rattle.text_model.specs.Fault as fault;
+ghost use Rattle.state_model.specs.Names as names;
 ghost use Rattle.name_model.specs.Line.{name_line_of};
 ghost use Rattle.name_model.specs.Targets as model;
 ghost use Rattle.name_model.specs.Reading.{in_first_form};
@@ -140,8 +141,8 @@ fn kept_tag<K: Lookup>(known: &K, id: &Id) -> Result<Id, LineFault>
 }
 
 fn saved<K: Lookup>(known: &K, id: &Id) -> Result<Id, LineFault>
-    ensures id { IfOk result (λ found. model.known_or fault.TargetUnknown (model.is_target (K.targets known.now) id.now) id.now ≡ Ok found) }
-    ensures fault { IfErr result (IsLineFault (model.known_or fault.TargetUnknown (model.is_target (K.targets known.now) id.now) id.now)) }
+    ensures id { IfOk result (λ found. model.known_or fault.TargetUnknown (names.is_target (K.targets known.now) id.now) id.now ≡ Ok found) }
+    ensures fault { IfErr result (IsLineFault (model.known_or fault.TargetUnknown (names.is_target (K.targets known.now) id.now) id.now)) }
 {
     if is_target(known, id) {
         Ok(*id)
@@ -152,7 +153,7 @@ fn saved<K: Lookup>(known: &K, id: &Id) -> Result<Id, LineFault>
 
 // Whether the id is that of a saved commit or of a kept tag.
 fn is_target<K: Lookup>(known: &K, id: &Id) -> bool
-    ensures { result ≡ model.is_target (K.targets known.now) id.now }
+    ensures { result ≡ names.is_target (K.targets known.now) id.now }
 {
     known.changeset_of(id).is_some() || known.has_tag(id)
 }

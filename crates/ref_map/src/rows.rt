@@ -5,7 +5,8 @@ ghost use Rattle.std.specs.List.{filter_map};
 ghost use Rattle.text_model.specs.Lists.{in_order};
 ghost use Rattle.text_model.specs.Text.{whole_lines};
 ghost use Rattle.state_model.specs.Text.{refs_text};
-ghost use Rattle.name_model.specs.Reading.{row_in, is_name_below, first_refused, rows_of, set_of, names_text};
+ghost use Rattle.state_model.specs.Names.{is_name_below};
+ghost use Rattle.name_model.specs.Reading.{row_in, first_refused, rows_of, set_of, names_text};
 ghost use Rattle.ref_map.specs.Faults.{IsNameFault};
 ghost use Rattle.ref_map.specs.Rows.{reader, has_name, row_fault, IsRowFault, IsTaken};
 
@@ -14,13 +15,10 @@ use crate::lookup::Lookup;
 use crate::put::{put_line, put_ref};
 use crate::read::first_line;
 use crate::row::{Row, Side, line_of, row_at};
-use bridge_text::{Id, NoMemory};
+use bridge_text::{Id, NAME_LIMIT, NoMemory};
 use indexmap::IndexMap;
 use std::alloc::Global;
 use std::marker::Model;
-
-/// The names of a state. As many may be reached and not passed.
-pub const NAME_LIMIT: usize = 100_000;
 
 /// Refs, of which no two have one name. Contracts see the list.
 #[derive(Drop)]

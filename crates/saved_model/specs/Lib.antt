@@ -1,5 +1,4 @@
 pub mod Step
 pub mod History
-pub mod Run
-pub mod Command
+pub mod Written
 pub mod Theorem

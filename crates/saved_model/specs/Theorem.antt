@@ -1,13 +1,11 @@
 -- What is claimed of every list of pulls.
-use Rattle.std.specs.Prelude.{◌≡◌, List, ◌∷◌, Option, Some, None, IfSome, ⊤}
+use Rattle.std.specs.Prelude.{◌≡◌, List, ◌∷◌, Option, Some, None}
 use Rattle.text_model.specs.Text.{Bytes}
 use Rattle.text_model.specs.Fault.{Refusal}
 use Rattle.state_model.specs.Kept.{State, kept_of}
 use Rattle.state_model.specs.Saved.{SlotHolds}
-use Rattle.saved_model.specs.Step.{Pull, OfBundle, OfStream}
+use Rattle.saved_model.specs.Step.{Pull}
 use Rattle.saved_model.specs.History.{IsHistory}
-use Rattle.saved_model.specs.Run.{Report, Done, IsRefused}
-use Rattle.saved_model.specs.Command.{Command, PullHg, PullGit}
 
 -- what the slot holds is the history of these pulls, the newest first
 abbrev pub IsSaved : List Pull → Option Bytes → Type 0
@@ -18,15 +16,3 @@ IsSaved pulls held = (s : State) × SlotHolds held s × IsHistory pulls (kept_of
 abbrev pub GoesOn : Pull → Option Bytes → Option Bytes → Option Refusal → Type 0
 GoesOn pull before after None = (pulls : List Pull) → IsSaved pulls before → IsSaved (pull ∷ pulls) after
 GoesOn pull before after (Some why) = (after ≡ before) × ((pulls : List Pull) → IsSaved pulls before → IsSaved (pull ∷ pulls) before)
-
--- the same of a pull that ends with this report; of one that fails nothing is said
-abbrev pub EndsAs : Pull → Option Bytes → Option Bytes → Report → Type 0
-EndsAs pull before after Done = GoesOn pull before after None
-EndsAs pull before after (IsRefused why) = GoesOn pull before after (Some why)
-EndsAs pull before after report = ⊤
-
--- the same of a run with this command, where its input and its slot tell their bytes
-abbrev pub Headline : Command → Option Bytes → Option (Option Bytes) → Option (Option Bytes) → Report → Type 0
-Headline PullHg left before after report = IfSome left (λ input. IfSome before (λ old. IfSome after (λ new. EndsAs (OfBundle input) old new report)))
-Headline PullGit left before after report = IfSome left (λ input. IfSome before (λ old. IfSome after (λ new. EndsAs (OfStream input) old new report)))
-Headline command left before after report = ⊤

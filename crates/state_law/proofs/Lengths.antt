@@ -1,5 +1,5 @@
 -- How long the text of a state is.
-use Rattle.std.proofs.Common.{◌≡◌, ◌+◌, ◌*◌, ◌≤◌, List, [], ◌∷◌, ◌++◌, length, decimal, codes, ap, arith, length-append}
+use Rattle.std.proofs.Common.{◌≡◌, ◌+◌, ◌*◌, ◌≤◌, List, [], ◌∷◌, ◌++◌, length, decimal, codes, arith, length-append}
 use Rattle.std.proofs.lemmas.Fmt.{length-decimal-le}
 use Rattle.text_model.specs.Text.{Bytes, lf, sp, line, spaced}
 use Rattle.text_model.specs.Id.{hex, commit}
@@ -9,9 +9,11 @@ use Rattle.hg_model.specs.Changeset.{changeset_text}
 use Rattle.git_model.specs.Commit.{commit_text}
 use Rattle.git_model.specs.Stream.{stream_text}
 use Rattle.view_model.specs.View.{ChangesetView, CommitView, changeset_node, commit_id}
-use Rattle.state_model.specs.Kept.{NameRow, hg_dump, git_dump}
-use Rattle.state_model.specs.Limits.{dump_limit}
+use Rattle.state_model.specs.Kept.{hg_dump, git_dump}
+use Rattle.state_model.specs.Limits.{dump_limit, name_limit}
 use Rattle.state_model.specs.Text.{Sections, section_text, sized, version_word, version, no_links, map_lines, refs_text, text_up_to}
+use Rattle.state_model.specs.Names.{targets_of}
+use Rattle.name_law.proofs.Sizes.{refs-short}
 use Rattle.state_law.specs.Left.{AreWithin, TextFits}
 
 -- two words in a line
@@ -53,10 +55,10 @@ map-section s w =
     let head = line (spaced (codes "map" ∷ decimal n ∷ [])) in
     omega (arith, length-append head (map_lines s.commits (no_links s.changesets)), two-words (codes "map") (decimal n), digits, map-short s.commits (no_links s.changesets))
 
-names-section : (s : Sections) → AreWithin s → length (section_text 5 s) ≤ 18
+names-section : (s : Sections) → AreWithin s → length (section_text 5 s) ≤ 4138 * name_limit + 18
 names-section s w =
-    let none : length (refs_text s.names) ≡ 0 = ap (λ (names : List NameRow). length (refs_text names)) w.names in
-    omega (arith, sized-short (codes "names") (refs_text s.names) (omega (arith, none)), none)
+    let short : length (refs_text s.names) ≤ 4138 * name_limit = omega (arith, refs-short (targets_of s) w.targets s.names w.names, (w.names).few) in
+    omega (arith, sized-short (codes "names") (refs_text s.names) (omega (arith, short)), short)
 
 pub text-fits : TextFits
 unfolding text_up_to

@@ -16,3 +16,11 @@ link_limit = 62
 -- the bytes of a state's text
 abbrev pub slot_limit : ℕ
 slot_limit = 2 ^ 31 - 1
+
+-- the names, and so the lines of a text that sets them
+abbrev pub name_limit : ℕ
+name_limit = 100000
+
+-- the bytes of a ref's name
+abbrev pub ref_limit : ℕ
+ref_limit = 4096

@@ -14,8 +14,9 @@ use Rattle.view_model.specs.Dump.{revisions_in, objects_in}
 use Rattle.pair_model.specs.Block.{Block, changesets_in, commits_in}
 use Rattle.pair_model.specs.Octopus.{is_link_view}
 use Rattle.state_model.specs.Limits.{dump_limit, changeset_limit, link_limit, slot_limit}
-use Rattle.state_model.specs.Kept.{State, Kept, NameRow, hg_dump, git_dump, empty_state, is_tag, ids_of}
+use Rattle.state_model.specs.Kept.{State, Kept, hg_dump, git_dump, empty_state, is_tag, ids_of}
 use Rattle.state_model.specs.Tags.{leads, has_target}
+use Rattle.state_model.specs.Names.{targets_of, AreNames}
 use Rattle.state_model.specs.Text.{Sections, sections_of, no_links, text_up_to, state_text, version_word, version}
 
 -- ---- what a state's text says
@@ -61,17 +62,13 @@ pub record AreTagsSaved (commits : List CommitView) (tags : List Object) : Type 
   pub lead : Each (λ o. IsTrue (leads [] tags o)) tags
   pub short : length (git_dump commits) + length (stream_text tags) ≤ dump_limit
 
--- no names are kept yet
-abbrev pub AreNamesSaved : List NameRow → Type 0
-AreNamesSaved names = names ≡ []
-
 abbrev pub SectionHolds : ℕ → Sections → Type 0
 SectionHolds zero s = ⊤
 SectionHolds (suc zero) s = AreChangesetsSaved s.changesets
 SectionHolds (suc (suc zero)) s = AreCommitsSaved s.commits
 SectionHolds (suc (suc (suc zero))) s = length s.commits ≡ length (no_links s.changesets)
 SectionHolds (suc (suc (suc (suc zero)))) s = AreTagsSaved s.commits s.tags
-SectionHolds (suc (suc (suc (suc (suc k))))) s = AreNamesSaved s.names × (length (text_up_to 5 s) ≤ slot_limit)
+SectionHolds (suc (suc (suc (suc (suc k))))) s = AreNames (targets_of s) s.names × (length (text_up_to 5 s) ≤ slot_limit)
 
 abbrev pub SectionsHold : ℕ → Sections → Type 0
 SectionsHold zero s = SectionHolds zero s

@@ -5,7 +5,7 @@ ghost use Rattle.view_model.specs.Held.{AreChangesetsHeld};
 ghost use Rattle.hg_dump_law.specs.Taken.{AreParentsEarlier};
 ghost use Rattle.state_size.specs.Sizes.{is_bundle_large};
 
-use bridge_text::{DUMP_LIMIT, Id, IdList, NoMemory};
+use bridge_text::{DUMP_LIMIT, Id, NoMemory};
 use hg_store::HgStore;
 use std::alloc::Global;
 
@@ -15,18 +15,6 @@ pub fn passes_bundle(alloc: Global, store: &HgStore, nodes: &[Id]) -> Result<boo
     ensures { IfOk result (λ passes. (hs : List ChangesetView) → nodes.now ≡ map changeset_node hs → AreChangesetsHeld store.now nodes.now hs → AreParentsEarlier [] hs
         → passes ≡ is_bundle_large hs) }
 {
-    let order = list_of(alloc, nodes)?;
-    let bundle = hg_dump::write(alloc, store, &order, 0)?;
-    Ok(bundle.len() > DUMP_LIMIT)
-}
-
-/// The list of these ids.
-pub fn list_of(alloc: Global, ids: &[Id]) -> Result<IdList, NoMemory>
-    ensures { IfOk result (λ list. list ≡ ids.now) }
-{
-    let mut list = IdList::new(alloc);
-    for id in ids {
-        list.push(*id)?;
-    }
-    Ok(list)
+    let len = hg_dump::written_len(alloc, store, nodes)?;
+    Ok(len > DUMP_LIMIT as u64)
 }

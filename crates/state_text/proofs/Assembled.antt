@@ -6,20 +6,19 @@ use Rattle.text_model.proofs.Elements.{each_from}
 use Rattle.hg_model.specs.Revision.{Revision, is_of, revision_of, known_after_all}
 use Rattle.hg_model.proofs.RevisionLemmas.{is_of-self}
 use Rattle.git_model.specs.Object.{Object, object_at}
-use Rattle.git_model.specs.Tree.{has_distinct}
 use Rattle.git_model.specs.Unfold.{walk_fault}
 use Rattle.hg_store.specs.Known.{AreAdded}
 use Rattle.git_store.specs.Known.{AreKnown}
 use Rattle.view_model.specs.View.{ChangesetView, changeset_node, commit_id}
 use Rattle.view_model.specs.Held.{AreChangesetsHeld, AreCommitsHeld}
 use Rattle.view_model.specs.Dump.{brought_by}
-use Rattle.pair_model.specs.Block.{Block, node_of, id_of, changesets_in, commits_in}
+use Rattle.pair_model.specs.Block.{Block, changesets_in, commits_in}
 use Rattle.pair_model.specs.Octopus.{is_link_view}
 use Rattle.hg_dump_law.specs.Taken.{in_bundle_order}
 use Rattle.dump_law.proofs.Order.{found_dump}
 use Rattle.dump_law.proofs.Saved.{finds}
 use Rattle.saved_model.specs.Step.{in_written_order}
-use Rattle.state_model.specs.Kept.{State}
+use Rattle.state_model.specs.Kept.{State, NameRow}
 use Rattle.state_model.specs.Saved.{AreBlocks}
 use Rattle.hg_section.specs.declared.section.HgSection.{HgSection}
 use Rattle.tag_section.specs.declared.tags.TagSection.{TagSection}
@@ -31,11 +30,11 @@ use Rattle.pair_state.specs.Blocks.{BlockValue, value_of, block_value, IsStateOf
 use Rattle.pair_state.specs.AllBlocks.{is_referred, HasAllBlocks}
 use Rattle.state_text.specs.Stands.{Stands, HoldsExactly}
 use Rattle.state_text.specs.Whole.{block_in, AreSectionsOf}
-use Rattle.state_text.proofs.BlockLemmas.{ids-blocks}
-use Rattle.state_text.proofs.Distinct.{nodes-distinct}
+use Rattle.dump_law.proofs.Blocks.{ids-blocks}
+use Rattle.state_text.proofs.BlockLemmas.{partners-blocks}
 
 -- the parts are made of these sections
-pub record IsMadeOf (s : StateParts) (hg : HgSection) (blocks : List pair.Block) (tags : TagSection) : Type 0 where
+pub record IsMadeOf (s : StateParts) (hg : HgSection) (blocks : List pair.Block) (tags : TagSection) (names : List NameRow) : Type 0 where
   pub hg_is : s.known.hg ≡ hg.store
   pub git_is : s.known.git ≡ tags.store
   pub partners_are : s.known.partners ≡ map (λ b. (b.node, b.commit)) blocks
@@ -43,7 +42,7 @@ pub record IsMadeOf (s : StateParts) (hg : HgSection) (blocks : List pair.Block)
   pub changesets_are : s.changesets ≡ hg.nodes
   pub commits_are : s.commits ≡ tags.ids
   pub tags_are : s.tags ≡ tags.tags
-  pub no_names : s.names ≡ []
+  pub names_are : s.names ≡ names
   pub none_agreed : s.agreed ≡ []
   pub added : AreAdded s.known.hg
   pub partners : ArePartners s.known.partners
@@ -58,34 +57,9 @@ no_links : (bs : List Block) → AreBlocks bs → Each (λ b. is_link_view b.cha
 no_links [] h = tt
 no_links (b ∷ bs) h = (h.0.1, no_links bs h.1)
 
-pub partners-blocks : (bs : List Block) → map {B = Id × Id} (λ b. (b.node, b.commit)) (map block_in bs) ≡ map {B = Id × Id} (λ b. (node_of b, id_of b)) bs
-partners-blocks [] = refl
-partners-blocks (b ∷ bs) = ap (λ (l : List (Id × Id)). (node_of b, id_of b) ∷ l) (partners-blocks bs)
-
 values-blocks : (bs : List Block) → map value_of (map block_in bs) ≡ map block_value bs
 values-blocks [] = refl
 values-blocks (b ∷ bs) = ap (λ (l : List BlockValue). block_value b ∷ l) (values-blocks bs)
-
--- ---- ids, each of which stands once
-
-nodes-blocks : (bs : List Block) → map (λ b. b.node) (map block_in bs) ≡ map node_of bs
-nodes-blocks [] = refl
-nodes-blocks (b ∷ bs) = ap (λ (l : List Id). node_of b ∷ l) (nodes-blocks bs)
-
-commits-blocks : (bs : List Block) → map (λ b. b.commit) (map block_in bs) ≡ map id_of bs
-commits-blocks [] = refl
-commits-blocks (b ∷ bs) = ap (λ (l : List Id). id_of b ∷ l) (commits-blocks bs)
-
-module _ (hg : HgSection) (blocks : List pair.Block) (tags : TagSection) (m : State) (a : AreSectionsOf hg blocks tags m) where
-  pub one-node : has_distinct (map (λ b. b.node) blocks) ≡ true
-  one-node =
-      ap (λ (l : List pair.Block). has_distinct (map (λ b. b.node) l)) a.pairs ∙ ap has_distinct (nodes-blocks m.blocks)
-      ∙ nodes-distinct m.blocks ((a.state).1.0.0.0.0.1).dumped.distinct
-
-  pub one-id : has_distinct (map (λ b. b.commit) blocks) ≡ true
-  one-id =
-      ap (λ (l : List pair.Block). has_distinct (map (λ b. b.commit) l)) a.pairs ∙ ap has_distinct (commits-blocks m.blocks ∙ sym (ids-blocks m.blocks))
-      ∙ ((a.state).1.0.0.0.1).distinct
 
 -- ---- each revision is one to which the history refers
 
@@ -97,7 +71,7 @@ referred bs known is = each_from (λ r. IsTrue (is_referred bs r)) known there
         let found = (finds (is_of r.group r.node) r known i (is_of-self r)).is in
         ap is_some (sym (found_dump (changesets_in bs) r.group r.node)) ∙ ap (λ (l : List Revision). is_some (revision_of l r.group r.node)) (sym is) ∙ ap is_some found
 
-module _ (s : StateParts) (hg : HgSection) (blocks : List pair.Block) (tags : TagSection) (m : State) (a : AreSectionsOf hg blocks tags m) (e : IsMadeOf s hg blocks tags) where
+module _ (s : StateParts) (hg : HgSection) (blocks : List pair.Block) (tags : TagSection) (names : List NameRow) (m : State) (a : AreSectionsOf hg blocks tags names m) (e : IsMadeOf s hg blocks tags names) where
   abbrev hs : List ChangesetView
   hs = changesets_in m.blocks
 
@@ -139,7 +113,7 @@ module _ (s : StateParts) (hg : HgSection) (blocks : List pair.Block) (tags : Ta
     blocks = record { state = is-state; saved = referred m.blocks s.known.hg (e.hg_is ∙ (a.changesets).known) };
     tags = e.tags_are ∙ (a.commits).tags_are;
     tags_held = subst (λ (k : List Object). Each (λ o. object_at k o.id ≡ Some o) m.tags) (sym e.git_is) (a.commits).tags_held;
-    no_names = (e.no_names, (a.state).1.1.0);
+    names = e.names_are ∙ a.names_are;
   }
 
   pub has-blocks : (held : List Block) × HasAllBlocks s held

@@ -7,12 +7,14 @@ use Rattle.text_model.specs.Text.{Bytes, line, spaced}
 use Rattle.text_model.specs.Id.{Id}
 use Rattle.text_model.proofs.EachLemmas.{Each-push}
 use Rattle.text_model.proofs.Elements.{take_push}
-use Rattle.view_model.specs.View.{ChangesetView, CommitView, commit_id}
-use Rattle.pair_model.specs.Block.{Block, id_of, changesets_in, commits_in}
+use Rattle.view_model.specs.View.{ChangesetView, CommitView, changeset_node, commit_id}
+use Rattle.git_model.specs.Tree.{has_distinct}
+use Rattle.pair_model.specs.Block.{Block, node_of, id_of, changesets_in, commits_in}
 use Rattle.pair_model.specs.Octopus.{is_link_view}
 use Rattle.state_model.specs.Limits.{link_limit}
 use Rattle.state_model.specs.Text.{no_links, map_lines}
 use Rattle.state_model.specs.Saved.{links_lead, AreBlocks}
+use Rattle.dump_law.proofs.Blocks.{no_links-blocks, nodes-distinct, ids-blocks}
 use Rattle.state_part.specs.Pairs.{pair_line}
 use Rattle.pair_state.specs.declared.blocks.Block as pair
 use Rattle.state_text.specs.declared.heads.Head.{Head}
@@ -43,23 +45,7 @@ heads-blocks (b ∷ bs) are =
     let same : 0 + length b.links ≡ length b.links = omega arith in
     heads-links 0 b.links b.changeset (changesets_in bs) are.0.0 are.0.1 ∙ (λ i. head_of (same i) b.changeset ∷ heads-blocks bs are.1 i)
 
--- ---- the changesets that are no links
-
-none-of-links : (ls : List ChangesetView) (h : ChangesetView) (rest : List ChangesetView) → Each (λ l. IsTrue (is_link_view l)) ls → is_link_view h ≡ false
-    → no_links ((ls ++ h ∷ []) ++ rest) ≡ h ∷ no_links rest
-none-of-links [] h rest links none = rw none refl
-none-of-links (l ∷ ls) h rest links none = rw links.0 (none-of-links ls h rest links.1 none)
-
-pub no_links-blocks : (bs : List Block) → AreBlocks bs → no_links (changesets_in bs) ≡ map (λ b. b.changeset) bs
-no_links-blocks [] are = refl
-no_links-blocks (b ∷ bs) are =
-    none-of-links b.links b.changeset (changesets_in bs) are.0.0 are.0.1 ∙ ap (λ (l : List ChangesetView). b.changeset ∷ l) (no_links-blocks bs are.1)
-
--- ---- ids
-
-pub ids-blocks : (bs : List Block) → map commit_id (commits_in bs) ≡ map id_of bs
-ids-blocks [] = refl
-ids-blocks (b ∷ bs) = ap (λ (l : List Id). id_of b ∷ l) (ids-blocks bs)
+-- ---- pairs
 
 pub paired-blocks : (bs : List Block) → paired (map head_in bs) (map id_of bs) ≡ map block_in bs
 unfolding paired
@@ -148,3 +134,23 @@ blocks-made (h ∷ hs) ls cs links lead same = by (is_link_view h) refl (nat_lt 
           changesets = append_assoc ls (h ∷ []) (changesets_in more.blocks) ∙ ap (λ (l : List ChangesetView). ls ++ h ∷ l) more.changesets;
           commits = ap (λ (l : List CommitView). c ∷ l) more.commits;
         }
+
+-- ---- ids, each of which stands once
+
+pub partners-blocks : (bs : List Block) → map {B = Id × Id} (λ b. (b.node, b.commit)) (map block_in bs) ≡ map {B = Id × Id} (λ b. (node_of b, id_of b)) bs
+partners-blocks [] = refl
+partners-blocks (b ∷ bs) = ap (λ (l : List (Id × Id)). (node_of b, id_of b) ∷ l) (partners-blocks bs)
+
+nodes-blocks : (bs : List Block) → map (λ b. b.node) (map block_in bs) ≡ map node_of bs
+nodes-blocks [] = refl
+nodes-blocks (b ∷ bs) = ap (λ (l : List Id). node_of b ∷ l) (nodes-blocks bs)
+
+commits-blocks : (bs : List Block) → map (λ b. b.commit) (map block_in bs) ≡ map id_of bs
+commits-blocks [] = refl
+commits-blocks (b ∷ bs) = ap (λ (l : List Id). id_of b ∷ l) (commits-blocks bs)
+
+pub nodes-once : (blocks : List pair.Block) (bs : List Block) → blocks ≡ map block_in bs → has_distinct (map changeset_node (changesets_in bs)) ≡ true → has_distinct (map (λ b. b.node) blocks) ≡ true
+nodes-once blocks bs are h = ap (λ (l : List pair.Block). has_distinct (map (λ b. b.node) l)) are ∙ ap has_distinct (nodes-blocks bs) ∙ nodes-distinct bs h
+
+pub ids-once : (blocks : List pair.Block) (bs : List Block) → blocks ≡ map block_in bs → has_distinct (map commit_id (commits_in bs)) ≡ true → has_distinct (map (λ b. b.commit) blocks) ≡ true
+ids-once blocks bs are h = ap (λ (l : List pair.Block). has_distinct (map (λ b. b.commit) l)) are ∙ ap has_distinct (commits-blocks bs ∙ sym (ids-blocks bs)) ∙ h

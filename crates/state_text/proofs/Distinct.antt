@@ -1,15 +1,14 @@
 -- Ids of blocks, each of which stands once.
-use Rattle.std.proofs.Common.{◌≡◌, inl, inr, ℕ, zero, suc, true, false, not, List, [], ◌∷◌, ◌++◌, map, take, Some, None, bytes_eq, slice_get, refl, sym, ap, subst, ◌∙◌, append_assoc}
+use Rattle.std.proofs.Common.{◌≡◌, ℕ, zero, suc, true, false, not, ◌||◌, List, [], ◌∷◌, map, take, Some, None, bytes_eq, slice_get, refl, sym, ap, ◌∙◌}
 use Rattle.std.specs.List.{list_any}
-use Rattle.text_model.specs.Lists.{Each, In}
+use Rattle.text_model.specs.Lists.{Each}
 use Rattle.text_model.specs.Text.{Bytes}
-use Rattle.text_model.specs.Id.{Id}
-use Rattle.text_model.proofs.Elements.{each_at, each_from, none_in, in_map, in_left, in_right}
-use Rattle.text_model.proofs.Options.{none_some, not_true}
+use Rattle.text_model.specs.Id.{Id, has_id}
+use Rattle.text_model.proofs.Elements.{each_at, each_from, none_in, in_map}
+use Rattle.text_model.proofs.Options.{some_is, none_some, not_true, or_parts}
 use Rattle.text_model.proofs.TestLemmas.{both}
 use Rattle.git_model.specs.Tree.{has_distinct}
-use Rattle.view_model.specs.View.{ChangesetView, changeset_node}
-use Rattle.pair_model.specs.Block.{Block, node_of, changesets_in}
+use Rattle.git_store.proofs.DistinctLemmas.{bytes_eq-comm}
 use Rattle.pair_known.specs.Partners.{git_at, hg_at}
 
 -- ---- the pairs before a place
@@ -45,31 +44,18 @@ module _ {X : Type 0} (first second : X → Id) where
   hg-free (y ∷ ys) (suc i) x h at =
       hg-found (second x) y (take i ys) (each_at (λ z. bytes_eq (second y) (second z) ≡ false) ys i x at (apart second y ys h)) ∙ hg-free ys i x (rest-distinct second y ys h) at
 
--- ---- the nodes of blocks
+-- ---- the ids before a place
 
--- a list that goes on is distinct only where what follows is
-behind-distinct : (ls : List ChangesetView) (rest : List ChangesetView) → has_distinct (map changeset_node (ls ++ rest)) ≡ true → has_distinct (map changeset_node rest) ≡ true
-behind-distinct [] rest h = h
-behind-distinct (l ∷ ls) rest h = behind-distinct ls rest (rest-distinct changeset_node l (ls ++ rest) h)
+-- an id that is none of others, and stands at a place of them, is none
+not-at : (x : Id) (ids : List Id) (i : ℕ) (id : Id) → has_id ids x ≡ false → slice_get ids i ≡ Some id → bytes_eq x id ≡ false
+not-at x [] i id h at = absurd (none_some at)
+not-at x (y ∷ ids) zero id h at = ap (bytes_eq x) (sym (some_is at)) ∙ (or_parts (bytes_eq x y) (has_id ids x) h).0
+not-at x (y ∷ ids) (suc i) id h at = not-at x ids i id (or_parts (bytes_eq x y) (has_id ids x) h).1 at
 
-in-blocks : (bs : List Block) (b : Block) → In b bs → In b.changeset (changesets_in bs)
-in-blocks [] b i = absurd i
-in-blocks (x ∷ bs) b i = elim i [
-  | inl e ↦ subst (λ (y : Block). In b.changeset ((y.links ++ y.changeset ∷ []) ++ changesets_in bs)) e (in_left b.changeset (b.links ++ b.changeset ∷ []) (changesets_in bs) (in_right b.changeset b.links (b.changeset ∷ []) (inl refl)))
-  | inr j ↦ in_right b.changeset (x.links ++ x.changeset ∷ []) (changesets_in bs) (in-blocks bs b j)
-]
-
-pub nodes-distinct : (bs : List Block) → has_distinct (map changeset_node (changesets_in bs)) ≡ true → has_distinct (map node_of bs) ≡ true
-nodes-distinct [] h = refl
-nodes-distinct (b ∷ bs) h =
-    let there : has_distinct (map changeset_node (b.changeset ∷ changesets_in bs)) ≡ true =
-    behind-distinct b.links (b.changeset ∷ changesets_in bs) (ap (λ (l : List ChangesetView). has_distinct (map changeset_node l)) (sym (append_assoc b.links (b.changeset ∷ []) (changesets_in bs))) ∙ h) in
-    let others = nodes-distinct bs (rest-distinct changeset_node b.changeset (changesets_in bs) there) in
-    let none : list_any (bytes_eq (node_of b)) (map changeset_node (changesets_in bs)) ≡ false =
-    not_true (list_any (bytes_eq (node_of b)) (map changeset_node (changesets_in bs))) (both (not (list_any (bytes_eq (node_of b)) (map changeset_node (changesets_in bs)))) (has_distinct (map changeset_node (changesets_in bs))) there).0 in
-    let fewer = few bs (λ x i. none_in (bytes_eq (node_of b)) (map changeset_node (changesets_in bs)) (node_of x) none (in_map changeset_node x.changeset (changesets_in bs) (in-blocks bs x i))) in
-    rw (fewer, others) refl
-  where
-    few : (xs : List Block) → ((x : Block) → In x xs → bytes_eq (node_of b) (node_of x) ≡ false) → list_any (bytes_eq (node_of b)) (map node_of xs) ≡ false
-    few [] h = refl
-    few (x ∷ xs) h = rw (h x (inl refl), few xs (λ y i. h y (inr i))) refl
+pub id-free : (ids : List Id) (i : ℕ) (id : Id) → has_distinct ids ≡ true → slice_get ids i ≡ Some id → has_id (take i ids) id ≡ false
+id-free [] i id h at = absurd (none_some at)
+id-free (x ∷ ids) zero id h at = refl
+id-free (x ∷ ids) (suc i) id h at =
+    let parts = both (not (has_id ids x)) (has_distinct ids) h in
+    let other = bytes_eq-comm id x ∙ not-at x ids i id (not_true (has_id ids x) parts.0) at in
+    (λ k. other k || id-free ids i id parts.1 at k)

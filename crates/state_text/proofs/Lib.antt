@@ -10,3 +10,4 @@ pub mod Dumps
 pub mod Written
 pub mod Loops
 pub mod Maps
+pub mod NameLemmas

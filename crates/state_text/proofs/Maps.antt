@@ -1,11 +1,10 @@
 -- The lines of the map, of blocks and of the pairs of their ids.
-use Rattle.std.proofs.Common.{◌≡◌, Bool, true, false, if◌then◌else◌, List, [], ◌∷◌, map, refl, sym, ap, ◌∙◌}
+use Rattle.std.proofs.Common.{◌≡◌, Bool, true, false, if◌then◌else◌, List, [], ◌∷◌, map, refl, ap, ◌∙◌}
 use Rattle.std.specs.List.{flat_map}
 use Rattle.std.proofs.lemmas.List.Folds.{flat_map-map}
 use Rattle.text_model.specs.Lists.{in_order, with_inserted}
-use Rattle.text_model.specs.Text.{Bytes}
 use Rattle.pair_model.specs.Block.{Block}
-use Rattle.saved_model.specs.Command.{has_node_below, map_text}
+use Rattle.saved_model.specs.Written.{has_node_below, map_text}
 use Rattle.state_part.specs.Pairs as pairs
 use Rattle.state_part.specs.Pairs.{pair_line, sorted_lines}
 use Rattle.state_text.specs.Stands.{pair_of}

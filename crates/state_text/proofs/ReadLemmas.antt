@@ -4,10 +4,13 @@ use Rattle.text_model.specs.Text.{Bytes}
 use Rattle.git_model.specs.Object.{Object}
 use Rattle.git_model.specs.Stream.{stream_text}
 use Rattle.view_model.specs.View.{ChangesetView, CommitView}
-use Rattle.state_model.specs.Kept.{hg_dump, git_dump}
-use Rattle.state_model.specs.Text.{sized}
+use Rattle.state_model.specs.Kept.{NameRow, hg_dump, git_dump}
+use Rattle.state_model.specs.Text.{sized, refs_text}
+use Rattle.state_model.specs.Names.{Targets, AreNames}
 use Rattle.state_model.specs.Saved.{links_lead, AreDumped, AreCommitsSaved, AreTagsSaved}
+use Rattle.name_model.specs.Targets.{AreTargets}
 use Rattle.dump_law.proofs.DumpOne.{one_dump}
+use Rattle.name_law.proofs.Sizes.{refs-short}
 use Rattle.hg_section.specs.declared.section.HgSection.{HgSection}
 use Rattle.hg_section.specs.Section.{HoldsChangesets}
 use Rattle.git_section.specs.declared.section.GitSection.{GitSection}
@@ -18,7 +21,7 @@ use Rattle.state_text.specs.declared.heads.Head.{Head}
 use Rattle.state_text.specs.Heads.{heads_of}
 use Rattle.state_part.specs.Form.{HasSection, NoSection}
 use Rattle.state_part.proofs.SectionLemmas.{one_section}
-use Rattle.state_text.specs.Sections.{NoHg, HasHg, NoGit, HasGit, NoTags, HasTags, names_text}
+use Rattle.state_text.specs.Sections.{NoHg, HasHg, NoGit, HasGit, NoTags, HasTags, NoNames, names_text}
 
 pub text-short : (word bytes text rest : Bytes) → length bytes < 2 ^ 64 → HasSection word bytes text rest → length text < 2 ^ 64
 text-short word bytes text rest long section = omega (arith, long, simp length-append at (ap (λ (l : Bytes). length l) section))
@@ -42,9 +45,11 @@ module _ (bytes text rest : Bytes) (short : length text < 2 ^ 64) where
   no-tags cs section none tags after saved e =
       none tags saved (one_section (codes "tags") (stream_text tags) text after rest (omega (arith, saved.short)) short (sym e ∙ section)).0
 
-  pub no-names : HasSection (codes "names") bytes text rest → bytes ≡ names_text → (text ≡ []) × (rest ≡ [])
-  no-names section e =
-      one_section (codes "names") text [] rest [] short (omega arith) (sym section ∙ e ∙ sym (append-nil names_text))
+  -- names of another text, or with something behind them, are not those of the section
+  pub no-names : HasSection (codes "names") bytes text rest → (t : Targets) → AreTargets t → ((names : List NameRow) → AreNames t names → refs_text names ≡ text → rest ≡ [] → ⊥) → NoNames t bytes
+  no-names section t a none names n e =
+      let parts = one_section (codes "names") (refs_text names) text [] rest (omega (arith, refs-short t a names n, n.few)) short (append-nil (names_text names) ∙ sym e ∙ section) in
+      none names n parts.0 (sym parts.1)
 
 -- ---- what is read of a section
 
@@ -75,8 +80,8 @@ module _ (bytes text rest : Bytes) where
     holds = holds;
   }
 
-pub names-there : (bytes text rest : Bytes) → HasSection (codes "names") bytes text rest → text ≡ [] → rest ≡ [] → bytes ≡ names_text
-names-there bytes text rest section none nothing = section ∙ (λ i. sized (codes "names") (none i) ++ nothing i) ∙ append-nil names_text
+pub names-there : (bytes text rest : Bytes) (names : List NameRow) → HasSection (codes "names") bytes text rest → refs_text names ≡ text → rest ≡ [] → bytes ≡ names_text names
+names-there bytes text rest names section is nothing = section ∙ (λ i. sized (codes "names") (sym is i) ++ nothing i) ∙ append-nil (names_text names)
 
-pub no-section : (bytes : Bytes) → NoSection (codes "names") bytes → bytes ≢ names_text
-no-section bytes none e = none [] [] (e ∙ sym (append-nil names_text))
+pub no-section : (bytes : Bytes) → NoSection (codes "names") bytes → (t : Targets) → NoNames t bytes
+no-section bytes none t names n e = none (refs_text names) [] (e ∙ sym (append-nil (names_text names)))

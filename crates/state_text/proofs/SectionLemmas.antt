@@ -3,11 +3,14 @@ use Rattle.std.proofs.Common.{◌≡◌, ◌<◌, ℕ, suc, ◌++◌, codes, ref
 use Rattle.std.proofs.lemmas.List.{append_cancel_left}
 use Rattle.text_model.specs.Text.{Bytes}
 use Rattle.git_model.specs.Stream.{stream_text}
+use Rattle.view_model.specs.Dump.{objects_in}
 use Rattle.state_model.specs.Kept.{hg_dump, git_dump}
 use Rattle.state_model.specs.Text.{Sections, section_text, text_up_to}
 use Rattle.state_model.specs.Saved.{SectionHolds, SectionsHold, SectionsFit}
 use Rattle.dump_law.proofs.DumpOne.{one_dump}
 use Rattle.dump_law.proofs.Commits.{one_git_dump}
+use Rattle.dump_law.proofs.Streams.{one_stream}
+use Rattle.dump_law.proofs.StreamRead.{stream_is_read}
 use Rattle.state_part.specs.Form.{head_line}
 use Rattle.state_part.proofs.SectionLemmas.{one_section}
 
@@ -68,7 +71,15 @@ one-3 s t x y a b e =
     let pairs = third s t left.changesets left.commits in
     record { changesets = left.changesets; commits = left.commits; rest = append_cancel_left (section_text 3 s) x y (left.rest ∙ ap (λ (l : Bytes). l ++ y) (sym pairs)) }
 
-pub one-4 : (s t : Sections) (x y : Bytes) → SectionsHold 4 s → SectionsHold 4 t → text_up_to 4 s ++ x ≡ text_up_to 4 t ++ y → x ≡ y
+pub record SameTags (s t : Sections) (x y : Bytes) : Type 0 where
+  pub changesets : s.changesets ≡ t.changesets
+  pub commits : s.commits ≡ t.commits
+  pub tags : s.tags ≡ t.tags
+  pub rest : x ≡ y
+
+pub one-4 : (s t : Sections) (x y : Bytes) → SectionsHold 4 s → SectionsHold 4 t → text_up_to 4 s ++ x ≡ text_up_to 4 t ++ y → SameTags s t x y
 one-4 s t x y a b e =
     let left = one-3 s t (section_text 4 s ++ x) (section_text 4 t ++ y) a.0 b.0 (sym (one-more 3 s x) ∙ e ∙ one-more 3 t y) in
-    (one_section (codes "tags") (stream_text s.tags) (stream_text t.tags) x y (omega (arith, a.1.short)) (omega (arith, b.1.short)) left.rest).1
+    let parts = one_section (codes "tags") (stream_text s.tags) (stream_text t.tags) x y (omega (arith, a.1.short)) (omega (arith, b.1.short)) left.rest in
+    let ids = (stream_is_read (objects_in t.commits) t.tags (omega (arith, b.1.short)) b.1.read).ids in
+    record { changesets = left.changesets; commits = left.commits; tags = one_stream s.tags t.tags ids (omega (arith, a.1.short)) parts.0; rest = parts.1 }

@@ -1,10 +1,11 @@
 -- The first section that doesn't fit.
-use Rattle.std.proofs.Common.{◌≡◌, ◌≢◌, ◌<◌, ◌≤◌, ℕ, zero, suc, List, [], ◌++◌, length, codes, refl, sym, ap, subst, ◌∙◌, arith, append-nil}
+use Rattle.std.proofs.Common.{◌≡◌, ◌≢◌, ◌<◌, ◌≤◌, ℕ, zero, suc, List, [], ◌++◌, length, refl, sym, ap, subst, ◌∙◌, arith, append-nil}
 use Rattle.text_model.specs.Text.{Bytes}
 use Rattle.view_model.specs.View.{ChangesetView, CommitView}
 use Rattle.state_model.specs.Kept.{NameRow}
 use Rattle.state_model.specs.Limits.{slot_limit}
-use Rattle.state_model.specs.Text.{Sections, section_text, text_up_to, sized, refs_text, no_links}
+use Rattle.state_model.specs.Text.{Sections, section_text, text_up_to, no_links}
+use Rattle.state_model.specs.Names.{Targets, targets_of, AreNames}
 use Rattle.state_model.specs.Saved.{AreTagsSaved, SectionsFit, IsShapeFault}
 use Rattle.state_part.specs.Form.{head_line}
 use Rattle.state_text.specs.Sections.{NoHg, NoGit, NoTags, names_text}
@@ -77,17 +78,19 @@ module _ (text : Bytes) (s : Sections) where
             before (suc (suc (suc (suc j)))) below = absurd (omega (arith, below))
 
         module _ (r4 : Bytes) (a4 : IsRead 4 text s r4) where
-          pub shape-5 : (r4 ≡ names_text → length text ≤ slot_limit → ⊥) → IsShapeFault text 5
+          pub shape-5 : ((names : List NameRow) → AreNames (targets_of s) names → r4 ≡ names_text names → length text ≤ slot_limit → ⊥) → IsShapeFault text 5
           shape-5 none = (omega arith, not_there, before)
             where
               not_there : SectionsFit 5 text → ⊥
               not_there f =
-                  let left = one-4 s f.sections r4 (section_text 5 f.sections ++ f.rest) a4.hold f.hold.0 (sym a4.begins ∙ f.begins ∙ one-more 4 f.sections f.rest) in
+                  let names = (f.sections).names in
+                  let one = one-4 s f.sections r4 (section_text 5 f.sections ++ f.rest) a4.hold f.hold.0 (sym a4.begins ∙ f.begins ∙ one-more 4 f.sections f.rest) in
                   let ended : f.rest ≡ [] = f.last refl in
-                  let names : section_text 5 f.sections ≡ names_text = ap (λ (l : List NameRow). sized (codes "names") (refs_text l)) f.hold.1.0 in
-                  let last : r4 ≡ names_text = left ∙ ap (λ (l : Bytes). section_text 5 f.sections ++ l) ended ∙ append-nil (section_text 5 f.sections) ∙ names in
+                  let same : targets_of s ≡ targets_of f.sections = (λ i. targets_of (record { changesets = one.changesets i; commits = one.commits i; tags = one.tags i; names = [] })) in
+                  let kept : AreNames (targets_of s) names = subst (λ (t : Targets). AreNames t names) (sym same) f.hold.1.0 in
+                  let last : r4 ≡ names_text names = one.rest ∙ ap (λ (l : Bytes). section_text 5 f.sections ++ l) ended ∙ append-nil (section_text 5 f.sections) in
                   let whole : text ≡ text_up_to 5 f.sections = f.begins ∙ ap (λ (l : Bytes). text_up_to 5 f.sections ++ l) ended ∙ append-nil (text_up_to 5 f.sections) in
-                  none last (omega (arith, f.hold.1.1, ap (λ (l : Bytes). length l) whole))
+                  none names kept last (omega (arith, f.hold.1.1, ap (λ (l : Bytes). length l) whole))
 
               before : (j : ℕ) → j < 5 → SectionsFit j text
               before zero below = fits 0 text r0 s a0 (omega arith)

@@ -4,14 +4,19 @@ use Rattle.std.specs.Prelude.{Result, Err, IfErr, Option, None, ok_or}
 use Rattle.std.proofs.lemmas.List.{length-map}
 use Rattle.text_model.specs.Text.{Bytes}
 use Rattle.text_model.specs.Id.{Id}
+use Rattle.git_model.specs.Tree.{has_distinct}
 use Rattle.git_model.specs.Object.{Object}
-use Rattle.view_model.specs.View.{ChangesetView, CommitView, commit_id}
+use Rattle.view_model.specs.View.{ChangesetView, CommitView, changeset_node, commit_id}
 use Rattle.pair_model.specs.Block.{id_of}
 use Rattle.pair_model.specs.Octopus.{is_link_view}
 use Rattle.state_model.specs.Limits.{slot_limit}
-use Rattle.state_model.specs.Kept.{State}
+use Rattle.state_model.specs.Kept.{State, Kept, NameRow}
 use Rattle.state_model.specs.Text.{Sections, sections_of, state_text, text_up_to, no_links}
-use Rattle.state_model.specs.Saved.{IsShapeFault, IsStateText, SectionsHold}
+use Rattle.state_model.specs.Names.{Targets, targets_in, targets_of, AreNames}
+use Rattle.state_model.specs.Saved.{AreDumped, AreCommitsSaved, AreTagsSaved, IsShapeFault, IsStateText, SectionsHold}
+use Rattle.name_model.specs.Targets.{AreTargets}
+use Rattle.dump_law.proofs.Blocks.{ids-blocks}
+use Rattle.dump_law.proofs.Names.{targets-same, targets-are}
 use Rattle.state_part.specs.Form.{head_line, IsHeadFault}
 use Rattle.state_part.specs.declared.head.HeadFault.{HeadFault}
 use Rattle.state_part.specs.declared.head.HeadFault.TheVariants.{OtherVersion, Shape}
@@ -25,9 +30,9 @@ use Rattle.tag_section.specs.Tags.{HoldsTags}
 use Rattle.pair_state.specs.declared.blocks.Block as pair
 use Rattle.state_text.specs.declared.heads.Head.{Head}
 use Rattle.state_text.specs.Heads.{heads_of}
-use Rattle.state_text.specs.Sections.{NoHg, HasHg, NoGit, HasGit, NoTags, HasTags, paired, pairs_text, names_text}
+use Rattle.state_text.specs.Sections.{NoHg, HasHg, NoGit, HasGit, NoTags, HasTags, HasNames, paired, pairs_text, names_text, targets_read}
 use Rattle.state_text.specs.Whole.{block_in, AreSectionsOf}
-use Rattle.state_text.proofs.BlockLemmas.{Made, blocks-made, head_in, heads-blocks, ids-blocks, paired-blocks, pairs-section, map_text_of}
+use Rattle.state_text.proofs.BlockLemmas.{Made, blocks-made, head_in, heads-blocks, paired-blocks, partners-blocks, nodes-once, ids-once, pairs-section, map_text_of}
 use Rattle.state_text.proofs.SectionLemmas.{IsRead, read-first, read-more}
 use Rattle.state_text.proofs.Shapes.{shape-0, shape-1, shape-2, shape-3, shape-4, shape-5}
 
@@ -55,7 +60,11 @@ pub head-fault : (text : Bytes) (why : HeadFault) → IsHeadFault text why → I
 head-fault text OtherVersion h = h
 head-fault text Shape h = (h.0, shape-0 text h.1)
 
--- sections that were read, with no names
+-- sections that were read, with these names
+abbrev pub named : List ChangesetView → List CommitView → List Object → List NameRow → Sections
+named hs cs tags names = record { changesets = hs; commits = cs; tags = tags; names = names }
+
+-- and before names are read
 abbrev pub so_far : List ChangesetView → List CommitView → List Object → Sections
 so_far hs cs tags = record { changesets = hs; commits = cs; tags = tags; names = [] }
 
@@ -118,24 +127,54 @@ module _ (text r0 : Bytes) (first : text ≡ head_line ++ r0) where
             read-4 : IsRead 4 text (so_far hs cs tags) r4
             read-4 = read-more 3 text r3 r4 (so_far hs cs tags) (read-3 tags) t.is t.saved
 
-            pub no-end : (r4 ≡ names_text → length text ≤ slot_limit → ⊥) → IsShapeFault text 5
-            no-end none = shape-5 text (so_far hs cs tags) r0 r1 (read-0 (so_far hs cs tags)) (read-1 cs tags) r2 (read-2 tags) r3 (read-3 tags) r4 read-4 none
+            abbrev kept : Kept
+            kept = record { blocks = made.blocks; tags = tags }
 
-            module _ (last : r4 ≡ names_text) (short : length text ≤ slot_limit) where
+            targets-made : targets_read blocks part.tags ≡ targets_in kept
+            targets-made =
+                let firsts = ap (map {B = Id × Id} (λ (b : pair.Block). (b.node, b.commit))) pairs-are ∙ partners-blocks made.blocks in
+                (λ i. record { pairs = firsts i; tags = (t.holds).tags_are i })
+
+            pub are-targets : AreTargets (targets_read blocks part.tags)
+            are-targets =
+                subst AreTargets (sym targets-made)
+                (targets-are kept (subst AreDumped (sym made.changesets) (h.saved).dumped) (subst AreCommitsSaved (sym made.commits) g.saved) (subst (λ (l : List CommitView). AreTagsSaved l tags) (sym made.commits) t.saved))
+
+            targets-read : targets_read blocks part.tags ≡ targets_of (so_far hs cs tags)
+            targets-read =
+                targets-made ∙ sym (targets-same (record { blocks = made.blocks; tags = tags; names = [] }) made.are)
+                ∙ (λ i. targets_of (so_far (made.changesets i) (made.commits i) tags))
+
+            pub one-node : has_distinct (map (λ b. b.node) blocks) ≡ true
+            one-node = nodes-once blocks made.blocks pairs-are (ap (λ (l : List ChangesetView). has_distinct (map changeset_node l)) made.changesets ∙ ((h.saved).dumped).distinct)
+
+            pub one-id : has_distinct (map (λ b. b.commit) blocks) ≡ true
+            one-id = ids-once blocks made.blocks pairs-are (ap (λ (l : List CommitView). has_distinct (map commit_id l)) made.commits ∙ (g.saved).distinct)
+
+            pub one-tag : has_distinct part.tags ≡ true
+            one-tag = ap has_distinct (t.holds).tags_are ∙ (t.saved).distinct
+
+            pub no-end : ((names : List NameRow) → AreNames (targets_read blocks part.tags) names → r4 ≡ names_text names → length text ≤ slot_limit → ⊥) → IsShapeFault text 5
+            no-end none =
+                shape-5 text (so_far hs cs tags) r0 r1 (read-0 (so_far hs cs tags)) (read-1 cs tags) r2 (read-2 tags) r3 (read-3 tags) r4 read-4
+                (λ names n. none names (subst (λ (u : Targets). AreNames u names) (sym targets-read) n))
+
+            module _ (names : List NameRow) (has : HasNames (targets_read blocks part.tags) r4 names) (short : length text ≤ slot_limit) where
               abbrev pub state : State
-              state = record { blocks = made.blocks; tags = tags; names = [] }
+              state = record { blocks = made.blocks; tags = tags; names = names }
 
-              whole : text ≡ text_up_to 5 (so_far hs cs tags)
+              whole : text ≡ text_up_to 5 (named hs cs tags names)
               unfolding text_up_to
-              whole = read-4.begins ∙ ap (λ (l : Bytes). text_up_to 4 (so_far hs cs tags) ++ l) last
+              whole = read-4.begins ∙ ap (λ (l : Bytes). text_up_to 4 (so_far hs cs tags) ++ l) has.is
 
-              hold-5 : SectionsHold 5 (so_far hs cs tags)
+              hold-5 : SectionsHold 5 (named hs cs tags names)
+              unfolding text_up_to
               hold-5 =
-                  let fits : length (text_up_to 5 (so_far hs cs tags)) ≤ slot_limit = omega (arith, short, ap (λ (l : Bytes). length l) whole) in
-                  (read-4.hold, (refl, fits))
+                  let fits : length (text_up_to 5 (named hs cs tags names)) ≤ slot_limit = omega (arith, short, ap (λ (l : Bytes). length l) whole) in
+                  (read-4.hold, (subst (λ (u : Targets). AreNames u names) targets-read has.kept, fits))
 
-              same : sections_of state ≡ so_far hs cs tags
-              same = (λ i. so_far (made.changesets i) (made.commits i) tags)
+              same : sections_of state ≡ named hs cs tags names
+              same = (λ i. named (made.changesets i) (made.commits i) tags names)
 
               text-is : text ≡ state_text state
               unfolding state_text
@@ -144,10 +183,11 @@ module _ (text r0 : Bytes) (first : text ≡ head_line ++ r0) where
               pub is-text : IsStateText text state
               is-text = ((made.are, subst (SectionsHold 5) (sym same) hold-5), text-is)
 
-              pub are-sections : AreSectionsOf hg blocks part state
+              pub are-sections : AreSectionsOf hg blocks part names state
               are-sections = record {
                 state = is-text.0;
                 changesets = subst (HoldsChangesets hg) (sym made.changesets) h.holds;
                 pairs = pairs-are;
                 commits = subst (λ (l : List CommitView). HoldsTags part l tags) (sym made.commits) t.holds;
+                names_are = refl;
               }

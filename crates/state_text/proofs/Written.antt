@@ -17,8 +17,9 @@ use Rattle.git_dump.proofs.VisitLemmas.{there-is}
 use Rattle.pair_model.specs.Block.{Block, changesets_in, commits_in}
 use Rattle.pair_known.specs.declared.known.Known.{Known}
 use Rattle.state_model.specs.Saved.{AreBlocks}
-use Rattle.state_model.specs.Kept.{State, NameRow, hg_dump, git_dump}
+use Rattle.state_model.specs.Kept.{State, hg_dump, git_dump}
 use Rattle.state_model.specs.Text.{Sections, sections_of, section_text, text_up_to, state_text, refs_text, sized}
+use Rattle.dump_law.proofs.Blocks.{ids-blocks}
 use Rattle.pair_state.specs.declared.blocks.Block as pair
 use Rattle.pair_state.specs.declared.state_parts.StateParts.{StateParts}
 use Rattle.pair_state.specs.Blocks.{BlockValue, value_of, block_value}
@@ -28,7 +29,7 @@ use Rattle.state_part.specs.Pairs.{map_section}
 use Rattle.state_text.specs.Sections.{pair_in}
 use Rattle.state_text.specs.Stands.{Stands, AreAt, pair_of}
 use Rattle.state_text.specs.Whole.{block_in}
-use Rattle.state_text.proofs.BlockLemmas.{pairs-section, pairs-of, ids-blocks}
+use Rattle.state_text.proofs.BlockLemmas.{pairs-section, pairs-of}
 use Rattle.state_text.proofs.Dumps.{dump-written}
 use Rattle.state_text.proofs.SectionLemmas.{first-is}
 
@@ -125,7 +126,7 @@ unfolding text_up_to
 grown k s old out e = ap (λ (l : Bytes). l ++ section_text (suc k) s) e ∙ append_assoc old (text_up_to k s) (section_text (suc k) s)
 
 -- what the parts of a state's text append, one after another
-pub record AreAppended (old text hg git tags : Bytes) (pairs : List IdPair) : Type 0 where
+pub record AreAppended (old text hg git tags names : Bytes) (pairs : List IdPair) : Type 0 where
   pub first : Bytes
   pub second : Bytes
   pub third : Bytes
@@ -136,12 +137,12 @@ pub record AreAppended (old text hg git tags : Bytes) (pairs : List IdPair) : Ty
   pub commits : third ≡ second ++ sized (codes "git") git
   pub map_is : fourth ≡ third ++ map_section pairs
   pub tags_are : fifth ≡ fourth ++ sized (codes "tags") tags
-  pub names : text ≡ fifth ++ sized (codes "names") []
+  pub names_are : text ≡ fifth ++ sized (codes "names") names
 
-pub written : (old text hg git tags : Bytes) (pairs : List IdPair) (m : State) → AreAppended old text hg git tags pairs → AreBlocks m.blocks → m.names ≡ []
+pub written : (old text hg git tags names : Bytes) (pairs : List IdPair) (m : State) → AreAppended old text hg git tags names pairs → AreBlocks m.blocks → names ≡ refs_text m.names
     → hg ≡ hg_dump (changesets_in m.blocks) → git ≡ git_dump (commits_in m.blocks) → tags ≡ stream_text m.tags → pairs ≡ map pair_in (map block_in m.blocks) → text ≡ old ++ state_text m
 unfolding state_text
-written old text hg git tags pairs m a are none hg_is git_is tags_is pairs_are =
+written old text hg git tags names pairs m a are names_is hg_is git_is tags_is pairs_are =
     let s = sections_of m in
     let e0 : a.first ≡ old ++ text_up_to 0 s = a.head ∙ ap (λ (l : Bytes). old ++ l) (sym (first-is s)) in
     let e1 : a.second ≡ old ++ text_up_to 1 s = a.changesets ∙ ap (λ (l : Bytes). a.first ++ sized (codes "hg") l) hg_is ∙ grown 0 s old a.first e0 in
@@ -149,11 +150,10 @@ written old text hg git tags pairs m a are none hg_is git_is tags_is pairs_are =
     let map_same : map_section pairs ≡ section_text 3 s = ap map_section pairs_are ∙ pairs-section m.blocks are in
     let e3 : a.fourth ≡ old ++ text_up_to 3 s = a.map_is ∙ ap (λ (l : Bytes). a.third ++ l) map_same ∙ grown 2 s old a.third e2 in
     let e4 : a.fifth ≡ old ++ text_up_to 4 s = a.tags_are ∙ ap (λ (l : Bytes). a.fourth ++ sized (codes "tags") l) tags_is ∙ grown 3 s old a.fourth e3 in
-    let names_same : sized (codes "names") [] ≡ section_text 5 s = ap (λ (l : List NameRow). sized (codes "names") (refs_text l)) (sym none) in
-    a.names ∙ ap (λ (l : Bytes). a.fifth ++ l) names_same ∙ grown 4 s old a.fifth e4
+    a.names_are ∙ ap (λ (l : Bytes). a.fifth ++ sized (codes "names") l) names_is ∙ grown 4 s old a.fifth e4
 
 -- the same of the parts that stand for the state
-pub state-text : (s : StateParts) (m : State) → Stands s m → AreBlocks m.blocks → (old text hg git tags : Bytes) (pairs : List IdPair) → AreAppended old text hg git tags pairs
+pub state-text : (s : StateParts) (m : State) → Stands s m → AreBlocks m.blocks → (old text hg git tags names : Bytes) (pairs : List IdPair) → AreAppended old text hg git tags names pairs → names ≡ refs_text s.names
     → hg ≡ hg_dump (changesets_in m.blocks) → git ≡ git_dump (commits_in m.blocks) → tags ≡ stream_text m.tags → pairs ≡ map pair_in s.blocks → text ≡ old ++ state_text m
-state-text s m h are old text hg git tags pairs a hg_is git_is tags_is pairs_are =
-    written old text hg git tags pairs m a are h.no_names.1 hg_is git_is tags_is (pairs_are ∙ ap (map pair_in) (pairs-are s m h))
+state-text s m h are old text hg git tags names pairs a names_is hg_is git_is tags_is pairs_are =
+    written old text hg git tags names pairs m a are (names_is ∙ ap refs_text h.names) hg_is git_is tags_is (pairs_are ∙ ap (map pair_in) (pairs-are s m h))

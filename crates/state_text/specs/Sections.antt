@@ -5,8 +5,9 @@ use Rattle.text_model.specs.Id.{Id}
 use Rattle.git_model.specs.Object.{Object}
 use Rattle.git_model.specs.Stream.{stream_text}
 use Rattle.view_model.specs.View.{ChangesetView, CommitView}
-use Rattle.state_model.specs.Kept.{hg_dump, git_dump}
-use Rattle.state_model.specs.Text.{sized}
+use Rattle.state_model.specs.Kept.{NameRow, hg_dump, git_dump}
+use Rattle.state_model.specs.Text.{sized, refs_text}
+use Rattle.state_model.specs.Names.{Targets, AreNames}
 use Rattle.state_model.specs.Saved.{AreChangesetsSaved, AreCommitsSaved, AreTagsSaved}
 use Rattle.hg_section.specs.declared.section.HgSection.{HgSection}
 use Rattle.hg_section.specs.Section.{HoldsChangesets}
@@ -29,8 +30,8 @@ git_text cs = sized (codes "git") (git_dump cs)
 abbrev pub tags_text : List Object → Bytes
 tags_text tags = sized (codes "tags") (stream_text tags)
 
-abbrev pub names_text : Bytes
-names_text = sized (codes "names") []
+abbrev pub names_text : List NameRow → Bytes
+names_text names = sized (codes "names") (refs_text names)
 
 -- ---- the changesets
 
@@ -78,3 +79,16 @@ pub record HasTags (cs : List CommitView) (bytes : Bytes) (section : TagSection)
   pub saved : AreTagsSaved cs tags
   pub is : bytes ≡ tags_text tags ++ rest
   pub holds : HoldsTags section cs tags
+
+-- ---- the names
+
+-- what names may name, by the blocks and the ids of the tags that were read
+abbrev pub targets_read : List pair.Block → List Id → Targets
+targets_read blocks tags = record { pairs = map (λ b. (b.node, b.commit)) blocks; tags = tags }
+
+abbrev pub NoNames : Targets → Bytes → Type 0
+NoNames t bytes = (names : List NameRow) → AreNames t names → bytes ≢ names_text names
+
+pub record HasNames (t : Targets) (bytes : Bytes) (names : List NameRow) : Type 0 where
+  pub kept : AreNames t names
+  pub is : bytes ≡ names_text names

@@ -1,5 +1,5 @@
 -- Which state the parts of a bridge stand for, and that their stores hold nothing else.
-use Rattle.std.specs.Prelude.{◌≡◌, List, [], map, Some}
+use Rattle.std.specs.Prelude.{◌≡◌, List, Some}
 use Rattle.text_model.specs.Lists.{Each}
 use Rattle.text_model.specs.Id.{Id}
 use Rattle.git_model.specs.Object.{Object, object_at}
@@ -15,12 +15,12 @@ use Rattle.pair_state.specs.AllBlocks.{HasAllBlocks}
 abbrev pub AreAt : List Object → List Id → List Object → Type 0
 AreAt known ids objects = (ids ≡ ids_of objects) × Each (λ o. object_at known o.id ≡ Some o) objects
 
--- the parts stand for the state: its blocks, its tags, each of which is known as it is, and no names
+-- the parts stand for the state: its blocks, its tags, each of which is known as it is, and its names
 pub record Stands (s : StateParts) (m : State) : Type 0 where
   pub blocks : HasAllBlocks s m.blocks
   pub tags : s.tags ≡ ids_of m.tags
   pub tags_held : Each (λ o. object_at s.known.git o.id ≡ Some o) m.tags
-  pub no_names : (s.names ≡ []) × (m.names ≡ [])
+  pub names : s.names ≡ m.names
 
 -- what is known is what the text of the state brings, in its order
 pub record HoldsExactly (s : StateParts) (m : State) : Type 0 where

@@ -3,7 +3,7 @@ use Rattle.std.specs.Prelude.{◌≡◌, List, map, length}
 use Rattle.pair_model.specs.Block as model
 use Rattle.pair_model.specs.Block.{node_of, id_of, changesets_in, commits_in}
 use Rattle.pair_state.specs.declared.blocks.Block as pair
-use Rattle.state_model.specs.Kept.{State}
+use Rattle.state_model.specs.Kept.{State, NameRow}
 use Rattle.state_model.specs.Saved.{IsState}
 use Rattle.hg_section.specs.declared.section.HgSection.{HgSection}
 use Rattle.hg_section.specs.Section.{HoldsChangesets}
@@ -15,8 +15,9 @@ abbrev pub block_in : model.Block → pair.Block
 block_in b = record { node = node_of b; commit = id_of b; links = length b.links }
 
 -- the sections hold what the state has, and these are its blocks
-pub record AreSectionsOf (hg : HgSection) (blocks : List pair.Block) (tags : TagSection) (m : State) : Type 0 where
+pub record AreSectionsOf (hg : HgSection) (blocks : List pair.Block) (tags : TagSection) (names : List NameRow) (m : State) : Type 0 where
   pub state : IsState m
   pub changesets : HoldsChangesets hg (changesets_in m.blocks)
   pub pairs : blocks ≡ map block_in m.blocks
   pub commits : HoldsTags tags (commits_in m.blocks) m.tags
+  pub names_are : names ≡ m.names

@@ -4,11 +4,12 @@ ghost use Rattle.state_model.specs.Kept as model;
 ghost use Rattle.state_text.specs.Stands.{Stands, HoldsExactly};
 ghost use Rattle.state_text.specs.Whole.{AreSectionsOf};
 
-use crate::blocks::{node_list, partners_of};
+use crate::blocks::node_list;
+use crate::names::NamePart;
 use bridge_text::{IdSet, NoMemory};
 use hg_section::HgSection;
 use pair_known::Known;
-use pair_state::{Blocks, Names, State, StateParts};
+use pair_state::{Blocks, State, StateParts};
 use std::alloc::Global;
 use tag_section::TagSection;
 
@@ -18,13 +19,15 @@ pub fn assemble(
     hg: HgSection,
     blocks: Blocks,
     tags: TagSection,
+    named: NamePart,
 ) -> Result<State, NoMemory>
-    requires sections { (m : model.State) × AreSectionsOf hg blocks tags m }
-    ensures stands { IfOk result (λ s. (m : model.State) → AreSectionsOf hg blocks tags m → Stands s m) }
-    ensures exactly { IfOk result (λ s. (m : model.State) → AreSectionsOf hg blocks tags m → HoldsExactly s m) }
+    requires sections { (m : model.State) × AreSectionsOf hg blocks tags named.names m }
+    requires partners { named.partners ≡ map (λ b. (b.node, b.commit)) blocks }
+    ensures stands { IfOk result (λ s. (m : model.State) → AreSectionsOf hg blocks tags named.names m → Stands s m) }
+    ensures exactly { IfOk result (λ s. (m : model.State) → AreSectionsOf hg blocks tags named.names m → HoldsExactly s m) }
 {
     hg.store.check();
-    let partners = partners_of(alloc, &blocks)?;
+    let partners = named.partners;
     partners.check();
     let changesets = node_list(alloc, hg.nodes.as_slice())?;
     Ok(State::from_parts(StateParts {
@@ -37,7 +40,7 @@ pub fn assemble(
         changesets,
         commits: tags.ids,
         tags: tags.tags,
-        names: Names::new(alloc),
+        names: named.names,
         agreed: IdSet::new(alloc),
         alloc,
     }))

@@ -5,10 +5,13 @@ mod assemble;
 mod blocks;
 mod fault;
 mod heads;
+mod nameable;
+mod names;
 mod reading;
 mod sections;
 mod write;
 
 pub use fault::StateFault;
+pub use nameable::{Nameable, id_set};
 pub use reading::read;
 pub use write::{dump_git, dump_hg, map_into, write_into};

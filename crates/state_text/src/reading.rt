@@ -8,7 +8,8 @@ ghost use Rattle.state_text.specs.Stands.{Stands, HoldsExactly};
 use crate::assemble::assemble;
 use crate::blocks::blocks_of;
 use crate::fault::StateFault;
-use crate::sections::{ends, read_git, read_hg, read_pairs, read_tagged};
+use crate::names::read_named;
+use crate::sections::{read_git, read_hg, read_pairs, read_tagged};
 use bridge_text::SLOT_LIMIT;
 use pair_state::State;
 use state_part::read_head;
@@ -29,8 +30,11 @@ pub fn read(alloc: Global, bytes: &[u8]) -> Result<State, StateFault>
     let blocks = blocks_of(alloc, hg.heads.as_slice(), git.section.ids.as_slice())?;
     let rest = read_pairs(alloc, &blocks, git.rest)?.ok_or(StateFault::StateShape(3))?;
     let tags = read_tagged(alloc, git.section, git.used, rest)?.ok_or(StateFault::StateShape(4))?;
-    if !ends(tags.rest) || bytes.len() > SLOT_LIMIT {
+    let named = read_named(alloc, &blocks, tags.section.tags.as_slice(), tags.rest)?.ok_or(
+        StateFault::StateShape(5),
+    )?;
+    if bytes.len() > SLOT_LIMIT {
         return Err(StateFault::StateShape(5));
     }
-    Ok(assemble(alloc, hg.section, blocks, tags.section)?)
+    Ok(assemble(alloc, hg.section, blocks, tags.section, named)?)
 }

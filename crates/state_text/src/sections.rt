@@ -1,11 +1,11 @@
 // The sections of a state's text, one by one.
-ghost use Rattle.std.specs.Prelude.{◌≡◌, ◌≢◌, ◌↔◌, ◌++◌, List, length, IfOk, IsTrue, MatchOption};
+ghost use Rattle.std.specs.Prelude.{◌≡◌, ◌≢◌, ◌++◌, List, length, IfOk, MatchOption};
 ghost use Rattle.text_model.specs.Text.{Bytes};
 ghost use Rattle.view_model.specs.View.{ChangesetView, CommitView};
 ghost use Rattle.git_model.specs.Object.{Object};
 ghost use Rattle.git_section.specs.Sections.{HoldsCommits};
 ghost use Rattle.state_model.specs.Kept as kept;
-ghost use Rattle.state_text.specs.Sections.{NoHg, HasHg, NoGit, HasGit, NoTags, HasTags, pairs_text, names_text};
+ghost use Rattle.state_text.specs.Sections.{NoHg, HasHg, NoGit, HasGit, NoTags, HasTags, pairs_text};
 
 use crate::blocks::pairs_of;
 use crate::heads::{Heads, heads_among};
@@ -25,9 +25,6 @@ pub const GIT: &[u8] = b"git";
 
 /// The section of the kept tags.
 pub const TAGS: &[u8] = b"tags";
-
-/// The section of the names.
-pub const NAMES: &[u8] = b"names";
 
 /// The section of the changesets that bytes begin with.
 #[derive(Drop)]
@@ -136,14 +133,4 @@ pub fn read_tagged<'a>(
         section,
         rest: part.rest,
     }))
-}
-
-/// Whether the bytes are the section of no names.
-pub fn ends(bytes: &[u8]) -> bool
-    ensures { IsTrue result ↔ (bytes.now ≡ names_text) }
-{
-    match read_section(NAMES, bytes) {
-        Some(part) => part.text.is_empty() && part.rest.is_empty(),
-        None => false,
-    }
 }

@@ -7,16 +7,18 @@ ghost use Rattle.pair_model.specs.Block.{changesets_in, commits_in};
 ghost use Rattle.state_model.specs.Kept as model;
 ghost use Rattle.state_model.specs.Saved.{AreBlocks};
 ghost use Rattle.state_model.specs.Text.{state_text};
-ghost use Rattle.saved_model.specs.Command.{map_text};
+ghost use Rattle.saved_model.specs.Written.{map_text};
 ghost use Rattle.state_text.specs.Stands.{Stands, AreAt};
 
 use crate::blocks::pairs_of;
-use crate::sections::{GIT, HG, NAMES, TAGS};
+use crate::names::NAMES;
+use crate::sections::{GIT, HG, TAGS};
 use bridge_text::{Id, NoMemory};
 use git_batch::put_with_id;
 use git_object::Objects;
 use git_store::GitStore;
 use pair_state::State;
+use ref_map::write_refs;
 use state_part::{put_head, put_map, put_section, put_sorted_map};
 
 /// Appends the one text of the state. After want of memory `out` is as it was.
@@ -42,12 +44,13 @@ fn append_state(state: &State, out: &mut Vec<u8>) -> Result<(), NoMemory>
     let alloc = state.alloc();
     let mut tags = Vec::new(alloc);
     put_tags(&mut tags, &state.known().git, state.tags().as_slice())?;
+    let names = write_refs(alloc, state.names())?;
     put_head(out)?;
     put_section(out, HG, dump_hg(state)?.as_slice())?;
     put_section(out, GIT, dump_commits(state)?.as_slice())?;
     put_map(out, pairs_of(alloc, state.blocks())?.as_slice())?;
     put_section(out, TAGS, tags.as_slice())?;
-    put_section(out, NAMES, b"")
+    put_section(out, NAMES, names.as_slice())
 }
 
 /// Appends `GIT HG` LF for each block, in rising order of the nodes. After want of memory `out` is as it was.

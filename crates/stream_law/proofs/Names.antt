@@ -8,7 +8,7 @@ use Rattle.text_model.proofs.Elements.{none_in}
 use Rattle.text_model.proofs.LackLemmas.{has_byte-lacks}
 use Rattle.text_model.proofs.TestLemmas.{bytes_eq-self}
 use Rattle.git_model.proofs.SortLemmas.{Distinct}
-use Rattle.hg_dump.proofs.PathLemmas.{AreApart, apart-first}
+use Rattle.path_law.proofs.Order.{AreApart, apart-first}
 use Rattle.tree_shape.proofs.FitPieces.{fit-pieces, fit-name}
 use Rattle.tree_shape.proofs.Rows.{goes_on, ends, shape}
 

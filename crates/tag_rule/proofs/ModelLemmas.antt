@@ -27,7 +27,7 @@ use Rattle.tag_rule.specs.declared.named.Named.TheVariants as named
 use Rattle.tag_rule.specs.Rows.{tag_ids}
 use Rattle.tag_rule.specs.Named.{named_by, named_at, lacks_by, lacks_over}
 use Rattle.tag_rule.specs.Fates.{leads_within, is_new_over}
-use Rattle.tag_rule.specs.Answers.{HaveCome, IsSetOf}
+use Rattle.tag_rule.specs.Answers.{HaveCome, IsSetOf, target_unknown}
 use Rattle.tag_rule.proofs.FateLemmas.{within-none, within-step, led}
 
 -- ---- the tags that came
@@ -236,12 +236,12 @@ module _ (store : List Object) (arrivals : List ObjectArrival) (placed : List Pl
         by (Some o) h = absurd cc
 
     pub first-lacks : (a : ObjectArrival) → Some a ≡ find (lacks_over store commits kept rows) arrivals
-        → (o : Placed) × (find (lacks_target blocks tags placed) placed ≡ Some o) × (a.id ≡ (o.object).id) × (a.at ≡ o.at)
+        → (o : Placed) × (find (lacks_target blocks tags placed) placed ≡ Some o) × (target_unknown a.id a.at ≡ target_unknown (o.object).id o.at)
     first-lacks a first = by (find (lacks_target blocks tags placed) placed) refl (first ∙ found-is)
       where
         by : (f : Option Placed) → find (lacks_target blocks tags placed) placed ≡ f → Some a ≡ option_map arrival_of f
-            → (o : Placed) × (find (lacks_target blocks tags placed) placed ≡ Some o) × (a.id ≡ (o.object).id) × (a.at ≡ o.at)
+            → (o : Placed) × (find (lacks_target blocks tags placed) placed ≡ Some o) × (target_unknown a.id a.at ≡ target_unknown (o.object).id o.at)
         by None is h = absurd cc
         by (Some o) is h =
             let same : a ≡ arrival_of o = some_is h in
-            (o, is, ap (λ (x : ObjectArrival). x.id) same, ap (λ (x : ObjectArrival). x.at) same)
+            (o, is, ap (λ (x : ObjectArrival). target_unknown x.id x.at) same)

@@ -6,7 +6,7 @@ ghost use Rattle.git_model.specs.Stream.{Placed};
 ghost use Rattle.pair_model.specs.Block.{Block, id_of};
 ghost use Rattle.state_model.specs.Kept.{ids_of};
 ghost use Rattle.saved_model.specs.Step as model;
-ghost use Rattle.tag_rule.specs.Answers.{HaveCome, IsSetOf, IsTagFault};
+ghost use Rattle.tag_rule.specs.Answers.{HaveCome, IsSetOf, IsTagFault, IsTargetFault};
 ghost use Rattle.tag_rule.specs.Named.{arrival_lacks};
 ghost use Rattle.tag_rule.specs.Fates.{is_new};
 
@@ -14,7 +14,7 @@ use crate::fates::Fates;
 use crate::fault::TagFault;
 use crate::named::Targets;
 use crate::rows::TagRows;
-use bridge_text::{Id, IdList, IdSet, NoMemory};
+use bridge_text::{Fault, Id, IdList, IdSet, NoMemory, Refusal};
 use git_batch::{ObjectArrival, ObjectArrivals};
 use git_store::GitStore;
 use std::alloc::Global;
@@ -23,7 +23,7 @@ use std::alloc::Global;
 /// leads to one if it is of a commit, of a kept tag, or of a tag of the stream that leads to one.
 ///
 /// `came` are the objects of the stream, which are in the store; `commits` has the ids of the saved commits, and `kept`
-/// those of the kept tags. `ObjectUnknown` comes exactly at the first tag of the stream whose target isn't there: of a tag
+/// those of the kept tags. ObjectUnknown comes exactly at the first tag of the stream whose target isn't there: of a tag
 /// of a commit a saved commit, of a tag of a tag a kept tag or one of the stream. The time is linear, also for long chains.
 pub fn new_tags(
     alloc: Global,
@@ -38,6 +38,7 @@ pub fn new_tags(
         → IsSetOf commits.now (map id_of blocks) → IsSetOf kept.now (ids_of tags) → find (model.lacks_target blocks tags placed) placed ≡ None) }
     ensures fault { IfErr result (λ fault. (placed : List Placed) (blocks : List Block) (tags : List Object) → HaveCome store.now came.now placed
         → IsSetOf commits.now (map id_of blocks) → IsSetOf kept.now (ids_of tags) → IsTagFault (find (model.lacks_target blocks tags placed) placed) fault) }
+    ensures names { IfErr result IsTargetFault }
 {
     let rows = TagRows::among(alloc, came)?;
     let targets = Targets {
@@ -47,10 +48,11 @@ pub fn new_tags(
         came: &rows.set,
     };
     match first_lacking(&targets, came.as_slice()) {
-        Some(tag) => Err(TagFault::ObjectUnknown {
+        Some(tag) => Err(TagFault::Refused(Refusal {
+            fault: Fault::ObjectUnknown,
             id: tag.id,
-            at: tag.at,
-        }),
+            place: tag.at,
+        })),
         None => Ok(new_among(alloc, &targets, rows.ids.as_slice())?),
     }
 }

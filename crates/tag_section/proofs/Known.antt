@@ -16,7 +16,7 @@ use Rattle.dump_law.specs.Same.{AreSameObjects}
 use Rattle.dump_law.proofs.Elements.{of-filter, of-first}
 use Rattle.git_section.specs.declared.section.GitSection.{GitSection}
 use Rattle.git_section.specs.Sections.{HoldsCommits}
-use Rattle.git_section.proofs.Known.{all_there}
+use Rattle.git_dump.proofs.There.{all_there}
 
 -- what is known behind objects was known before or is one of them
 of-after : (known os : List Object) (o : Object) → In o (objects_after_all known os) → In o known ⊎ In o os

@@ -32,7 +32,7 @@ pub fn kept_tags(
         } else {
             None
         }),
-        Err(TagFault::ObjectUnknown { .. }) => Ok(None),
+        Err(TagFault::Refused(_)) => Ok(None),
         Err(TagFault::Memory) => Err(NoMemory),
     }
 }

@@ -1,6 +1,6 @@
 use Rattle.std.proofs.Common.{refl}
 use Rattle.std.proofs.lemmas.Result.{err_from_is_err_and}
-use Rattle.saved_model.specs.Command.{ListHg, CheckHg, ListGit, CheckGit}
+use Rattle.command_model.specs.Command.{ListHg, CheckHg, ListGit, CheckGit}
 use Rattle.bridge_cli.proofs.AloneLemmas.{alone-makes, alone-ends}
 use Rattle.bridge_cli.proofs.output.work_of.Goals as goal
 
@@ -56,3 +56,9 @@ returns-in-DumpGit-clause-input g c = c.stream_of_history.ensures.input (g.I.Sou
 
 pub returns-in-Map-clause-input : goal.returns-in-Map-clause-input
 returns-in-Map-clause-input g c = c.map_of_history.ensures.input (g.I.Source.faults c.args.input.now)
+
+pub returns-in-NamesHg-clause-input : goal.returns-in-NamesHg-clause-input
+returns-in-NamesHg-clause-input g c = c.text_of_names.ensures.input (g.I.Source.faults c.args.input.now)
+
+pub returns-in-NamesGit-clause-input : goal.returns-in-NamesGit-clause-input
+returns-in-NamesGit-clause-input g c = c.text_of_names-in-NamesGit.ensures.input (g.I.Source.faults c.args.input.now)

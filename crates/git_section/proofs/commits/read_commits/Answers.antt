@@ -1,6 +1,5 @@
-use Rattle.std.proofs.Common.{◌≡◌, List, [], Bool, true, false, true≢false, Option, refl, sym, ap, subst, ◌∙◌}
+use Rattle.std.proofs.Common.{◌≡◌, List, [], true, false, true≢false, Option, sym, subst, ◌∙◌}
 use Rattle.std.specs.Prelude.{MatchOption, is_ok}
-use Rattle.std.proofs.lemmas.Slice.Eq.{bytes_eq-Decides}
 use Rattle.text_model.specs.Id.{Id}
 use Rattle.git_model.specs.Stream.{stream_reading}
 use Rattle.git_dump.specs.Commits.{AreWalkableCommits}
@@ -19,22 +18,20 @@ returns-then-not-branch c = λ cs s e.
     let no : c.in_ok-have_walks.field-0 ≡ false = cc c.if-not-branch.true in
     true≢false (sym (c.in_ok-have_walks.ensures.1 (cs, are)) ∙ no)
 
-pub returns-then-eq : goal.returns-then-eq
-returns-then-eq c =
+pub returns-then-is_whole : goal.returns-then-is_whole
+returns-then-is_whole c =
     let bytes = c.args.bytes.now in
     let section = c.in-Some.section in
     let read = subst (λ (o : Option GitSection). MatchOption o (is_ok (stream_reading [] bytes) ≡ false) (IsRead bytes)) c.in-Some.is c.in_ok-section.ensures in
     let all = c.in_ok-have_walks.ensures.0 (cc c.if-not-branch.false) in
     let are = subst (λ (l : List Id). AreWalkableCommits section.store l all.0) c.as_slice.ensures all.1 in
-    let equal = (bytes_eq-Decides c.as_slice-2.result.now bytes).0 (sym c.eq.ensures ∙ c.if-eq.true) in
-    let dump = sym (c.in_ok-dump.ensures all.0 are) ∙ sym c.as_slice-2.ensures.value ∙ equal in
+    let dump = sym ((c.in_ok-is_whole.ensures all.0 (subst (λ (l : List Id). AreWalkableCommits section.store l all.0) (sym c.as_slice-2.ensures) are)).0 c.if-is_whole.true) in
     (all.0, saved bytes section read all.0 are dump, dump, holds bytes section read all.0 are dump)
 
-pub returns-else-eq : goal.returns-else-eq
-returns-else-eq c = λ cs s e.
+pub returns-else-is_whole : goal.returns-else-is_whole
+returns-else-is_whole c = λ cs s e.
     let bytes = c.args.bytes.now in
     let section = c.in-Some.section in
     let read = subst (λ (o : Option GitSection). MatchOption o (is_ok (stream_reading [] bytes) ≡ false) (IsRead bytes)) c.in-Some.is c.in_ok-section.ensures in
-    let are = walkable bytes section read cs s e in
-    let equal = (bytes_eq-Decides c.as_slice-2.result.now bytes).1 (c.as_slice-2.ensures.value ∙ c.in_ok-dump.ensures cs are ∙ e) in
-    true≢false (sym equal ∙ sym c.eq.ensures ∙ c.if-eq.false)
+    let are = subst (λ (l : List Id). AreWalkableCommits section.store l cs) (sym c.as_slice-2.ensures) (walkable bytes section read cs s e) in
+    true≢false (sym ((c.in_ok-is_whole.ensures cs are).1 (sym e)) ∙ c.if-is_whole.false)

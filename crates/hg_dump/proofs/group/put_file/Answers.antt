@@ -1,13 +1,9 @@
-use Rattle.std.proofs.Common.{◌≡◌, ◌<◌, ℕ, zero, suc, false, true≢false, sym, arith}
-use Rattle.std.specs.Prelude.{◌==◌}
+use Rattle.std.proofs.Common.{sym, arith}
 use Rattle.hg_model.specs.Revision.{FilesAt}
+use Rattle.hg_dump.proofs.BundleLemmas.{positive}
 use Rattle.hg_dump.proofs.EntryLemmas.{some-held}
 use Rattle.hg_dump.proofs.HeldLemmas.{held-path}
 use Rattle.hg_dump.proofs.group.put_file.Goals as goal
-
-positive : (n : ℕ) → (n == 0) ≡ false → 0 < n
-positive zero e = absurd (true≢false e)
-positive (suc n) e = omega arith
 
 pub put_chunk-requires : goal.put_chunk-requires
 put_chunk-requires c =

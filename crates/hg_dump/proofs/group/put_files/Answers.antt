@@ -1,15 +1,12 @@
-use Rattle.std.proofs.Common.{◌≡◌, ◌++◌, List, map, Some, sym, ap, subst, ◌∙◌, append-nil, append_assoc}
-use Rattle.std.specs.Global.{Vec}
+use Rattle.std.proofs.Common.{◌≡◌, ◌++◌, map, Some, refl, sym, ap, subst, ◌∙◌, append-nil, append_assoc}
+use Rattle.std.proofs.Transfers.{starts_with_of_eq, starts_with_trans}
 use Rattle.std.specs.List.{flat_map}
-use Rattle.std.specs.BTreeMap.{BTreeMap}
 use Rattle.text_model.specs.Lists.{Each}
 use Rattle.text_model.specs.Text.{Bytes}
-use Rattle.hg_model.specs.Revision.{Revision, FilesAt}
-use Rattle.hg_dump.specs.declared.references.Reference.{Reference}
-use Rattle.hg_dump.specs.Referred.{Referred, or_nothing}
-use Rattle.hg_dump.specs.Written.{AreOf, file_part}
-use Rattle.hg_dump.specs.State.{AreFiles}
+use Rattle.hg_model.specs.Revision.{FilesAt}
+use Rattle.hg_dump.specs.Written.{file_part}
 use Rattle.view_model.specs.Dump.{of_group}
+use Rattle.hg_dump.proofs.BundleLemmas.{here}
 use Rattle.hg_dump.proofs.FileLemmas.{by_path, to-each, key-paths, rising-keys}
 use Rattle.hg_dump.proofs.group.put_files.Goals as goal
 
@@ -19,14 +16,9 @@ loop-path-init c =
     let files = c.args.files.now in
     record {
       written = λ rs are. ap (λ l. c.args.out.now.items ++ flat_map (file_part c.args.store.now rs) l) (ap (map (λ e. e.0.items)) gives.0 ∙ key-paths files.entries);
+      front = starts_with_of_eq _ _ refl;
       found = subst (Each (λ e. by_path files e.0.items ≡ Some e.1)) (sym gives.0) (to-each (λ e. by_path files e.0.items ≡ Some e.1) files.entries gives.6);
     }
-
--- the references of this turn are those of its path
-here : (known rs : List Revision) (files : BTreeMap (Vec _) Referred) (key path : Bytes) (own : Referred) (references : List Reference) → AreFiles known files rs → by_path files key ≡ Some own → path ≡ key → references ≡ own.brought
-    → AreOf known (FilesAt path) references (of_group (FilesAt path) rs)
-here known rs files key path own references are found same is =
-    subst (λ (l : List Reference). AreOf known (FilesAt path) l (of_group (FilesAt path) rs)) (ap (λ o. (or_nothing o).brought) (ap (by_path files) same ∙ found) ∙ sym is) (are path)
 
 pub put_file-requires : goal.put_file-requires
 put_file-requires c =
@@ -44,11 +36,12 @@ loop-path-preserved c =
     let key = c.in-Some.path.now.items in
     record {
       written = λ rs are.
-          let put = c.in_ok-put_file.ensures (of_group (FilesAt c.as_slice.result.now) rs) (here known rs files key c.as_slice.result.now c.in-Some.references.now c.brought.result.now are found.0 c.as_slice.ensures.value c.brought.ensures) in
+          let put = c.in_ok-put_file.ensures.ok (of_group (FilesAt c.as_slice.result.now) rs) (here known rs files key c.as_slice.result.now c.in-Some.references.now c.brought.result.now are found.0 c.as_slice.ensures.value c.brought.ensures) in
           ap (λ (x : Bytes). x ++ flat_map (file_part known rs) (map (λ e. e.0.items) c.next.new.self)) (put ∙ ap (λ (p : Bytes). c.loop-path.out.items ++ file_part known rs p) c.as_slice.ensures.value)
           ∙ append_assoc c.loop-path.out.items (file_part known rs key) (flat_map (file_part known rs) (map (λ e. e.0.items) c.next.new.self))
           ∙ ap (λ l. c.loop-path.out.items ++ flat_map (file_part known rs) (map (λ e. e.0.items) l)) (sym c.in-Some.ensures.steps)
           ∙ c.loop-path.invariant.written rs are;
+      front = starts_with_trans _ _ _ c.put_file.ensures.front c.loop-path.invariant.front;
       found = found.1;
     }
 
@@ -62,5 +55,6 @@ returns c =
           sym (append-nil c.loop-path.out.items)
           ∙ ap (λ l. c.loop-path.out.items ++ flat_map (file_part known rs) (map (λ e. e.0.items) l)) (sym c.in-None.ensures.steps.0)
           ∙ c.loop-path.invariant.written rs are;
+      front = c.loop-path.invariant.front;
       rising = rising-keys files gives.5;
     }

@@ -1,6 +1,6 @@
 use Rattle.std.proofs.Common.{◌≡◌, ◌+◌, ◌-◌, ◌++◌, map, drop, length}
 use Rattle.std.specs.Prelude.{option_map}
-use Rattle.hg_dump.proofs.PathLemmas.{IsUp}
+use Rattle.path_law.proofs.Order.{IsUp}
 use Rattle.manifest_rule.specs.Listed.{entry_of_value, entries_or_none}
 use Rattle.manifest_rule.proofs.MergeLemmas.{entry_paths, listed_among}
 use Rattle.manifest_rule.proofs.files.files_listed.Given as goal

@@ -1,5 +1,4 @@
 use Rattle.std.proofs.Common.{Option, sym, ap, subst, ◌∙◌}
-use Rattle.std.specs.Prelude.{option_map}
 use Rattle.text_model.specs.Text.{Bytes}
 use Rattle.hg_model.specs.FileText.{IsFileText, file_order}
 use Rattle.pair_state.proofs.order.parents_of.Goals as goal

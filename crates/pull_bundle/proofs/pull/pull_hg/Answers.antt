@@ -3,7 +3,7 @@ use Rattle.std.proofs.lemmas.Result.{err_from_is_err_and}
 use Rattle.pair_model.specs.Block.{commits_in}
 use Rattle.pair_state.specs.declared.state_parts.StateParts.{StateParts}
 use Rattle.pull_bundle.specs.Takes.{HasRead}
-use Rattle.pull_bundle.proofs.PullLemmas.{Told, Refer, memory-refused, no-read_cause, starts-read, take-refused, left-refused, some-asked, all-taken, walkable, count-within, next-goes-on, pulled}
+use Rattle.pull_bundle.proofs.PullLemmas.{Told, Refer, memory-refused, read-refused, no-read_cause, starts-read, take-refused, left-refused, some-asked, all-taken, walkable, count-within, next-goes-on, pulled}
 use Rattle.pull_bundle.proofs.pull.pull_hg.Goals as goal
 
 pub begin-requires : goal.begin-requires
@@ -22,6 +22,11 @@ take_all-requires g c =
     let read = subst (λ (x : StateParts). HasRead s x list came) same c.in_ok-parts.ensures.read.1 in
     let x = c.into_parts-parts.ensures.history in
     record { starts = (s.known.hg, x.0, came, starts-read s t list came x.0 x.1 read refer) }
+
+pub returns-in_err-parts-clause-refused : goal.returns-in_err-parts-clause-refused
+returns-in_err-parts-clause-refused g c =
+    let p = err_from_is_err_and c.from_residual.result c.from_residual.ensures.1 in
+    rw (p.1, p.2, sym c.into_parts-parts.ensures.parts) (read-refused (g.S.Source.left c.args.src.now) c.into_parts-parts.result c.in_err-parts.field-0.0 c.in_err-parts.ensures.refused)
 
 pub returns-in_err-state-clause-refused : goal.returns-in_err-state-clause-refused
 returns-in_err-state-clause-refused g c =

@@ -1,4 +1,4 @@
-use Rattle.std.proofs.Common.{List, inl, inr, sym}
+use Rattle.std.proofs.Common.{List, inl, inr, sym, ap, ◌∙◌}
 use Rattle.std.proofs.lemmas.Result.{err_from_is_err_and}
 use Rattle.text_model.specs.Text.{Bytes, IsBytes}
 use Rattle.pair_model.specs.Block.{Block}
@@ -173,3 +173,9 @@ returns-clause-next g c =
     rw (sym c.checked-state.ensures.same)
     (λ m read. goes-on s m read c.in_ok-pulled.pulled (c.in_ok-pulled.ensures.next m.blocks (read.stands).blocks) held.0 held.1 held.2
     c.in_ok-tags.tags c.in_ok-tags.ensures.tags c.in_ok-keep_tags.field-0 c.in_ok-keep_tags.ensures)
+
+pub returns-clause-names_stay : goal.returns-clause-names_stay
+returns-clause-names_stay g c =
+    let history = c.checked-state.ensures.history in
+    let on = c.in_ok-pulled.ensures.next history.0 history.1 in
+    c.in_ok-keep_tags.ensures.names ∙ on.names ∙ ap (λ (s : StateParts). s.names) c.checked-state.ensures.same

@@ -1,4 +1,4 @@
-use Rattle.std.proofs.Common.{List, inl, inr, sym}
+use Rattle.std.proofs.Common.{List, inl, inr, sym, ap, ◌∙◌}
 use Rattle.std.proofs.lemmas.Result.{err_from_is_err_and}
 use Rattle.text_model.specs.Text.{Bytes}
 use Rattle.pair_model.specs.Block.{Block}
@@ -115,3 +115,9 @@ returns-clause-next g c =
     let s = c.checked-state.result in
     rw (sym c.checked-state.ensures.same)
     (λ m read. goes-on s m read c.in_ok-pulled.pulled (c.in_ok-pulled.ensures.next m.blocks (read.stands).blocks))
+
+pub returns-clause-names_stay : goal.returns-clause-names_stay
+returns-clause-names_stay g c =
+    let history = c.checked-state.ensures.history in
+    let on = c.in_ok-pulled.ensures.next history.0 history.1 in
+    on.names ∙ ap (λ (s : StateParts). s.names) c.checked-state.ensures.same

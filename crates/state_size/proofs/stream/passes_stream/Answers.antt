@@ -1,16 +1,25 @@
-use Rattle.std.proofs.Common.{rules, ◌≡◌, List, length, sym, ap, subst, ◌∙◌}
-use Rattle.std.specs.Prelude.{nat_lt, vec_len}
-use Rattle.text_model.specs.Id.{Id}
-use Rattle.git_dump.specs.Commits.{AreWalkableCommits}
+use Rattle.std.proofs.Common.{ap, ◌∙◌, ◌+◌, ◌++◌, length, arith}
+use Rattle.std.specs.Prelude.{nat_lt}
+use Rattle.git_model.specs.Stream.{stream_text}
+use Rattle.state_model.specs.Kept.{git_dump}
 use Rattle.state_model.specs.Limits.{dump_limit}
 use Rattle.state_size.specs.Sizes.{objects_of}
-use Rattle.state_size.proofs.Written.{two-more}
+use Rattle.state_size.proofs.Written.{two-more, past}
 use Rattle.state_size.proofs.stream.passes_stream.Goals as goal
 
 pub returns : goal.returns
 returns c = λ cs are.
     let known = c.args.store.now in
-    let written = c.in_ok-stream.ensures cs (subst (λ (l : List Id). AreWalkableCommits known l cs) (sym c.in_ok-order.ensures) are) in
-    let size : vec_len c.put_objects-2.new.out ≡ length c.put_objects-2.new.out.items = search rules in
+    let kept = objects_of known c.args.kept.now in
+    let new = objects_of known c.args.new.now in
     ap (nat_lt dump_limit)
-    (c.len.ensures ∙ size ∙ two-more (objects_of known c.args.kept.now) (objects_of known c.args.new.now) _ _ _ _ written c.in_ok-put_objects.ensures c.in_ok-put_objects-2.ensures)
+    (omega (
+      arith,
+      c.in_ok-dump.ensures cs are,
+      c.objects_len.ensures,
+      c.objects_len-2.ensures,
+      c.saturating_add-with_kept.ensures,
+      c.saturating_add-all.ensures,
+      two-more kept new,
+    ))
+    ∙ past (length (git_dump cs) + length (stream_text (kept ++ new)))

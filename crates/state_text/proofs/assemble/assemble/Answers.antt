@@ -2,76 +2,70 @@ use Rattle.std.proofs.Common.{refl, sym, ap, subst, ◌∙◌}
 use Rattle.hg_store.specs.Known.{AreAdded}
 use Rattle.pair_known.specs.Partners.{ArePartners}
 use Rattle.pair_state.specs.declared.state_parts.StateParts.{StateParts}
-use Rattle.state_text.proofs.Assembled.{IsMadeOf, one-node, one-id, stands, has-blocks, exactly}
+use Rattle.state_text.proofs.Assembled.{IsMadeOf, stands, has-blocks, exactly}
 use Rattle.state_text.proofs.assemble.assemble.Goals as goal
-
-pub partners_of-requires-clause-nodes : goal.partners_of-requires-clause-nodes
-partners_of-requires-clause-nodes c = one-node c.args.hg c.args.blocks c.args.tags c.requires.sections.0 c.requires.sections.1
-
-pub partners_of-requires-clause-commits : goal.partners_of-requires-clause-commits
-partners_of-requires-clause-commits c = one-id c.args.hg c.args.blocks c.args.tags c.requires.sections.0 c.requires.sections.1
 
 pub from_parts-requires : goal.from_parts-requires
 from_parts-requires c =
     let s : StateParts = record {
-      known = record { hg = c.args.hg.store; git = c.args.tags.store; partners = c.in_ok-partners.partners };
+      known = record { hg = c.args.hg.store; git = c.args.tags.store; partners = c.args.named.partners };
       blocks = c.args.blocks;
       changesets = c.in_ok-changesets.changesets;
       commits = c.args.tags.ids;
       tags = c.args.tags.tags;
-      names = c.new.result;
-      agreed = c.new-2.result;
+      names = c.args.named.names;
+      agreed = c.new.result;
       alloc = c.args.alloc;
     } in
-    let made : IsMadeOf s c.args.hg c.args.blocks c.args.tags = record {
+    let made : IsMadeOf s c.args.hg c.args.blocks c.args.tags c.args.named.names = record {
       hg_is = refl;
       git_is = refl;
-      partners_are = c.in_ok-partners.ensures;
+      partners_are = c.requires.partners;
       blocks_are = refl;
       changesets_are = c.in_ok-changesets.ensures ∙ c.as_slice.ensures;
       commits_are = refl;
       tags_are = refl;
-      no_names = c.new.ensures;
-      none_agreed = c.new-2.ensures;
+      names_are = refl;
+      none_agreed = c.new.ensures;
       added = c.check.ensures;
       partners = c.check-2.ensures;
     } in
-    record { history = has-blocks s c.args.hg c.args.blocks c.args.tags c.requires.sections.0 c.requires.sections.1 made }
+    record { history = has-blocks s c.args.hg c.args.blocks c.args.tags c.args.named.names c.requires.sections.0 c.requires.sections.1 made }
 
 pub returns-clause-stands : goal.returns-clause-stands
 returns-clause-stands c =
     let s = c.from_parts.result in
     let e = c.from_parts.ensures in
-    let made : IsMadeOf s c.args.hg c.args.blocks c.args.tags = record {
+    let made : IsMadeOf s c.args.hg c.args.blocks c.args.tags c.args.named.names = record {
       hg_is = ap (λ (x : StateParts). x.known.hg) e;
       git_is = ap (λ (x : StateParts). x.known.git) e;
-      partners_are = ap (λ (x : StateParts). x.known.partners) e ∙ c.in_ok-partners.ensures;
+      partners_are = ap (λ (x : StateParts). x.known.partners) e ∙ c.requires.partners;
       blocks_are = ap (λ (x : StateParts). x.blocks) e;
       changesets_are = ap (λ (x : StateParts). x.changesets) e ∙ c.in_ok-changesets.ensures ∙ c.as_slice.ensures;
       commits_are = ap (λ (x : StateParts). x.commits) e;
       tags_are = ap (λ (x : StateParts). x.tags) e;
-      no_names = ap (λ (x : StateParts). x.names) e ∙ c.new.ensures;
-      none_agreed = ap (λ (x : StateParts). x.agreed) e ∙ c.new-2.ensures;
+      names_are = ap (λ (x : StateParts). x.names) e;
+      none_agreed = ap (λ (x : StateParts). x.agreed) e ∙ c.new.ensures;
       added = subst (λ (x : StateParts). AreAdded x.known.hg) (sym e) c.check.ensures;
       partners = subst (λ (x : StateParts). ArePartners x.known.partners) (sym e) c.check-2.ensures;
     } in
-    (λ m a. stands s c.args.hg c.args.blocks c.args.tags m a made)
+    (λ m a. stands s c.args.hg c.args.blocks c.args.tags c.args.named.names m a made)
 
 pub returns-clause-exactly : goal.returns-clause-exactly
 returns-clause-exactly c =
     let s = c.from_parts.result in
     let e = c.from_parts.ensures in
-    let made : IsMadeOf s c.args.hg c.args.blocks c.args.tags = record {
+    let made : IsMadeOf s c.args.hg c.args.blocks c.args.tags c.args.named.names = record {
       hg_is = ap (λ (x : StateParts). x.known.hg) e;
       git_is = ap (λ (x : StateParts). x.known.git) e;
-      partners_are = ap (λ (x : StateParts). x.known.partners) e ∙ c.in_ok-partners.ensures;
+      partners_are = ap (λ (x : StateParts). x.known.partners) e ∙ c.requires.partners;
       blocks_are = ap (λ (x : StateParts). x.blocks) e;
       changesets_are = ap (λ (x : StateParts). x.changesets) e ∙ c.in_ok-changesets.ensures ∙ c.as_slice.ensures;
       commits_are = ap (λ (x : StateParts). x.commits) e;
       tags_are = ap (λ (x : StateParts). x.tags) e;
-      no_names = ap (λ (x : StateParts). x.names) e ∙ c.new.ensures;
-      none_agreed = ap (λ (x : StateParts). x.agreed) e ∙ c.new-2.ensures;
+      names_are = ap (λ (x : StateParts). x.names) e;
+      none_agreed = ap (λ (x : StateParts). x.agreed) e ∙ c.new.ensures;
       added = subst (λ (x : StateParts). AreAdded x.known.hg) (sym e) c.check.ensures;
       partners = subst (λ (x : StateParts). ArePartners x.known.partners) (sym e) c.check-2.ensures;
     } in
-    (λ m a. exactly s c.args.hg c.args.blocks c.args.tags m a made)
+    (λ m a. exactly s c.args.hg c.args.blocks c.args.tags c.args.named.names m a made)

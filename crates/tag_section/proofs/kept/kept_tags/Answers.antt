@@ -22,9 +22,9 @@ returns-in-Ok c cs placed are come =
       | else-len w ↦ subst Answer (sym w.result-is) (not-all cs placed came come.listed c.in-Ok.ids ids (λ same. w.if-len.false (c.len.ensures ∙ same ∙ sym c.len-in-Ok.ensures)))
     ]
 
-pub returns-in-Err-ObjectUnknown : goal.returns-in-Err-ObjectUnknown
-returns-in-Err-ObjectUnknown c cs placed are come =
+pub returns-in-Err-Refused : goal.returns-in-Err-Refused
+returns-in-Err-Refused c cs placed are come =
     let set = block-set cs c.in_ok-saved.saved c.args.commits.now c.in_ok-saved.ensures are in
     let none = λ (id : Id). ap (λ (l : List Id). has l id) c.new-none.ensures in
-    let fault = rw c.in-Err-ObjectUnknown.field-0-is at (c.in-Err-ObjectUnknown.ensures.fault placed (blocks_of cs) [] come set none) in
+    let fault = rw c.in-Err-Refused.field-0-is at (c.in-Err-Refused.ensures.fault placed (blocks_of cs) [] come set none) in
     none-lacks cs placed fault.0 fault.1

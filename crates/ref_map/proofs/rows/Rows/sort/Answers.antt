@@ -5,7 +5,7 @@ use Rattle.std.proofs.lemmas.List.Sorted.{ranks_by, answers_always}
 use Rattle.text_model.specs.Lists.{in_order}
 use Rattle.text_model.specs.Id.{Id}
 use Rattle.state_part.proofs.SortLemmas.{sorted_is}
-use Rattle.name_model.specs.Reading.{is_name_below}
+use Rattle.state_model.specs.Names.{is_name_below}
 use Rattle.ref_map.specs.Entries.{entry_row}
 use Rattle.ref_map.proofs.EntryLemmas.{is_entry_below, ordered}
 use Rattle.ref_map.proofs.rows.Rows.sort.Goals as goal

@@ -1,0 +1,5 @@
+pub mod Run
+pub mod Names
+pub mod Command
+pub mod Headline
+pub mod Across

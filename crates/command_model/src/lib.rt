@@ -1,0 +1,2 @@
+//! The commands of the program and how a run ends, as definitions that contracts cite. No code.
+#![tactic(auto)]

@@ -1,0 +1,2 @@
+pub mod BundleFormat
+pub mod StreamFormat

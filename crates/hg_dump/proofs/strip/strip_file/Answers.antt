@@ -1,0 +1,49 @@
+use Rattle.std.proofs.Common.{subst, sym, refl, arith}
+use Rattle.text_model.specs.Text.{Bytes}
+use Rattle.hg_model.specs.Bundle.{FileGroup, group_text}
+use Rattle.hg_model.specs.Chunk.{chunk_text}
+use Rattle.hg_model.specs.Revision.{FilesAt}
+use Rattle.view_model.specs.Dump.{written_group}
+use Rattle.hg_dump.specs.Begins.{LacksFront, HasFront, IsBehind}
+use Rattle.hg_dump.proofs.BundleLemmas.{positive}
+use Rattle.hg_dump.proofs.EntryLemmas.{some-held, of-length}
+use Rattle.hg_dump.proofs.HeldLemmas.{held-path}
+use Rattle.hg_dump.proofs.StripLemmas.{lacks-first, behind-both, part-none, part-some, no-references}
+use Rattle.hg_dump.proofs.strip.strip_file.Goals as goal
+
+pub returns-then-is_empty : goal.returns-then-is_empty
+returns-then-is_empty c = λ rs are.
+    let known = c.args.store.now in
+    let path = c.args.path.now in
+    let bytes = c.args.bytes.now in
+    subst (λ (f : Bytes). HasFront bytes f bytes)
+    (part-none (record { path = path; entries = written_group known (FilesAt path) rs }) rs (omega (arith, of-length known (FilesAt path) c.args.references.now rs are, no-references _ (sym c.if-is_empty.ensures)))) refl
+
+pub strip_chunk-requires : goal.strip_chunk-requires
+strip_chunk-requires c =
+    let known = c.args.store.now in
+    let path = c.args.path.now in
+    let references = c.args.references.now in
+    let some = some-held known (FilesAt path) references c.requires.0 c.requires.1 (positive _ (sym c.if-is_empty.ensures)) in
+    let size = held-path known path some.revision c.check.ensures some.is_held in
+    record { some = size.0; limit = omega (arith, size.1) }
+
+pub returns-in_err-entries : goal.returns-in_err-entries
+returns-in_err-entries c = rw c.from_residual.ensures (λ rs are.
+    let known = c.args.store.now in
+    let path = c.args.path.now in
+    let bytes = c.args.bytes.now in
+    let f : FileGroup = record { path = path; entries = written_group known (FilesAt path) rs } in
+    subst (λ (x : Bytes). LacksFront bytes x)
+    (part-some f rs (omega (arith, positive _ (sym c.if-is_empty.ensures), of-length known (FilesAt path) c.args.references.now rs are)))
+    (lacks-first bytes (chunk_text path) (group_text f.entries) c.in_err-entries.ensures))
+
+pub returns : goal.returns
+returns c = λ rs are.
+    let known = c.args.store.now in
+    let path = c.args.path.now in
+    let bytes = c.args.bytes.now in
+    let f : FileGroup = record { path = path; entries = written_group known (FilesAt path) rs } in
+    subst (λ (x : Bytes). IsBehind bytes x c.strip_group.result)
+    (part-some f rs (omega (arith, positive _ (sym c.if-is_empty.ensures), of-length known (FilesAt path) c.args.references.now rs are)))
+    (behind-both bytes (chunk_text path) (group_text f.entries) c.in_ok-entries.entries.now c.strip_group.result c.in_ok-entries.ensures (c.strip_group.ensures rs are))

@@ -1,0 +1,62 @@
+use Rattle.std.proofs.Common.{◌≤◌, ℕ, [], List, length, sym, ap, subst, arith}
+use Rattle.std.proofs.lemmas.List.{drop_all}
+use Rattle.text_model.specs.Text.{Bytes}
+use Rattle.hg_model.specs.Revision.{Revision}
+use Rattle.hg_model.specs.Chunk.{chunk_text}
+use Rattle.hg_store.specs.Groups.{group_value}
+use Rattle.hg_dump.specs.Begins.{LacksFront, IsBehind, GoOnAlike}
+use Rattle.hg_dump.specs.Written.{base_size, chunks_over}
+use Rattle.hg_dump.proofs.EntryLemmas.{at-place, of-at, of-length, group-spelled}
+use Rattle.hg_dump.proofs.StripLemmas.{lacks-first, behind-both, alike-begin, alike-end, entry-step, entry-lacks}
+use Rattle.hg_dump.proofs.strip.strip_group.Goals as goal
+
+pub loop-reference-init : goal.loop-reference-init
+loop-reference-init c = λ rs are.
+    let known = c.args.store.now in
+    let group = group_value c.args.group in
+    alike-begin c.args.bytes.now (chunks_over (base_size known group rs) rs) (chunks_over c.first_base_len-base_len.result rs)
+    (ap (λ (n : ℕ). chunks_over n rs) (sym (c.first_base_len-base_len.ensures rs are)))
+
+pub strip_entry-requires : goal.strip_entry-requires
+strip_entry-requires c =
+    let i = c.loop-reference.reference-index in
+    let r = c.reference-item.result in
+    let o = of-at c.args.store.now (group_value c.args.group) c.args.references.now c.requires.0 c.requires.1 i r (at-place c.args.references.now i r c.loop-reference-test.true c.reference-item.is) in
+    (o.revision, o.is_of)
+
+pub returns-in_err-behind : goal.returns-in_err-behind
+returns-in_err-behind c = rw c.from_residual.ensures (λ rs are.
+    let known = c.args.store.now in
+    let group = group_value c.args.group in
+    let bytes = c.args.bytes.now in
+    let i = c.loop-reference.reference-index in
+    let r = c.reference-item.result in
+    let o = of-at known group c.args.references.now rs are i r (at-place c.args.references.now i r c.loop-reference-test.true c.reference-item.is) in
+    let chunks = chunks_over (base_size known group rs) rs in
+    subst (λ (f : Bytes). LacksFront bytes f) (group-spelled known group rs)
+    (lacks-first bytes chunks (chunk_text [])
+    (entry-lacks bytes chunks c.loop-reference.rest.now c.loop-reference.base_len i rs o.revision o.at_place (c.loop-reference.invariant rs are) (c.in_err-behind.ensures o.revision o.is_of))))
+
+pub loop-reference-preserved : goal.loop-reference-preserved
+loop-reference-preserved c = λ rs are.
+    let known = c.args.store.now in
+    let group = group_value c.args.group in
+    let i = c.loop-reference.reference-index in
+    let r = c.reference-item.result in
+    let o = of-at known group c.args.references.now rs are i r (at-place c.args.references.now i r c.loop-reference-test.true c.reference-item.is) in
+    let put = c.in_ok-behind.ensures o.revision o.is_of in
+    entry-step c.args.bytes.now (chunks_over (base_size known group rs) rs) c.loop-reference.rest.now c.in_ok-behind.behind.now c.loop-reference.base_len c.in_ok-behind.text_len i rs o.revision o.at_place
+    (c.loop-reference.invariant rs are) put.0 put.1
+
+pub returns : goal.returns
+returns c = λ rs are.
+    let known = c.args.store.now in
+    let group = group_value c.args.group in
+    let bytes = c.args.bytes.now in
+    let i = c.loop-reference.reference-index in
+    let rest = c.loop-reference.rest.now in
+    let chunks = chunks_over (base_size known group rs) rs in
+    let end : length rs ≤ i = omega (arith, of-length known group c.args.references.now rs are) in
+    let left = subst (λ (l : List Revision). GoOnAlike bytes chunks rest (chunks_over c.loop-reference.base_len l)) (drop_all i rs end) (c.loop-reference.invariant rs are) in
+    subst (λ (f : Bytes). IsBehind bytes f c.strip_empty.result) (group-spelled known group rs)
+    (behind-both bytes chunks (chunk_text []) rest c.strip_empty.result (alike-end bytes chunks rest left) c.strip_empty.ensures)

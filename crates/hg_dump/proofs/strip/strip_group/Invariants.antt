@@ -1,0 +1,10 @@
+use Rattle.std.proofs.Common.{List, drop}
+use Rattle.hg_model.specs.Revision.{Revision}
+use Rattle.hg_store.specs.Groups.{group_value}
+use Rattle.hg_dump.specs.Begins.{GoOnAlike}
+use Rattle.hg_dump.specs.Written.{AreOf, base_size, chunks_over}
+use Rattle.hg_dump.proofs.strip.strip_group.Given as goal
+
+abbrev pub invariant-loop-reference : goal.invariant-loop-reference
+invariant-loop-reference l = (rs : List Revision) → AreOf l.store (group_value l.group) l.references rs
+    → GoOnAlike l.initial.rest (chunks_over (base_size l.store (group_value l.group) rs) rs) l.rest (chunks_over l.base_len (drop l.reference-index rs))

@@ -1,0 +1,12 @@
+pub mod PathLemmas
+pub mod RowLemmas
+pub mod RowsLemmas
+pub mod DraftLemmas
+pub mod HistoryLemmas
+pub mod NextLemmas
+pub mod BehindLemmas
+pub mod SmallLemmas
+pub mod ParentLemmas
+pub mod NewRowLemmas
+pub mod FieldLemmas
+pub mod PartLemmas

@@ -1,0 +1,9 @@
+use Rattle.std.proofs.Common.{◌≡◌, ◌↔◌, Bool, None, IsTrue, sym, subst}
+use Rattle.git_model.specs.Unfold.{walk_fault}
+use Rattle.tree_sum.proofs.Keeping.{whole-answer}
+use Rattle.tree_sum.proofs.sums.Sums.walks.Goals as goal
+
+pub returns-clause-ok : goal.returns-clause-ok
+returns-clause-ok c =
+    subst (λ (b : Bool). IsTrue b ↔ (walk_fault c.args.store.now c.args.root.now ≡ None)) (sym c.is_some.ensures)
+    (whole-answer c.args.store.now c.args.root.now c.in_ok-sum.sum c.check.ensures.are c.in_ok-sum.ensures.ok)

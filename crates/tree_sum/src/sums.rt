@@ -1,0 +1,116 @@
+ghost use Rattle.std.specs.Prelude.{◌≡◌, ◌↔◌, ◌≤◌, [], None, IfOk, IfSome, OnOk, IsTrue, bytes_eq};
+ghost use Rattle.std.specs.Map.{lookup};
+ghost use Rattle.git_model.specs.Unfold.{walk_fault};
+ghost use Rattle.text_model.specs.Id as model;
+ghost use Rattle.tree_sum.specs.Sums.{AreSums, IsSum, IsAnswer, is_summed};
+
+use crate::entry::with_file;
+use crate::sum::Sum;
+use bridge_text::{COMPONENT_LIMIT, Id, NoMemory};
+use git_object::Objects;
+use git_store::GitStore;
+use indexmap::IndexMap;
+use std::alloc::Global;
+use std::marker::Model;
+
+/// How many rows stand below each tree, their sizes, the longest path and the most components. Contracts see which trees
+/// are summed.
+#[derive(Drop)]
+pub struct Sums {
+    known: IndexMap<Id, Sum>,
+}
+
+impl Model for Sums {
+    ghost use Rattle.std.specs.Prelude.{List};
+    ghost use Rattle.text_model.specs.Id.{Id};
+    ghost use Rattle.tree_sum.specs.declared.sum.Sum.{Sum};
+
+    ghost Value = { List (Id × Sum) };
+
+    ghost view = { λ s. s.known.entries };
+}
+
+impl Sums {
+    /// No tree is summed.
+    pub fn new(alloc: Global) -> Sums
+        ensures { result ≡ [] }
+    {
+        Sums {
+            known: IndexMap::new(alloc),
+        }
+    }
+
+    /// Whether the walk through a tree passes. A tree through which it does is looked at once, also where thousands of
+    /// commits have it; one that is refused is not kept.
+    pub fn walks(&mut self, store: &GitStore, root: &Id) -> Result<bool, NoMemory>
+        requires sums { AreSums store.now self.old }
+        ensures ok { IfOk result (λ passes. IsTrue passes ↔ (walk_fault store.now root.now ≡ None)) }
+        ensures sums { AreSums store.now self.new }
+        ensures summed { IfOk result (λ passes. IsTrue passes → IsTrue (is_summed self.new root.now)) }
+        ensures stays { (id : model.Id) → IsTrue (is_summed self.old id) → IsTrue (is_summed self.new id) }
+    {
+        store.check();
+        let sum = self.sum_at(store, root, COMPONENT_LIMIT)?;
+        Ok(sum.is_some())
+    }
+
+    /// The sum of a tree that was looked at.
+    fn get(&self, id: &Id) -> Option<Sum>
+        ensures { result ≡ lookup (bytes_eq id.now) self.now }
+    {
+        self.known.get(id).copied()
+    }
+
+    /// Keeps the sum of a tree.
+    fn put(&mut self, _store: &GitStore, id: &Id, sum: &Sum) -> Result<(), NoMemory>
+        requires sums { AreSums _store.now self.old }
+        requires sum { IsSum _store.now id.now sum.now }
+        ensures sums { AreSums _store.now self.new }
+        ensures summed { OnOk result (IsTrue (is_summed self.new id.now)) }
+        ensures stays { (x : model.Id) → IsTrue (is_summed self.old x) → IsTrue (is_summed self.new x) }
+    {
+        self.known.insert(*id, *sum)?;
+        Ok(())
+    }
+
+    /// The sum of a tree, below which so many levels of names may stand; `None` exactly where the walk through it doesn't
+    /// pass so.
+    fn sum_at(&mut self, store: &GitStore, id: &Id, levels: usize) -> Result<Option<Sum>, NoMemory>
+        requires sums { AreSums store.now self.old }
+        requires levels { levels ≤ 256 }
+        ensures ok { IfOk result (IsAnswer store.now levels id.now) }
+        ensures sums { AreSums store.now self.new }
+        ensures summed { IfOk result (λ sum. IfSome sum (λ _. IsTrue (is_summed self.new id.now))) }
+        ensures stays { (x : model.Id) → IsTrue (is_summed self.old x) → IsTrue (is_summed self.new x) }
+    {
+        store.check();
+        if let Some(sum) = self.get(id) {
+            return Ok(sum.up_to(levels));
+        }
+        let Some(tree) = store.tree(id) else {
+            return Ok(None);
+        };
+        let mut sum = Sum::nothing();
+        'entries: for entry in tree.entries() {
+            if levels == 0 {
+                return Ok(None);
+            }
+            if entry.mode().is_directory() {
+                let Some(below) = self.sum_at(store, entry.id(), levels - 1)? else {
+                    return Ok(None);
+                };
+                let Some(more) = sum.with_entry(entry.name().len(), &below, levels) else {
+                    return Ok(None);
+                };
+                sum = more;
+            } else {
+                let Some(more) = with_file(&sum, store, entry, levels) else {
+                    return Ok(None);
+                };
+                sum = more;
+            }
+        }
+        self.put(store, id, &sum)?;
+        Ok(Some(sum))
+    }
+}
