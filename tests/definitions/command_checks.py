@@ -1,7 +1,9 @@
 """The commands by their words, what they come to, and what is printed of a run."""
 from antt.values import Con
-from checks import NULL, ONE, just, refusal
+from checks import NULL, ONE, just, record, refusal
 from formats import git, hg
+from state_checks import block_of, tag_object
+from view_checks import One
 
 ZEROS = b'0' * 40
 
@@ -13,7 +15,7 @@ def written(output):
 
 def check(checks):
     listing = just(Con('ListHg'))
-    checks.table('saved_model.Command.command_of', [
+    checks.table('command_model.Command.command_of', [
         ('no words list a bundle', ([],), listing),
         ('the word of the listing', ([b'list-hg'],), listing),
         ('the check of a bundle', ([b'check-hg'],), just(Con('CheckHg'))),
@@ -24,11 +26,23 @@ def check(checks):
         ('the dump of the bundle', ([b'dump-hg'],), just(Con('DumpHg'))),
         ('the dump of the stream', ([b'dump-git'],), just(Con('DumpGit'))),
         ('the map', ([b'map'],), just(Con('Map'))),
+        ('names that Mercurial sets', ([b'set-names-hg'],), just(Con('SetNamesHg'))),
+        ('names that Git sets', ([b'set-names-git'],), just(Con('SetNamesGit'))),
+        ('the names for Mercurial', ([b'names-hg'],), just(Con('NamesHg'))),
+        ('the names for Git', ([b'names-git'],), just(Con('NamesGit'))),
         ('an unknown word', ([b'frob'],), None),
         ('an option', ([b'--help'],), None),
         ('a word in capitals', ([b'LIST-HG'],), None),
         ('an empty word', ([b''],), None),
         ('a word too many', ([b'list-hg', b'list-hg'],), None),
+    ])
+    checks.table('command_model.Command.reads_input', [
+        ('names that are set are read', (Con('SetNamesHg'),), True),
+        ('names that are written are not', (Con('NamesGit'),), False),
+    ])
+    checks.table('command_model.Command.reads_slot', [
+        ('names are set in what is saved', (Con('SetNamesGit'),), True),
+        ('names are written of what is saved', (Con('NamesHg'),), True),
     ])
     entry = hg.entry(ONE, bytes(20), bytes(20), ONE, b'')
     line = b'changeset ' + b'1' * 40 + b' ' + ZEROS + b' ' + ZEROS + b' ' + b'1' * 40 + b' 0\n'
@@ -38,7 +52,8 @@ def check(checks):
         ('an empty input is refused', (Con('ListHg'), b''), Con('Refused', (refusal('Truncated', 0),))),
     ])
     check_counts(checks)
-    checks.table('saved_model.Run.report_line', [
+    check_names(checks)
+    checks.table('command_model.Run.report_line', [
         ('nothing is said where the work was done', (Con('Done'),), b''),
         ('a refusal', (Con('IsRefused', (refusal('Trailing', 18),)),), b'refused Trailing ' + ZEROS + b' 18\n'),
         ('a refusal with an id', (Con('IsRefused', (refusal('NodeWrong', 6, ONE),)),), b'refused NodeWrong ' + b'1' * 40 + b' 6\n'),
@@ -62,10 +77,10 @@ def check_outcomes(checks, rows):
 def outcome(value, command, data):
     if command == 'ListHg':
         lines = value('hg_model.Bundle.listing', value('hg_model.Bundle.bundle_framing', data)['items'])
-        return value('saved_model.Command.written_unless', value('hg_model.Bundle.listing_fault', data), lines)
+        return value('command_model.Command.written_unless', value('hg_model.Bundle.listing_fault', data), lines)
     reading, counts = {
-        'CheckHg': ('hg_model.Reading.bundle_reading', 'saved_model.Command.revision_counts'),
-        'CheckGit': ('git_model.Stream.stream_reading', 'saved_model.Command.object_counts'),
+        'CheckHg': ('hg_model.Reading.bundle_reading', 'saved_model.Written.revision_counts'),
+        'CheckGit': ('git_model.Stream.stream_reading', 'saved_model.Written.object_counts'),
     }[command]
     read = value(reading, [], data)
     return written(value(counts, read.args[0])) if read.name == 'Ok' else Con('Refused', read.args)
@@ -88,3 +103,49 @@ def check_counts(checks):
          written(b'commits 0\ntrees 1\nblobs 2\ntags 0\n')),
         ('a missing object is refused', (Con('CheckGit'), blob + b'x missing\n'), Con('Refused', (refusal('Missing', len(blob)),))),
     ])
+
+
+def check_names(checks):
+    """Names that are set in a state of a block and a tag, and the texts of those that are saved."""
+    block = block_of(checks)
+    commit, node = bytes(checks.value('pair_model.Block.id_of', block)), One.node
+    tag, _ = tag_object(commit.hex().encode(), b'commit')
+    main, v1 = record(id=commit, name=b'refs/heads/main'), record(id=tag['id'], name=b'refs/tags/v1')
+    refs = commit.hex().encode() + b' refs/heads/main\n' + bytes(tag['id']).hex().encode() + b' refs/tags/v1\n'
+    names = b'bookmark ' + node.hex().encode() + b' main\nannotated ' + bytes(tag['id']).hex().encode() + b' v1\n'
+
+    def state(*rows):
+        return record(blocks=[block], tags=[tag], names=list(rows))
+
+    old = state(record(id=commit, name=b'refs/notes/old'))
+    check_readings(checks, old, [
+        ('names are set in place of all others', 'hg', names, saved(state(main, v1))),
+        ('refs are set in place of all others', 'git', refs, saved(state(main, v1))),
+        ('refs in another order', 'git', b''.join(sorted(refs.splitlines(True), reverse=True)), saved(state(main, v1))),
+        ('no names leave none', 'hg', b'', saved(state())),
+        ('no refs leave none', 'git', b'', saved(state())),
+        ('a ref twice', 'git', refs + refs[:57], Con('Refused', (refusal('NameTwice', 3),))),
+        ('a ref that is not fit', 'git', commit.hex().encode() + b' refs/heads/a..b\n', Con('Refused', (refusal('RefUnfit', 1),))),
+        ('a branch as any other ref', 'hg', b'ref ' + commit.hex().encode() + b' refs/heads/main\n', Con('Refused', (refusal('NameShape', 1),))),
+        ('a changeset as a kept tag', 'hg', b'annotated ' + node.hex().encode() + b' v1\n', Con('Refused', (refusal('TagUnknown', 1),))),
+        ('a last line without its end', 'hg', names[:-1], Con('Refused', (refusal('NameShape', 2),))),
+    ])
+    checks.table('command_model.Names.hg_names_text', [
+        ('the saved names for Mercurial', (state(main, v1),), names),
+        ('a note for Mercurial', (old,), b'ref ' + commit.hex().encode() + b' refs/notes/old\n'),
+        ('no names for Mercurial', (state(),), b''),
+    ])
+    checks.table('command_model.Names.git_names_text', [
+        ('the saved names for Git', (state(main, v1),), refs),
+        ('no names for Git', (state(),), b''),
+    ])
+
+
+def saved(state):
+    """No output, and a state that is saved."""
+    return Con('Written', (b'', just(state)))
+
+
+def check_readings(checks, state, rows):
+    for name, side, text, wanted in rows:
+        checks.compare(name, wanted, lambda: checks.value('command_model.Command.named_by', state, checks.value(f'command_model.Names.{side}_names', state, text)))

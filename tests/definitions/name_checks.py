@@ -37,12 +37,12 @@ def check(checks):
 
 def check_refs(checks):
     longest = b'refs/heads/' + b'x' * 4085
-    checks.table('name_model.Ref.is_fit_ref', [
+    checks.table('state_model.Ref.is_fit_ref', [
         (f'the ref {name[:40]!r}', (name,), True) for name in (
             b'refs/heads/main', b'refs/x', b'refs/heads', b'refs/heads/a/b', b'refs/heads/a.b', b'refs/heads/x.locked', b'refs/heads/@', b'refs/heads/x@y',
             b'refs/heads/a{b', b'refs/heads/\xc3\xa9', b'refs/heads/!', b'refs/heads/-x', b'refs/heads/a.lock.b', longest)
     ])
-    checks.table('name_model.Ref.is_fit_ref', [
+    checks.table('state_model.Ref.is_fit_ref', [
         (f'no fit ref {name[:40]!r}', (name,), False) for name in (
             b'', b'refs', b'refs/', b'HEAD', b'heads/main', b'Refs/heads/x', b'refs/heads/', b'refs/heads//x', b'refs//x', b'refs/heads/.x', b'refs/.x/y',
             b'refs/heads/x.lock', b'refs/x.lock/y', b'refs/heads/.lock', b'refs/heads/x.', b'refs/heads/a..b', b'refs/heads/x@{y', b'refs/heads/x y',
@@ -122,8 +122,8 @@ def check_refs_texts(checks):
         ('a ref of nothing', (known, digits(NULL) + b' refs/heads/x\n'), refused('TargetUnknown', 1)),
         ('a ref of a changeset', (known, digits(OTHER) + b' refs/heads/x\n'), refused('TargetUnknown', 1)),
     ])
-    checks.equal('the limit of names', 100000, 'name_model.Limits.name_limit')
-    checks.equal('the limit of the bytes of a ref', 4096, 'name_model.Limits.ref_limit')
+    checks.equal('the limit of names', 100000, 'state_model.Limits.name_limit')
+    checks.equal('the limit of the bytes of a ref', 4096, 'state_model.Limits.ref_limit')
 
 
 def check_names_texts(checks):

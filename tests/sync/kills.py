@@ -1,4 +1,7 @@
-"""Syncs that are killed at random moments: the next run ends with what an unkilled one gives."""
+"""Syncs that are killed at random moments: the next run ends with what an unkilled one gives.
+
+SYNC_KILLS in the environment says how many, and SYNC_KILLS_FROM at which part of a run they begin: 0.67 kills in its last third, where refs are set.
+"""
 import os
 import random
 import shutil
@@ -11,6 +14,7 @@ from both import disagreements, git_refs, hg_names, hg_nodes, hg_phases, pairs, 
 from makers import GitMaker, HgMaker
 
 KILLS = int(os.environ.get('SYNC_KILLS', '100'))
+FROM = float(os.environ.get('SYNC_KILLS_FROM', '0'))
 STEPS = 12
 MASTER, RUN = 'master', 'run'  # each run is at one path, which the last sync knows
 
@@ -44,18 +48,14 @@ def make_both(place, first):
 
 def check_kills(report, name, place):
     copy = os.path.join(place, RUN)
-    copy_master(place)
-    start = time.monotonic()
-    sync(os.path.join(copy, 'hg'), os.path.join(copy, 'git'))
-    seconds = time.monotonic() - start
-    shutil.rmtree(copy)
+    seconds = min(seconds_of(place) for _ in range(2))
     copy_master(place)
     wanted = said_of(copy)
     shutil.rmtree(copy)
     numbers = random.Random(name)
     wrong, lost, early = [], [], 0
     for number in range(KILLS // 2):
-        moment = numbers.uniform(0, seconds)
+        moment = numbers.uniform(FROM * seconds, seconds)
         copy_master(place)
         early += kill_at(copy, moment)
         lost += [(moment, words) for words in damage(copy)] if number % 10 == 0 else []
@@ -66,6 +66,17 @@ def check_kills(report, name, place):
     report.check(f'{KILLS // 2} syncs {name} are killed: the next one ends as an unkilled one', wrong, [])
     report.check('hg verify and git fsck find nothing wrong', lost, [])
     report.verdict('some were killed before their end', early > KILLS // 8, f'{early} were')
+
+
+def seconds_of(place):
+    """How long a sync takes."""
+    copy = os.path.join(place, RUN)
+    copy_master(place)
+    start = time.monotonic()
+    sync(os.path.join(copy, 'hg'), os.path.join(copy, 'git'))
+    seconds = time.monotonic() - start
+    shutil.rmtree(copy)
+    return seconds
 
 
 def copy_master(place):
