@@ -1,12 +1,14 @@
-"""The folder in a Git repository where a sync keeps the saved state, and runs of the program over it."""
+"""The folder in a Git repository where a sync keeps the saved state, runs of the program over it, and the locks of Git that a killed run leaves."""
 import contextlib
 import fcntl
+import glob
 import os
 import re
 import shutil
 import subprocess
 import sys
 import time
+from urllib.parse import quote_from_bytes, unquote_to_bytes
 
 from repositories import Fault, environment
 
@@ -15,7 +17,11 @@ STATE = 'hggit.state'
 LOCK = 'lock'
 NAMES = 'names'
 WORK = 'work'
-PIECE = 1 << 20
+NOTE = 'locks'
+STILL_SECONDS = 1.0
+NO_ID = '0' * 40
+ANY, IN_TREE = b'any', b'tree:'
+LOCKS_OF_REFS = {name: ANY for name in (b'HEAD.lock', b'packed-refs.lock', b'packed-refs.new', b'reftable/tables.list.lock')}
 REFUSED, BAD_STATE = 1, 6
 FIRST_LINE = b'hg-git-bridge 2\n'
 PAIR_SIZE = 82
@@ -52,6 +58,7 @@ def locked(folder, seconds):
     with open(os.path.join(folder, LOCK), 'wb') as file:
         wait_for(file, folder, seconds)
         clean(folder)
+        release(folder)
         yield file.fileno()
 
 
@@ -71,6 +78,80 @@ def clean(folder):
     """What a run that was killed left of its work is taken away; what counts is the state."""
     shutil.rmtree(os.path.join(folder, WORK), ignore_errors=True)
     os.makedirs(os.path.join(folder, WORK), exist_ok=True)
+
+
+# ---- locks of Git
+
+def locks_of_refs(ids):
+    """The files with which Git may lock a repository while it sets refs to these ids, each with the id that is written into it, if that is known."""
+    return {**LOCKS_OF_REFS, **{ref + b'.lock': (id or NO_ID).encode() for ref, id in ids.items()}}
+
+
+def lock_of_file(path, kind=ANY):
+    """Git has the lock of its settings, and of an index, beside the file to which a link leads."""
+    return {os.fsencode(os.path.realpath(path)) + b'.lock': kind}
+
+
+def lock_of_index(path, place):
+    return lock_of_file(path, IN_TREE + quote_from_bytes(os.fsencode(os.path.realpath(place))).encode())
+
+
+@contextlib.contextmanager
+def noted(slot, locks):
+    """As long as this lasts, a note says what Git may lock for this run. It stays where a signal ends the run, since that may have killed Git."""
+    with open(slot.path(NOTE), 'wb') as file:
+        file.write(b''.join(b'%s %s\n' % (kind, path) for path, kind in locks.items()))
+    try:
+        yield
+    except Exception:
+        os.remove(slot.path(NOTE))
+        raise
+    os.remove(slot.path(NOTE))
+
+
+def release(folder):
+    """Takes away the locks that a killed run left: those of its note that are no older than it and that stay as they are for a second. That of a work
+    tree in which Git is at work stays, with the note."""
+    note = os.path.join(folder, NOTE)
+    if not os.path.exists(note):
+        return
+    with open(note, 'rb') as file:
+        since, rows = os.fstat(file.fileno()).st_mtime_ns, [line[:-1].split(b' ', 1) for line in file if line.endswith(b'\n')]
+    locks = [(os.path.join(os.fsencode(os.path.dirname(folder)), path), kind) for kind, path in rows]
+    found = {lock: look_at(*lock, since) for lock in locks if look_at(*lock, since)}
+    if found:
+        time.sleep(STILL_SECONDS)
+    busy = {lock for lock in found if is_busy(lock[1])}
+    for lock, look in found.items():
+        if lock not in busy and look_at(*lock, since) == look:
+            os.remove(lock[0])
+    if not busy:
+        os.remove(note)
+
+
+def look_at(path, kind, since):
+    """What tells a lock from every other one; None of one that is older than the note, or has what the killed run doesn't write."""
+    try:
+        with open(path, 'rb') as file:
+            found, content = os.fstat(file.fileno()), file.read(len(NO_ID) + 1)
+    except (FileNotFoundError, NotADirectoryError):
+        return None
+    wanted = b'' if kind == NO_ID.encode() else kind + b'\n'
+    if found.st_mtime_ns < since or len(kind) == len(NO_ID) and not wanted.startswith(content):
+        return None
+    return found.st_dev, found.st_ino, found.st_size, found.st_mtime_ns, found.st_ctime_ns
+
+
+def is_busy(kind):
+    """A program of Git runs in the work tree to whose index a lock belongs, as far as the system tells."""
+    if not kind.startswith(IN_TREE):
+        return False
+    place = os.fsdecode(unquote_to_bytes(kind[len(IN_TREE):]))
+    for process in glob.glob('/proc/[0-9]*'):
+        with contextlib.suppress(OSError), open(os.path.join(process, 'comm'), 'rb') as name:
+            if name.read(3) == b'git' and os.path.join(os.readlink(os.path.join(process, 'cwd')), '').startswith(os.path.join(place, '')):
+                return True
+    return False
 
 
 class Slot:

@@ -7,7 +7,7 @@ import sync_objects
 import sync_setting
 from progress import Progress, counted, name_of
 from repositories import NULL, Fault, git, git_holds, nodes_of, nodes_there
-from slot import NAMES, Refused
+from slot import NAMES, WORK, Refused
 from sync_names import HEADS, KEPT, TAGS, can_be_hg_name, collisions, merged, names_text, read_hg, refs_of_names, refs_of_text, unfit_names
 
 LEFT = b'left '
@@ -137,10 +137,10 @@ def set_names(mercurial, folder, slot, pairs, seen, ways, progress, dry):
     ids = ids_of_changes(plan, seen.base)
     count_git = len(plan.for_git)
     why = names_to_git(mercurial, folder, slot, pairs, seen, plan, ids, ways)
-    count_side = side_names(mercurial, folder, pairs) if ways[0] else 0
+    count_side = side_names(mercurial, folder, slot, pairs) if ways[0] else 0
     write_base(slot, mercurial.path, agreed_after(plan, seen.base, {**failed, **why}), plan.both_moved, folder)
     if ways[0]:
-        sync_setting.point_head(folder)
+        sync_setting.point_head(folder, slot)
     say_names(progress, count_git - len(why), count_hg, count_side)
     say_left(progress, plan, {**failed, **why}, kept)
     return count_git + count_hg + count_side - len(why), bool(plan.both_moved or failed or why)
@@ -272,10 +272,10 @@ def names_to_git(mercurial, folder, slot, pairs, seen, plan, ids, ways):
     tags = [id for ref, id in ids.items() if id and id != plan.for_git[ref][1]]
     if tags:
         sync_objects.restore_git(folder, slot, [], tags)
-    sync_setting.set_refs(folder, old_places(mercurial, folder, pairs, plan))
+    sync_setting.set_refs(folder, slot, old_places(mercurial, folder, pairs, plan))
     changes = {ref: (change[0], ids[ref]) for ref, change in plan.for_git.items()}
     stands = {ref: value.id for ref, value in seen.refs.items()}
-    return sync_setting.set_git(folder, changes, slot.path(sync_setting.JOURNAL), stands)
+    return sync_setting.set_git(folder, slot, changes, stands)
 
 
 def old_places(mercurial, folder, pairs, plan):
@@ -289,10 +289,10 @@ def old_places(mercurial, folder, pairs, plan):
     return changes
 
 
-def side_names(mercurial, folder, pairs):
+def side_names(mercurial, folder, slot, pairs):
     refs = sync_objects.read_git(folder)
     changes = sync_setting.side_refs(mercurial, refs, read_hg(mercurial), pairs.commit_of)
-    failed = sync_setting.set_refs(folder, changes)
+    failed = sync_setting.set_refs(folder, slot, changes)
     if failed:
         ref, why = sorted(failed.items())[0]
         raise Fault(f'{name_of(ref)} isn\'t set: {why}')
@@ -349,12 +349,12 @@ def write_base(slot, hg_path, agreed, left, folder):
 
 
 def write_rows(slot, rows):
-    path = slot.path(NAMES)
-    with open(path + '.new', 'wb') as file:
+    path = slot.path(WORK, NAMES)
+    with open(path, 'wb') as file:
         file.write(b''.join(row + b'\n' for row in rows))
         file.flush()
         os.fsync(file.fileno())
-    os.rename(path + '.new', path)
+    os.rename(path, slot.path(NAMES))
 
 
 def agreed_after(plan, base, failed):

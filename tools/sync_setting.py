@@ -3,25 +3,28 @@ import os
 import subprocess
 
 from repositories import EMPTY_TREE, environment, git, git_holds, parts_of, words_of
+from slot import LOCKS_OF_REFS, NO_ID, lock_of_index, locks_of_refs, noted
 from sync_names import HEADS, KEPT, PUBLIC, TAGS, can_be_hg_name
 
-NO_ID = '0' * 40
 JOURNAL = 'checkout'
 FIRST_BRANCHES = (b'main', b'master', b'default')
 
 
 # ---- Git
 
-def set_refs(folder, changes, note='hggit-sync'):
+def set_refs(folder, slot, changes):
     """Sets refs to ids, each with the id that stands there now; no id stands for none. Gives the refs that couldn't be set, with the reason. All are
     set together, or where one can't, each alone."""
-    if not changes or update(folder, changes, note) is None:
+    if not changes:
         return {}
     failed = {}
-    for ref, change in sorted(changes.items(), key=is_set):
-        why = update(folder, {ref: change}, note)
-        if why is not None:
-            failed[ref] = why
+    with noted(slot, locks_of_refs({ref: new for ref, (_, new) in changes.items()})):
+        if update(folder, slot, changes) is None:
+            return {}
+        for ref, change in sorted(changes.items(), key=is_set):
+            why = update(folder, slot, {ref: change})
+            if why is not None:
+                failed[ref] = why
     return failed
 
 
@@ -30,16 +33,17 @@ def is_set(item):
     return item[1][1] is not None
 
 
-def update(folder, changes, note):
-    """None where all were set, else why none was."""
+def update(folder, slot, changes):
+    """None where all were set, else why none was. Git holds the slot's lock meanwhile, so that no other run takes its locks away."""
     commands = []
     for ref, (old, new) in sorted(changes.items(), key=is_set):
         if new is None:
             commands.append(b'delete %s\0%s\0' % (ref, old.encode()))
         else:
             commands.append(b'update %s\0%s\0%s\0' % (ref, new.encode(), (old or NO_ID).encode()))
-    words = ['git', '--git-dir', folder, '-c', 'user.name=hggit', '-c', 'user.email=hggit@localhost', 'update-ref', '-m', note, '--no-deref', '--stdin', '-z']
-    run = subprocess.run(words, input=b''.join(commands), stdout=subprocess.PIPE, stderr=subprocess.PIPE, env=environment())
+    words = ['-c', 'user.name=hggit', '-c', 'user.email=hggit@localhost', 'update-ref', '-m', 'hggit-sync', '--no-deref', '--stdin', '-z']
+    run = subprocess.run(['git', '--git-dir', folder, *words], input=b''.join(commands), stdout=subprocess.PIPE, stderr=subprocess.PIPE,
+                         env=environment(), pass_fds=slot.keep)
     return words_of(run.stderr) if run.returncode else None
 
 
@@ -61,17 +65,59 @@ def work_tree_elsewhere(folder):
     return os.path.realpath(os.path.join(folder, os.fsdecode(place))) if place else None
 
 
-def set_checked_out(folder, place, ref, old, new, journal):
+def set_checked_out(folder, slot, place, ref, old, new):
     """Moves a branch that is checked out, and with it the files, where nothing was changed there; says why not. A run that was killed in it is known
     by the journal, and goes on."""
-    line = f'{ref!r} {old} {new}\n'
-    if read_text(journal) != line and is_changed(place, old):
-        return f'it is checked out in {place}, where files were changed'
-    write_text(journal, line)
-    run = work_tree_git(place, 'read-tree', '-m', '-u', old or EMPTY_TREE, new)
-    why = words_of(run.stderr) if run.returncode else update(folder, {ref: (old, new)}, 'hggit-sync')
-    os.remove(journal)
+    journal, line = slot.path(JOURNAL), f'{ref!r} {old} {new}\n'
+    index = os.fsdecode(work_tree_git(place, 'rev-parse', '--git-path', 'index').stdout.rstrip(b'\n'))
+    with noted(slot, {**locks_of_refs({ref: new}), **lock_of_index(os.path.join(place, index), place)}):
+        if read_text(journal) == line:
+            bring_back(place, old or EMPTY_TREE, new)
+        elif is_changed(place, old):
+            return f'it is checked out in {place}, where files were changed'
+        write_text(journal, line)
+        run = work_tree_git(place, 'read-tree', '-m', '-u', old or EMPTY_TREE, new)
+        why = words_of(run.stderr) if run.returncode else update(folder, slot, {ref: (old, new)})
+        os.remove(journal)
     return why
+
+
+def bring_back(place, old, new):
+    """Where a killed run has moved files and not yet the index, gives the files what the index has, so that Git moves them all. Files that are neither as
+    before nor as that run leaves them stay, and Git says so."""
+    if work_tree_git(place, 'diff-index', '--cached', '--quiet', new).returncode == 0:
+        return
+    rows = work_tree_git(place, 'diff-tree', '-r', '-z', '--no-renames', old, new).stdout.split(b'\0')[:-1]
+    back = []
+    for row, path in zip(rows[::2], rows[1::2]):
+        old_id, new_id = row.decode().split(' ')[2:4]
+        text = file_text(place, path)
+        if text is not None and (new_id == NO_ID or not work_tree_git(place, 'cat-file', '--filters', '--path', path, new_id).stdout.startswith(text)):
+            continue
+        if old_id != NO_ID:
+            back.append(path)
+        elif text is not None:
+            os.remove(os.path.join(os.fsencode(place), path))
+    work_tree_git(place, 'checkout-index', '--force', '--index', '-z', '--stdin', data=b''.join(path + b'\0' for path in back if is_free(place, path)))
+
+
+def file_text(place, path):
+    """What a file of a work tree has, or to what a link leads; None where neither is there, or behind another link."""
+    path = os.path.join(os.path.realpath(os.fsencode(place)), path)
+    if os.path.realpath(os.path.dirname(path)) != os.path.dirname(path) or not os.path.lexists(path):
+        return None
+    if os.path.islink(path):
+        return os.readlink(path)
+    if not os.path.isfile(path):
+        return None
+    with open(path, 'rb') as file:
+        return file.read()
+
+
+def is_free(place, path):
+    """No folder with something in it stands where a file shall."""
+    path = os.path.join(os.fsencode(place), path)
+    return os.path.islink(path) or not os.path.isdir(path) or not os.listdir(path)
 
 
 def is_changed(place, old):
@@ -80,34 +126,35 @@ def is_changed(place, old):
     return bool(work_tree_git(place, 'status', '--porcelain', '--untracked-files=no').stdout)
 
 
-def work_tree_git(place, *words):
-    return subprocess.run(['git', '-C', place, *words], stdout=subprocess.PIPE, stderr=subprocess.PIPE, stdin=subprocess.DEVNULL, env=environment())
+def work_tree_git(place, *words, data=b''):
+    return subprocess.run(['git', '-C', place, *words], stdout=subprocess.PIPE, stderr=subprocess.PIPE, input=data, env=environment())
 
 
-def set_git(folder, changes, journal, seen):
+def set_git(folder, slot, changes, seen):
     """Sets branches and tags to ids where `seen` says what stands there; gives what couldn't be set, with the reason."""
     trees = work_trees(folder)
     apart = {ref: change for ref, change in changes.items() if ref in trees and ref.startswith(HEADS)}
-    failed = set_refs(folder, {ref: (seen.get(ref), new) for ref, (_, new) in changes.items() if ref not in apart})
+    failed = set_refs(folder, slot, {ref: (seen.get(ref), new) for ref, (_, new) in changes.items() if ref not in apart})
     for ref, (_, new) in apart.items():
         place = trees[ref]
         if new is None or place is None:
             failed[ref] = f'it is checked out in {place or "a folder that Git does not name"}'
             continue
-        why = set_checked_out(folder, place, ref, seen.get(ref), new, journal)
+        why = set_checked_out(folder, slot, place, ref, seen.get(ref), new)
         if why is not None:
             failed[ref] = why
     return failed
 
 
-def point_head(folder):
+def point_head(folder, slot):
     """HEAD of a bare repository names a branch that is there."""
     if git(folder, 'rev-parse', '--is-bare-repository').strip() != b'true' or git_holds(folder, 'rev-parse', '--verify', '--quiet', 'HEAD'):
         return
     heads = [line[len(HEADS):] for line in git(folder, 'for-each-ref', '--format', '%(refname)', 'refs/heads/').splitlines()]
     if heads:
         wanted = [name for name in FIRST_BRANCHES if name in heads]
-        git(folder, 'symbolic-ref', 'HEAD', os.fsdecode(HEADS + (wanted + heads)[0]))
+        with noted(slot, LOCKS_OF_REFS):
+            git(folder, 'symbolic-ref', 'HEAD', os.fsdecode(HEADS + (wanted + heads)[0]))
 
 
 def read_text(path):
