@@ -1,11 +1,27 @@
-"""What a run says: lines for its stages, and on a terminal a bar while a stage is at work."""
+"""What a run says: lines for its stages, on a terminal a bar while a stage is at work, names that are left, and faults."""
 import contextlib
 import sys
 import threading
 import time
 
+from slot import Refused
+
 WIDTH = 24
 STEP_SECONDS = 0.2
+
+WHY = {
+    'PathUnfit': 'a path that one of the two tools can\'t have',
+    'PathClash': 'a path lies below that of a file',
+    'StateLimit': 'the history passes a limit of the saved state',
+    'InputLimit': 'the new history is over the limit of one pull',
+    'Limit': 'a text is over its limit',
+    'PairLimit': 'what the other side would get is over its limit',
+    'ModeOut': 'a tree with a mode that Mercurial and this program don\'t know',
+    'NameUnfit': 'a tree with a name that one of the two tools can\'t have',
+    'DanglingLink': 'a link of a merge of many parents whose changeset isn\'t there',
+    'ObjectUnknown': 'an object to which another refers isn\'t there',
+    'NestLimit': 'a member that was carried back and forth too often by another slot',
+}
 
 
 class Progress:
@@ -73,3 +89,37 @@ def name_of(ref):
 
 def counted(number, word, words=None):
     return f'{number} {word if number == 1 else words or word + "s"}'
+
+
+def say_plan(plan, progress):
+    for side, changes in (('Git', plan.for_git), ('Mercurial', plan.for_hg)):
+        for ref, (old, new) in changes.items():
+            progress.line(f'{name_of(ref)} would be {"set" if new and not old else "moved" if new else "taken away"} in {side}')
+    say_left(progress, plan, {}, [])
+
+
+def say_names(progress, in_git, in_hg, aside):
+    said = [f'{number} in {side}' for number, side in ((in_git, 'Git'), (in_hg, 'Mercurial')) if number > 0]
+    if said:
+        progress.line('names set: ' + ', '.join(said))
+    if aside:
+        progress.line(f'heads without a name and phases: {counted(aside, "ref")} of Git')
+
+
+def say_left(progress, plan, failed, kept):
+    for ref in plan.both_moved:
+        progress.fault(f'{name_of(ref)} was moved on both sides and is left as it is on each')
+    for ref, why in failed.items():
+        progress.fault(f'{name_of(ref)} is left: {why}')
+    for ref in kept:
+        progress.line(f'{name_of(ref)} is set again: Mercurial keeps a named branch, and a tag of .hgtags')
+
+
+def in_words(fault):
+    """A fault; a refusal of the program with what it means."""
+    if not isinstance(fault, Refused):
+        return str(fault)
+    words = str(fault).split(' ')
+    name, id = (words + ['', '', ''])[1:3]
+    why = WHY.get(name, 'see docs/faults.md')
+    return f'hggit refused {name}: {why} (the changeset, revision or object {id}); no name was changed'

@@ -1,13 +1,17 @@
 """Calls of the real hg and the real git, and what they say of a repository that a sync asks about."""
+import contextlib
+import fcntl
 import os
 import re
 import shutil
 import struct
 import subprocess
 import tempfile
+import threading
 
 NULL = '0' * 40
 EMPTY_TREE = '4b825dc642cb6eb9a060e54bf8d69288fbee4904'
+PIECE = 1 << 20
 LEAST_HG = (5, 0)
 LEAST_GIT = (2, 28)
 HG_SETTINGS = ['--config', 'ui.interactive=no', '--config', 'phases.new-commit=draft', '--config', 'ui.quiet=no']
@@ -66,14 +70,17 @@ def words_of(text):
 
 class Mercurial:
     """A Mercurial repository, asked by way of one command server, so that hg starts once. It works in the repository's folder, since hg takes a path with a
-    `#` for another one."""
+    `#` for another one. What is written into the sink hg can read as the file `fed`."""
 
     def __init__(self, path):
         self.path = path
         words = ['hg', '-R', '.', *HG_SETTINGS, 'serve', '--cmdserver', 'pipe']
         self.errors = tempfile.TemporaryFile()
+        self.source, self.sink = (os.fdopen(end, mode, PIECE) for end, mode in zip(os.pipe(), ('rb', 'wb')))
+        with contextlib.suppress(AttributeError, OSError):
+            fcntl.fcntl(self.sink, fcntl.F_SETPIPE_SZ, PIECE)
         self.server = subprocess.Popen(words, stdin=subprocess.PIPE, stdout=subprocess.PIPE, stderr=self.errors, cwd=path,
-                                       env=environment())
+                                       env=environment(), pass_fds=(self.source.fileno(),))
         channel, _ = self.read_piece()
         if channel != b'o':
             self.server.kill()
@@ -92,8 +99,9 @@ class Mercurial:
     def answer(self, *words):
         """The status, output and errors of a command."""
         data = b'\0'.join(word if isinstance(word, bytes) else os.fsencode(word) for word in words)
-        self.server.stdin.write(b'runcommand\n' + struct.pack('>I', len(data)) + data)
-        self.server.stdin.flush()
+        with contextlib.suppress(BrokenPipeError):
+            self.server.stdin.write(b'runcommand\n' + struct.pack('>I', len(data)) + data)
+            self.server.stdin.flush()
         said = {b'o': [], b'e': [], b'd': []}
         while True:
             channel, piece = self.read_piece()
@@ -105,7 +113,7 @@ class Mercurial:
             elif channel in said:
                 said[channel].append(piece)
             else:
-                raise Fault(f'hg {words[0]} ended before its answer')
+                raise Fault(f'hg {os.fsdecode(words[0])} ended before its answer')
 
     def output(self, *words):
         status, output, errors = self.answer(*words)
@@ -116,9 +124,16 @@ class Mercurial:
     def lines(self, *words):
         return self.output(*words).split(b'\n')[:-1]
 
+    @property
+    def fed(self):
+        return f'/dev/fd/{self.source.fileno()}'
+
     def close(self):
-        self.server.stdin.close()
+        with contextlib.suppress(BrokenPipeError):
+            self.server.stdin.close()
         self.server.wait()
+        for end in (self.sink, self.source, self.errors):
+            end.close()
 
 
 def is_hg_repository(path):
@@ -136,6 +151,37 @@ def open_mercurial(path, recovers=True):
     if recovers and os.path.exists(os.path.join(path, '.hg', 'store', 'journal')):
         mercurial.answer('recover')
     return mercurial
+
+
+class Opening(threading.Thread):
+    """Opens a repository, or makes it first, while something else is done."""
+
+    def __init__(self, path, progress, makes, recovers):
+        super().__init__(daemon=True)
+        self.path, self.progress, self.makes, self.recovers = path, progress, makes, recovers
+        self.mercurial = self.fault = None
+        self.start()
+
+    def run(self):
+        try:
+            if self.makes:
+                make_hg_repository(self.path)
+            self.mercurial = open_mercurial(self.path, self.recovers)
+        except Exception as fault:
+            self.fault = fault
+
+    def result(self):
+        self.join()
+        if self.fault:
+            raise self.fault
+        if self.makes:
+            self.progress.line(f'made the Mercurial repository {self.path}')
+        return self.mercurial
+
+    def close(self):
+        self.join()
+        if self.mercurial:
+            self.mercurial.close()
 
 
 def nodes_of(mercurial, revset):

@@ -5,12 +5,13 @@ import glob
 import os
 import re
 import shutil
+import signal
 import subprocess
 import sys
 import time
 from urllib.parse import quote_from_bytes, unquote_to_bytes
 
-from repositories import Fault, environment
+from repositories import Fault, environment, words_of
 
 SLOT = 'hggit'
 STATE = 'hggit.state'
@@ -168,20 +169,17 @@ class Slot:
     def has_state(self):
         return os.path.exists(self.path(STATE))
 
-    def run(self, word, source, target):
-        """Runs a command of the program from a file, or nothing, to a file."""
+    def start(self, word, source, target, writer=None):
+        """Lets the program do a command from a file, or nothing, to a file. The file can be what a program of Git writes meanwhile."""
         try:
-            run = subprocess.run([self.program, word], stdin=source or subprocess.DEVNULL, stdout=target, stderr=subprocess.PIPE, cwd=self.folder,
-                                 env=environment(), pass_fds=self.keep)
+            process = subprocess.Popen([self.program, word], stdin=source or subprocess.DEVNULL, stdout=target, stderr=subprocess.PIPE, cwd=self.folder,
+                                       env=environment(), pass_fds=self.keep)
         except OSError as error:
             raise Fault(f'{self.program}: {error.strerror}') from None
-        said = run.stderr.decode(errors='replace').strip()
-        if run.returncode == REFUSED:
-            raise Refused(said)
-        if run.returncode == BAD_STATE:
-            raise Fault(f'{self.path(STATE)} holds no state of this program ({said})')
-        if run.returncode:
-            raise Fault(f'hggit {word} ended with status {run.returncode}: {said or "it said nothing"}')
+        return Run(word, process, self.path(STATE), writer)
+
+    def run(self, word, source, target):
+        self.start(word, source, target).finish()
 
     def pull(self, word, source_path, target_path):
         with open(source_path, 'rb') as source, open(target_path, 'wb') as target:
@@ -199,6 +197,31 @@ class Slot:
             return Pairs(pairs_text(self.path(STATE)))
         except ValueError:
             raise Fault(f'{self.path(STATE)} holds no state of this program') from None
+
+
+class Run:
+    """The program at work on a command, and Git, where that writes what it reads."""
+
+    def __init__(self, word, process, state_path, writer):
+        self.word, self.process, self.state_path, self.writer = word, process, state_path, writer
+        self.said = None
+
+    def has_ended(self):
+        return self.process.poll() is not None
+
+    def finish(self):
+        """Waits for the end of both, which must be a good one. Git's is no fault where the program read no more."""
+        if self.said is None:
+            self.said = self.process.communicate()[1].decode(errors='replace').strip()
+        said, status = self.said, self.process.wait()
+        if self.writer and self.writer.wait() not in (0, -signal.SIGPIPE):
+            raise Fault(f'git cat-file: {words_of(self.writer.stderr.read())}')
+        if status == REFUSED:
+            raise Refused(said)
+        if status == BAD_STATE:
+            raise Fault(f'{self.state_path} holds no state of this program ({said})')
+        if status:
+            raise Fault(f'hggit {self.word} ended with status {status}: {said or "it said nothing"}')
 
 
 def pairs_text(path):

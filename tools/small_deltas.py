@@ -6,22 +6,33 @@ import itertools
 import re
 import struct
 
+from repositories import Fault
+
 MAGIC = b'HG10UN'
 HEADER = 80  # a node, its parents and its link node
 HUNK = struct.Struct('>III')
 
 
-def write_small(source, target):
-    """Reads a bundle from a file, and writes it to another."""
+def write_small(source, target, before_end=lambda: None):
+    """Reads a bundle from a file, and writes it to another; something else is done before the last chunk, which ends the bundle, is written."""
     magic = source.read(len(MAGIC))
     if magic != MAGIC:
-        raise ValueError('no bundle HG10UN')
+        raise Fault('the program wrote no bundle HG10UN')
     target.write(magic)
-    copy_group(source, target)
+    copy_changesets(source, target)
     copy_group(source, target)
     while path := read_chunk(source):
         write_chunk(target, path)
         copy_group(source, target)
+    target.flush()
+    before_end()
+    write_chunk(target, b'')
+
+
+def copy_changesets(source, target):
+    """As they are: hg keeps their texts whole."""
+    while entry := read_chunk(source):
+        write_chunk(target, entry)
     write_chunk(target, b'')
 
 
@@ -29,11 +40,11 @@ def copy_group(source, target):
     """The entries of a kind or a path, each over the text before it."""
     before = None
     while entry := read_chunk(source):
-        header, delta = entry[:HEADER], entry[HEADER:]
+        delta = entry[HEADER:]
         text = whole_text(before, delta)
         if text is not None and before is not None:
             delta = difference(before, text)
-        write_chunk(target, header + delta)
+        write_chunk(target, entry[:HEADER] + delta)
         before = text
     write_chunk(target, b'')
 
@@ -62,7 +73,7 @@ def shared_ends(before, text):
     """How many bytes of whole lines both begin with, and how many more both end with."""
     most = min(len(before), len(text))
     front = before.rfind(b'\n', 0, common(before, text, most)) + 1
-    back = common(before[::-1], text[::-1], most - front)
+    back = common_end(before, text, most - front)
     if not (begins_line(before, len(before) - back) and begins_line(text, len(text) - back)):
         back = len(before) - (before.find(b'\n', len(before) - back) + 1 or len(before))
     return front, back
@@ -103,10 +114,29 @@ def common(one, other, most):
     return low
 
 
+def common_end(one, other, most):
+    """How many bytes both end with, at most so many."""
+    low, high = 0, most
+    while low < high:
+        middle = (low + high + 1) // 2
+        if one[len(one) - middle:len(one) - low] == other[len(other) - middle:len(other) - low]:
+            low = middle
+        else:
+            high = middle - 1
+    return low
+
+
 def read_chunk(source):
-    """The payload of a chunk; nothing of an empty one, and at the end."""
-    length = int.from_bytes(source.read(4), 'big')
-    return source.read(length - 4) if length else b''
+    """The payload of a chunk; nothing of an empty one."""
+    length = int.from_bytes(read_whole(source, 4), 'big')
+    return read_whole(source, length - 4) if length else b''
+
+
+def read_whole(source, size):
+    piece = source.read(size)
+    if len(piece) != size:
+        raise Fault('the program wrote a bundle that is cut short')
+    return piece
 
 
 def write_chunk(target, payload):

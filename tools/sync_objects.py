@@ -1,17 +1,23 @@
 """Changesets and commits from one side to the other: what is new there is pulled through the slot and loaded here."""
+import contextlib
 import heapq
 import os
+import select
 import subprocess
 import sys
+import tempfile
+import threading
+import time
 from typing import Dict, NamedTuple, Optional
 from urllib.parse import quote_from_bytes
 
-from repositories import NULL, Fault, environment, git, nodes_of, nodes_there, objects_missing, reaches_whole, words_of
+from repositories import NULL, PIECE, Fault, environment, git, nodes_of, nodes_there, objects_missing, reaches_whole, words_of
 from slot import WORK
 from small_deltas import write_small
 from sync_names import HEADS, KEPT, TAGS, can_be_hg_name
 
 HERE = os.path.dirname(os.path.realpath(__file__))
+PAUSE = 0.005
 
 
 class Ref(NamedTuple):
@@ -21,11 +27,12 @@ class Ref(NamedTuple):
 
 
 class New(NamedTuple):
-    """What one side has that isn't saved: its ids with their parents among them, children first, those that are no parents of others, and the saved
-    parents below them."""
+    """What one side has that isn't saved: its ids with their parents among them, children first, those that are no parents of others, the saved parents
+    below them, and the other objects of commits."""
     ids: dict
     heads: list
     bases: list
+    objects: list = []
 
 
 # ---- what each side has
@@ -67,14 +74,15 @@ def new_changesets(mercurial, heads, pairs) -> New:
 
 
 def new_commits(folder, refs, pairs) -> New:
-    """The commits that branches and tags reach and that aren't saved."""
+    """The commits that branches and tags reach and that aren't saved, and their objects."""
     commits = {ref.commit for name, ref in refs.items() if is_carried(name) and ref.commit}
     known = {commit for commit in commits if commit in pairs.changeset_of}
     if known == commits:
         return New({}, [], [])
     data = ''.join([f'{commit}\n' for commit in sorted(commits - known)] + [f'^{commit}\n' for commit in sorted(known)]).encode()
     lines = git(folder, 'rev-list', '--topo-order', '--parents', '--stdin', data=data).decode().splitlines()
-    return new_of([line.split(' ') for line in lines], pairs.changeset_of)
+    new = new_of([line.split(' ') for line in lines], pairs.changeset_of)
+    return new._replace(objects=[id for id in ids_of(folder, new.heads, new.bases) if id.decode() not in new.ids])
 
 
 def new_of(members, saved) -> New:
@@ -162,17 +170,105 @@ def objects_of(stream):
 def carry_to_hg(mercurial, folder, slot, pairs, refs, new, tags, loads=True):
     """Pulls new commits and annotated tags and unbundles their changesets; gives the pairs after it."""
     if new.ids or tags:
-        stream, bundle = slot.path(WORK, 'new.stream'), slot.path(WORK, 'new.hg')
-        write_stream(folder, refs, new, tags, stream)
-        slot.pull('pull-git', stream, bundle)
-        os.remove(stream)
+        bundle = slot.path(WORK, 'new.hg')
+        with open(bundle, 'wb') as target:
+            pull = start_pull(folder, slot, refs, new, tags, target)
         if new.ids and loads:
-            make_small(slot, bundle)
-            mercurial.output('unbundle', '--', bundle)
+            unbundle(mercurial, slot, pull, bundle)
+        else:
+            pull.finish()
         os.remove(bundle)
     if new.ids:
         pairs = slot.pairs()
     return pairs
+
+
+def start_pull(folder, slot, refs, new, tags, target):
+    """The program pulls what Git writes meanwhile: the new commits in the order in which Mercurial shall have them, the other objects, and the tags."""
+    branches = {ref.commit for name, ref in refs.items() if name.startswith(HEADS)}
+    tagged = sorted({ref.commit for ref in refs.values() if ref.commit and ref.commit != ref.id})
+    ids = [commit.encode() for commit in order_of(new, branches)] + new.objects + ids_of(folder, tags, tagged)
+    with tempfile.TemporaryFile() as asked:
+        asked.write(b''.join(id + b'\n' for id in ids))
+        asked.seek(0)
+        words = ['git', '--git-dir', folder, 'cat-file', '--batch', '--buffer']
+        writer = subprocess.Popen(words, stdin=asked, stdout=subprocess.PIPE, stderr=subprocess.PIPE, env=environment())
+    with writer.stdout as stream:
+        return slot.start('pull-git', stream, target, writer)
+
+
+def unbundle(mercurial, slot, pull, path):
+    """Gives hg what the program writes, while it writes it, or as a file where hg can't have it so."""
+    while not pull.has_ended() and not os.path.getsize(path):
+        time.sleep(PAUSE)
+    if mercurial.sink.closed or pull.has_ended():
+        pull.finish()
+    if not mercurial.sink.closed and is_fed(mercurial, pull, path):
+        return
+    make_small(slot, path)
+    mercurial.output('unbundle', '--', path)
+
+
+def is_fed(mercurial, pull, path):
+    """Whether hg can read what it is fed with."""
+    feed, why = Feed(mercurial, pull, path), None
+    feed.start()
+    try:
+        mercurial.output('unbundle', '--', mercurial.fed)
+    except (Fault, OSError) as fault:
+        why = fault
+        feed.drain()
+    feed.join()
+    if feed.fault or why and mercurial.fed not in str(why):
+        raise feed.fault or why
+    return why is None
+
+
+class Feed(threading.Thread):
+    """Feeds hg with a bundle of small deltas while the program writes it. Its end comes once the program has ended well, so that Mercurial never has what
+    the state hasn't: of a bundle without an end hg takes nothing."""
+
+    def __init__(self, mercurial, pull, path):
+        super().__init__(daemon=True)
+        self.mercurial, self.pull, self.path, self.fault = mercurial, pull, path, None
+
+    def run(self):
+        sink = self.mercurial.sink
+        try:
+            with open(self.path, 'rb') as source:
+                write_small(Growing(source, self.pull), sink, self.pull.finish)
+            sink.flush()
+        except Exception as fault:
+            self.fault = fault
+            with contextlib.suppress(OSError):
+                sink.close()
+
+    def drain(self):
+        """Passes over what hg reads no more, until the program has ended."""
+        source = self.mercurial.source.fileno()
+        while self.is_alive():
+            if select.select([source], [], [], PAUSE)[0]:
+                os.read(source, PIECE)
+        self.mercurial.sink.close()
+
+
+class Growing:
+    """A file that the program writes, read while it grows."""
+
+    def __init__(self, file, pull):
+        self.file, self.pull = file, pull
+
+    def read(self, size):
+        piece = self.file.read(size)
+        while len(piece) < size:
+            has_ended = self.pull.has_ended()
+            more = self.file.read(size - len(piece))
+            if not more and has_ended:
+                break
+            if not more:
+                time.sleep(PAUSE)
+            piece += more
+        return piece
 
 
 def make_small(slot, path):
@@ -181,20 +277,6 @@ def make_small(slot, path):
     with open(path, 'rb') as source, open(small, 'wb') as target:
         write_small(source, target)
     os.replace(small, path)
-
-
-def write_stream(folder, refs, new, tags, path):
-    """The new commits in the order in which Mercurial shall have them, the other objects, and the tags."""
-    branches = {ref.commit for name, ref in refs.items() if name.startswith(HEADS)}
-    tagged = sorted({ref.commit for ref in refs.values() if ref.commit and ref.commit != ref.id})
-    ids = [commit.encode() for commit in order_of(new, branches)]
-    ids += [id for id in ids_of(folder, new.heads, new.bases) if id.decode() not in new.ids]
-    ids += ids_of(folder, tags, tagged)
-    with open(path, 'wb') as file:
-        run = subprocess.run(['git', '--git-dir', folder, 'cat-file', '--batch', '--buffer'], input=b''.join(id + b'\n' for id in ids), stdout=file,
-                             stderr=subprocess.PIPE, env=environment())
-    if run.returncode:
-        raise Fault(f'git cat-file: {words_of(run.stderr)}')
 
 
 def order_of(new, branches):

@@ -5,28 +5,14 @@ from urllib.parse import quote_from_bytes
 
 import sync_objects
 import sync_setting
-from progress import Progress, counted, name_of
+from progress import Progress, counted, name_of, say_left, say_names, say_plan
 from repositories import NULL, Fault, git, git_holds, nodes_of, nodes_there
-from slot import NAMES, WORK, Refused
+from slot import NAMES, WORK
 from sync_names import HEADS, KEPT, TAGS, can_be_hg_name, collisions, merged, names_text, read_hg, refs_of_names, refs_of_text, unfit_names
 
 LEFT = b'left '
 ANOTHER = b'mercurial'  # the first line where the last sync was with a repository that isn't there any more
 MOST_ROUNDS = 3
-
-WHY = {
-    'PathUnfit': 'a path that one of the two tools can\'t have',
-    'PathClash': 'a path lies below that of a file',
-    'StateLimit': 'the history passes a limit of the saved state',
-    'InputLimit': 'the new history is over the limit of one pull',
-    'Limit': 'a text is over its limit',
-    'PairLimit': 'what the other side would get is over its limit',
-    'ModeOut': 'a tree with a mode that Mercurial and this program don\'t know',
-    'NameUnfit': 'a tree with a name that one of the two tools can\'t have',
-    'DanglingLink': 'a link of a merge of many parents whose changeset isn\'t there',
-    'ObjectUnknown': 'an object to which another refers isn\'t there',
-    'NestLimit': 'a member that was carried back and forth too often by another slot',
-}
 
 
 class Base(NamedTuple):
@@ -38,17 +24,21 @@ class Base(NamedTuple):
     kept: set
 
 
-def sync(mercurial, folder, slot, to_git, to_hg, progress, dry):
-    """Gives whether names were left."""
+def sync(opening, folder, slot, to_git, to_hg, progress, dry):
+    """Gives whether names were left. Git is read while hg starts."""
     with progress.stage('reading both repositories'):
-        pairs, names, refs = slot.pairs(), read_hg(mercurial), sync_objects.read_git(folder)
+        pairs, refs = slot.pairs(), sync_objects.read_git(folder)
+        new = sync_objects.new_commits(folder, refs, pairs) if to_hg else None
+        mercurial = opening.result()
+        names = read_hg(mercurial)
         base = base_of(slot, mercurial.path, names, dry)
     seen = Seen(names, refs, base)
     counts = [0, 0]
     if to_git:
         pairs, counts[0] = objects_to_git(mercurial, folder, slot, pairs, seen, progress, dry)
     if to_hg:
-        pairs, counts[1] = objects_to_hg(mercurial, folder, slot, pairs, seen, progress, dry)
+        new = sync_objects.new_commits(folder, refs, pairs) if counts[0] else new
+        pairs, counts[1] = objects_to_hg(mercurial, folder, slot, pairs, seen, new, progress, dry)
     with progress.stage('setting names'):
         changed, left = set_names(mercurial, folder, slot, pairs, seen, (to_git, to_hg), progress, dry)
         if not dry and to_git and to_hg and (counts[1] or changed):
@@ -94,8 +84,7 @@ def objects_to_git(mercurial, folder, slot, pairs, seen, progress, dry):
     return pairs, len(new.ids) + restored
 
 
-def objects_to_hg(mercurial, folder, slot, pairs, seen, progress, dry):
-    new = sync_objects.new_commits(folder, seen.refs, pairs)
+def objects_to_hg(mercurial, folder, slot, pairs, seen, new, progress, dry):
     tags = sync_objects.new_tags(seen.refs, set(seen.base.annotated.values()))
     with progress.stage(f'carrying {counted(len(new.ids), "commit")} to Mercurial'):
         restored = 0
@@ -362,39 +351,3 @@ def agreed_after(plan, base, failed):
     agreed = {ref: commit for ref, commit in plan.agreed.items() if ref not in failed}
     agreed.update({ref: base.commits[ref] for ref in failed if ref in base.commits})
     return agreed
-
-
-# ---- words
-
-def say_plan(plan, progress):
-    for side, changes in (('Git', plan.for_git), ('Mercurial', plan.for_hg)):
-        for ref, (old, new) in changes.items():
-            progress.line(f'{name_of(ref)} would be {"set" if new and not old else "moved" if new else "taken away"} in {side}')
-    say_left(progress, plan, {}, [])
-
-
-def say_names(progress, in_git, in_hg, aside):
-    said = [f'{number} in {side}' for number, side in ((in_git, 'Git'), (in_hg, 'Mercurial')) if number > 0]
-    if said:
-        progress.line('names set: ' + ', '.join(said))
-    if aside:
-        progress.line(f'heads without a name and phases: {counted(aside, "ref")} of Git')
-
-
-def say_left(progress, plan, failed, kept):
-    for ref in plan.both_moved:
-        progress.fault(f'{name_of(ref)} was moved on both sides and is left as it is on each')
-    for ref, why in failed.items():
-        progress.fault(f'{name_of(ref)} is left: {why}')
-    for ref in kept:
-        progress.line(f'{name_of(ref)} is set again: Mercurial keeps a named branch, and a tag of .hgtags')
-
-
-def in_words(fault):
-    """A fault; a refusal of the program with what it means."""
-    if not isinstance(fault, Refused):
-        return str(fault)
-    words = str(fault).split(' ')
-    name, id = (words + ['', '', ''])[1:3]
-    why = WHY.get(name, 'see docs/faults.md')
-    return f'hggit refused {name}: {why} (the changeset, revision or object {id}); no name was changed'
