@@ -1,6 +1,6 @@
 """Bundles HG10UN in which each delta has what differs alone. The program's bundles replace whole texts, for which `hg unbundle` takes several times as long.
 
-Only deltas change: the texts and the nodes are the same, and hg checks each node.
+Only deltas change: the texts and the nodes are the same. hg checks a node where it builds the text, which small deltas spare it; so each delta is tried here.
 """
 import itertools
 import re
@@ -65,8 +65,19 @@ def difference(before, text):
     if before == text:
         return b''
     front, back = shared_ends(before, text)
-    old, new = before[front:len(before) - back], text[front:len(text) - back]
-    return b''.join(HUNK.pack(start, end, len(lines)) + lines for start, end, lines in changes(front, old, new))
+    hunks = list(changes(front, before[front:len(before) - back], text[front:len(text) - back]))
+    if patched(before, hunks) != text:
+        raise Fault('a small delta doesn\'t give its text')
+    return b''.join(HUNK.pack(start, end, len(lines)) + lines for start, end, lines in hunks)
+
+
+def patched(before, hunks):
+    """The text that hunks give."""
+    parts, place = [], 0
+    for start, end, lines in hunks:
+        parts += before[place:start], lines
+        place = end
+    return b''.join(parts) + before[place:]
 
 
 def shared_ends(before, text):

@@ -5,7 +5,7 @@ import random
 import struct
 
 from both import TOP
-from small_deltas import begins_line, difference, write_small
+from small_deltas import begins_line, difference, patched, write_small
 
 PAIRS = 20000
 PIECES = [b'a', b'b', b'\n', b'ab\n']
@@ -15,7 +15,7 @@ EXAMPLE = os.path.join(TOP, 'examples', 'one-changeset.hg')
 def check(report):
     numbers = random.Random(1)
     pairs = [[b''.join(numbers.choice(PIECES) for _ in range(numbers.randrange(8))) for _ in range(2)] for _ in range(PAIRS)]
-    wrong = [pair for pair in pairs if changed(pair[0], difference(*pair)) != pair[1]]
+    wrong = [pair for pair in pairs if patched(pair[0], hunks_of(difference(*pair))) != pair[1]]
     report.check(f'{PAIRS} deltas give the text', wrong, [])
     report.check('and are of whole lines', [pair for pair in pairs if not has_whole_lines(pair[0], difference(*pair))], [])
     with open(EXAMPLE, 'rb') as file:
@@ -32,14 +32,6 @@ def hunks_of(delta):
         start, end, length = struct.unpack_from('>III', delta, place)
         yield start, end, delta[place + 12:place + 12 + length]
         place += 12 + length
-
-
-def changed(text, delta):
-    parts, place = [], 0
-    for start, end, lines in hunks_of(delta):
-        parts += [text[place:start], lines]
-        place = end
-    return b''.join(parts) + text[place:]
 
 
 def has_whole_lines(text, delta):
