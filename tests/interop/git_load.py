@@ -24,6 +24,7 @@ def check(report):
         source = source_in(folder)
         check_whole(report, source)
         check_parts(report, source)
+        check_many(report)
         check_faults_of_new(report, source)
         check_faults_of_old(report, source)
 
@@ -87,6 +88,16 @@ def check_parts(report, source):
     with tempfile.TemporaryDirectory() as folder:
         answers = [load(folder, texts[0]), load(folder, texts[1], source.refs)]
         report.check('git-load: a repository is loaded in two parts', (answers, shown(os.path.join(folder, 'loaded.git'))), ([0, 0], shown(source.folder)))
+
+
+def check_many(report):
+    """Blobs of all sizes, so many that they are compressed in several pieces; some come twice."""
+    blobs = [streams.stream_object(b'blob', b'%d' % number * (number % 40 * 10000)) for number in range(400)]
+    with tempfile.TemporaryDirectory() as folder:
+        status = load(folder, b''.join(blobs + blobs[::7]))
+        made = os.path.join(folder, 'loaded.git')
+        ids = b''.join(blob[:41].rstrip() + b'\n' for blob in dict.fromkeys(blobs))
+        report.check('git-load: many objects are loaded', (status, git(made, 'cat-file', '--batch', data=ids)), (0, b''.join(dict.fromkeys(blobs))))
 
 
 def faults_of(source):
