@@ -30,6 +30,14 @@ def check(checks):
         ('names that Git sets', ([b'set-names-git'],), just(Con('SetNamesGit'))),
         ('the names for Mercurial', ([b'names-hg'],), just(Con('NamesHg'))),
         ('the names for Git', ([b'names-git'],), just(Con('NamesGit'))),
+        ('the audit', ([b'verify'],), just(Con('Verify'))),
+        ('a history that is made', ([b'make', b'300', b'7'],), just(Con('Make', (300, 7)))),
+        ('the greatest numbers', ([b'make', b'0', b'%d' % (2 ** 64 - 1)],), just(Con('Make', (0, 2 ** 64 - 1)))),
+        ('a number that is too large', ([b'make', b'1', b'%d' % 2 ** 64],), None),
+        ('a leading zero', ([b'make', b'01', b'7'],), None),
+        ('a number is missing', ([b'make', b'1'],), None),
+        ('another word with two numbers', ([b'verify', b'1', b'7'],), None),
+        ('a third number', ([b'make', b'1', b'1', b'1'],), None),
         ('an unknown word', ([b'frob'],), None),
         ('an option', ([b'--help'],), None),
         ('a word in capitals', ([b'LIST-HG'],), None),
@@ -39,10 +47,14 @@ def check(checks):
     checks.table('command_model.Command.reads_input', [
         ('names that are set are read', (Con('SetNamesHg'),), True),
         ('names that are written are not', (Con('NamesGit'),), False),
+        ('an audit reads none', (Con('Verify'),), False),
+        ('nor does a history that is made', (Con('Make', (1, 7)),), False),
     ])
     checks.table('command_model.Command.reads_slot', [
         ('names are set in what is saved', (Con('SetNamesGit'),), True),
         ('names are written of what is saved', (Con('NamesHg'),), True),
+        ('what is saved is audited', (Con('Verify'),), True),
+        ('a history is made of nothing', (Con('Make', (1, 7)),), False),
     ])
     entry = hg.entry(ONE, bytes(20), bytes(20), ONE, b'')
     line = b'changeset ' + b'1' * 40 + b' ' + ZEROS + b' ' + ZEROS + b' ' + b'1' * 40 + b' 0\n'
@@ -65,6 +77,7 @@ def check(checks):
         ('another version of the state', (Con('StateBad', (Con('OtherVersion'),)),), b'state StateVersion 0\n'),
         ('a section that does not fit', (Con('StateBad', (Con('BadShape', (3,)),)),), b'state StateShape 3\n'),
         ('want of memory', (Con('Memory'),), b'no memory\n'),
+        ('a commit that is not right', (Con('Mismatch', (ONE, NULL)),), b'mismatch ' + b'1' * 40 + b' ' + ZEROS + b'\n'),
     ])
 
 

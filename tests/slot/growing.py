@@ -52,6 +52,7 @@ def check_empty(report, saved):
     report.check('an empty state has an empty map', saved.run('map'), Answer(0, b'', b''))
     report.check('and the least bundle', saved.run('dump-hg'), Answer(0, LEAST, b''))
     report.check('and an empty stream', saved.run('dump-git'), Answer(0, b'', b''))
+    report.check('and each of its pairs is right', saved.run('verify'), Answer(0, b'verified 0\n', b''))
     report.check('none of these makes the file', saved.text, None)
     report.check('an empty bundle is pulled', saved.run('pull-hg', LEAST), Answer(0, b'', b''))
     report.check('the empty state is saved', saved.text, EMPTY)

@@ -4,7 +4,7 @@ import random
 import tempfile
 
 from growing import example
-from saved import Saved, sections
+from saved import Answer, Saved, sections
 from tools import git, write
 
 COMMITS = 300
@@ -21,6 +21,7 @@ def check(report, program):
         report.check('three streams and a bundle are pulled', statuses, [0] * (PARTS + 1))
         parts = sections(saved.text)
         report.check('each commit and the changeset has its pair', parts[b'map'].count(b'\n'), COMMITS + 1)
+        report.check('each pair is right', saved.run('verify'), Answer(0, b'verified %d\n' % (COMMITS + 1), b''))
         report.check('both tags are kept', [name for name in TAGS if b'\ntag %s\n' % name in parts[b'tags']], list(TAGS))
         check_dumped(report, program, saved, parts)
 

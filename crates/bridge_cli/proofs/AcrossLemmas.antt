@@ -7,9 +7,9 @@ use Rattle.state_model.specs.Names.{AreNames}
 use Rattle.state_model.specs.Saved.{IsState, SlotHolds}
 use Rattle.saved_model.specs.Step.{Pull, OfBundle, OfStream, Steps}
 use Rattle.dump_law.proofs.Names.{names-saved}
-use Rattle.command_model.specs.Run.{Report, Done, IsRefused, Usage, ReadFault, WriteFault, SlotFault, StateBad, Memory}
+use Rattle.command_model.specs.Run.{Report, Done, IsRefused, Usage, ReadFault, WriteFault, SlotFault, StateBad, Memory, Mismatch}
 use Rattle.command_model.specs.Names.{targets_saved}
-use Rattle.command_model.specs.Command.{Command, ListHg, CheckHg, ListGit, CheckGit, PullHg, PullGit, DumpHg, DumpGit, Map, SetNamesHg, SetNamesGit, NamesHg, NamesGit, Written, named_by, IsKept}
+use Rattle.command_model.specs.Command.{Command, ListHg, CheckHg, ListGit, CheckGit, PullHg, PullGit, DumpHg, DumpGit, Map, SetNamesHg, SetNamesGit, NamesHg, NamesGit, Verify, Make, Written, named_by, IsKept}
 use Rattle.command_model.specs.Across.{HaveSameNames, IsSet, LeavesNames, NamesLaw}
 use Rattle.state_law.proofs.Back.{come-back}
 use Rattle.state_law.proofs.Printed.{same-names}
@@ -28,6 +28,7 @@ done-is WriteFault e = absurd cc
 done-is SlotFault e = absurd cc
 done-is (StateBad why) e = absurd cc
 done-is Memory e = absurd cc
+done-is (Mismatch commit right) e = absurd cc
 
 -- ---- pulls
 
@@ -66,6 +67,8 @@ names-hold DumpGit input rest old new slot kept ends = tt
 names-hold Map input rest old new slot kept ends = tt
 names-hold NamesHg input rest old new slot kept ends = tt
 names-hold NamesGit input rest old new slot kept ends = tt
+names-hold Verify input rest old new slot kept ends = tt
+names-hold (Make n seed) input rest old new slot kept ends = tt
 names-hold PullHg None rest old new slot kept ends = tt
 names-hold PullHg (Some x) rest old new None kept ends = tt
 names-hold PullHg (Some x) rest old new (Some held) None ends = tt

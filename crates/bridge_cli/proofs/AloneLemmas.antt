@@ -63,6 +63,7 @@ module _ (command : Command) (reads : reads_input command ≡ true) (uses : read
   alone-ends code.WriteFault end = absurd end
   alone-ends code.SlotFault end = absurd end
   alone-ends (code.StateBad why) end = absurd end
+  alone-ends (code.Mismatch commit right) end = absurd end
 
 -- the lines of a bundle are what is to be written
 pub works-the-listing : (input : Option Bytes) (output : Vec ℕ) (w : Work) → w.output ≡ output → ListsTheBundle input (Ok output) → WorksTheListing input (Ok w)

@@ -1,4 +1,4 @@
--- A run without faults of the outside, whose command is not refused, is done or has no memory.
+-- A run without faults of the outside, whose command is not refused, is done, or tells a mismatch, or has no memory.
 use Rattle.std.proofs.Common.{◌≡◌, ◌⊎◌, ℕ, Bool, true, false, [], Option, None, Some, inl, inr, refl, sym, subst, ◌∙◌}
 use Rattle.std.specs.Prelude.{MatchBool}
 use Rattle.text_model.specs.Text.{Bytes}
@@ -6,8 +6,8 @@ use Rattle.text_model.specs.Fault.{Refusal}
 use Rattle.text_model.proofs.Options.{none_some}
 use Rattle.state_model.specs.Kept.{State, empty_state}
 use Rattle.state_model.specs.Saved.{SlotHolds}
-use Rattle.command_model.specs.Run.{Report, Done, IsRefused, Usage, ReadFault, WriteFault, SlotFault, StateBad, Memory, BadState}
-use Rattle.command_model.specs.Command.{Command, Refused, reads_input, reads_slot, ComesTo, BeginsWith, IsBadSlot}
+use Rattle.command_model.specs.Run.{Report, Done, IsRefused, Usage, ReadFault, WriteFault, SlotFault, StateBad, Memory, Mismatch, BadState}
+use Rattle.command_model.specs.Command.{Command, Refused, Mismatched, reads_input, reads_slot, ComesTo, BeginsWith, IsBadSlot}
 use Rattle.history_law.proofs.States.{slot-one}
 use Rattle.bridge_cli.specs.Over.{ToldOf, HeldBy, Over}
 use Rattle.bridge_cli.specs.Ends.{EndsBy}
@@ -16,6 +16,7 @@ use Rattle.bridge_cli.specs.Status.{status_of}
 use Rattle.bridge_cli.specs.Complete.{Tells, NoFault, Completes}
 use Rattle.bridge_cli.proofs.OverLemmas.{some-is}
 use Rattle.bridge_cli.proofs.GoodText.{good-text}
+use Rattle.bridge_cli.proofs.OutcomeLemmas.{done-apart, refused-apart}
 
 -- ---- what is said of a run is said of what its input and its slot tell
 
@@ -53,13 +54,31 @@ module _ (command : Command) (input rest old new : Option Bytes) (slot kept : Op
   -- where none of the counts of faults rose
   pub complete-holds : (report : Report) → EndsBy command input rest old new slot kept report → InputCause i j (status_of report) → OutputCause o p (status_of report) → SlotCause k l (status_of report)
       → NoFault i j → NoFault o p → NoFault k l → Completes command input slot (status_of report)
-  complete-holds Done ends read wrote saved none_read none_wrote none_saved = λ bytes held s input_tells slot_tells begins never. inl refl
-  complete-holds (IsRefused why) ends read wrote saved none_read none_wrote none_saved = λ bytes held s input_tells slot_tells begins never.
-      absurd (never why (over-one command input slot bytes held s (λ t b. ComesTo command t b (Refused why)) input_tells slot_tells begins ends))
+  complete-holds Done ends read wrote saved none_read none_wrote none_saved = λ bytes held s input_tells slot_tells begins. record {
+    done = λ never never_mismatched. inl refl;
+    mismatch = λ commit right comes.
+        let x = over-one command input slot bytes held s _ input_tells slot_tells begins ends.1 in
+        absurd (done-apart commit right command s bytes x.0 x.1 x.2 comes);
+  }
+  complete-holds (IsRefused why) ends read wrote saved none_read none_wrote none_saved = λ bytes held s input_tells slot_tells begins.
+      let due = over-one command input slot bytes held s (λ t b. ComesTo command t b (Refused why)) input_tells slot_tells begins ends in
+      record {
+        done = λ never never_mismatched. absurd (never why due);
+        mismatch = λ commit right comes. absurd (refused-apart commit right command s bytes why due comes);
+      }
   complete-holds Usage ends read wrote saved none_read none_wrote none_saved = absurd ends
   complete-holds ReadFault ends read wrote saved none_read none_wrote none_saved = absurd (none_read read)
   complete-holds WriteFault ends read wrote saved none_read none_wrote none_saved = absurd (none_wrote wrote)
   complete-holds SlotFault ends read wrote saved none_read none_wrote none_saved = absurd (none_saved saved)
-  complete-holds (StateBad why) ends read wrote saved none_read none_wrote none_saved = λ bytes held s input_tells slot_tells begins never.
+  complete-holds (StateBad why) ends read wrote saved none_read none_wrote none_saved = λ bytes held s input_tells slot_tells begins.
       absurd (no-bad (reads_slot command) slot held s why slot_tells begins ends)
-  complete-holds Memory ends read wrote saved none_read none_wrote none_saved = λ bytes held s input_tells slot_tells begins never. inr refl
+  complete-holds Memory ends read wrote saved none_read none_wrote none_saved = λ bytes held s input_tells slot_tells begins. record {
+    done = λ never never_mismatched. inr refl;
+    mismatch = λ commit right comes. inr refl;
+  }
+  complete-holds (Mismatch commit right) ends read wrote saved none_read none_wrote none_saved = λ bytes held s input_tells slot_tells begins.
+      let differs = over-one command input slot bytes held s (λ t b. ComesTo command t b (Mismatched commit right)) input_tells slot_tells begins ends.1 in
+      record {
+        done = λ never never_mismatched. absurd (never_mismatched commit right differs);
+        mismatch = λ other id comes. inl refl;
+      }

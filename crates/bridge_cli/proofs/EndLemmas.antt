@@ -42,6 +42,7 @@ work-ends command input rest old new slot kept w code.Usage work never = absurd 
 work-ends command input rest old new slot kept w code.ReadFault work never = absurd never
 work-ends command input rest old new slot kept w (code.StateBad why) work never = absurd never
 work-ends command input rest old new slot kept w code.Memory work never = absurd never
+work-ends command input rest old new slot kept w (code.Mismatch commit right) work never = absurd never
 
 -- of a run without work
 pub no-work : (command : Command) (input rest taken : Option Bytes) (slot kept : Option (Option Bytes)) (report : Report)
@@ -51,6 +52,7 @@ no-work command input rest taken slot kept code.ReadFault end = end
 no-work command input rest taken slot kept code.SlotFault end = inl refl
 no-work command input rest taken slot kept (code.StateBad why) end = end
 no-work command input rest taken slot kept code.Memory end = tt
+no-work command input rest taken slot kept (code.Mismatch commit right) end = end
 no-work command input rest taken slot kept code.Done end = absurd end
 no-work command input rest taken slot kept code.Usage end = absurd end
 no-work command input rest taken slot kept code.WriteFault end = absurd end

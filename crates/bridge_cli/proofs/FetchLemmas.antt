@@ -28,6 +28,7 @@ leaves-count before now text (Err code.WriteFault) reads e = absurd reads
 leaves-count before now text (Err code.SlotFault) reads e = absurd reads
 leaves-count before now text (Err (code.StateBad why)) reads e = e
 leaves-count before now text (Err code.Memory) reads e = e
+leaves-count before now text (Err (code.Mismatch commit right)) reads e = absurd reads
 
 -- why a slot that holds this text gives no state
 no-state : (slot : Option (Option Bytes)) (text : Bytes) (report : Report) → IfSome slot (λ held. held ≡ Some text) → IsNoText text report → IsNotFetched slot report
@@ -40,6 +41,7 @@ no-state slot text code.Usage is unread = absurd unread
 no-state slot text code.ReadFault is unread = absurd unread
 no-state slot text code.WriteFault is unread = absurd unread
 no-state slot text code.SlotFault is unread = absurd unread
+no-state slot text (code.Mismatch commit right) is unread = absurd unread
 
 held-text : (slot : Option (Option Bytes)) (text : Bytes) (m : model.State) → IfSome slot (λ held. held ≡ Some text) → IsStateText text m → IfSome slot (λ held. SlotHolds held m)
 held-text None text m is h = tt

@@ -6,8 +6,8 @@ use Rattle.text_model.specs.Fault.{Refusal}
 use Rattle.state_model.specs.Kept.{State, Kept, kept_of, with_kept}
 use Rattle.state_model.specs.Saved.{SlotHolds}
 use Rattle.saved_model.specs.Step.{Pull, OfBundle, OfStream, Steps, Refuses}
-use Rattle.command_model.specs.Run.{Report, Done, IsRefused, Usage, ReadFault, WriteFault, SlotFault, StateBad, Memory}
-use Rattle.command_model.specs.Command.{Command, ListHg, CheckHg, ListGit, CheckGit, PullHg, PullGit, DumpHg, DumpGit, Map, SetNamesHg, SetNamesGit, NamesHg, NamesGit, IsKept}
+use Rattle.command_model.specs.Run.{Report, Done, IsRefused, Usage, ReadFault, WriteFault, SlotFault, StateBad, Memory, Mismatch}
+use Rattle.command_model.specs.Command.{Command, ListHg, CheckHg, ListGit, CheckGit, PullHg, PullGit, DumpHg, DumpGit, Map, SetNamesHg, SetNamesGit, NamesHg, NamesGit, Verify, Make, IsKept}
 use Rattle.saved_model.specs.Theorem.{IsSaved, GoesOn}
 use Rattle.command_model.specs.Headline.{EndsAs, Headline}
 use Rattle.history_law.proofs.States.{done, stopped}
@@ -38,6 +38,8 @@ headline-holds SetNamesHg input rest old new slot kept report ends same = tt
 headline-holds SetNamesGit input rest old new slot kept report ends same = tt
 headline-holds NamesHg input rest old new slot kept report ends same = tt
 headline-holds NamesGit input rest old new slot kept report ends same = tt
+headline-holds Verify input rest old new slot kept report ends same = tt
+headline-holds (Make n seed) input rest old new slot kept report ends same = tt
 headline-holds PullHg None rest old new slot kept report ends same = tt
 headline-holds PullHg (Some x) rest old new None kept report ends same = tt
 headline-holds PullHg (Some x) rest old new (Some held) None report ends same = tt
@@ -52,6 +54,7 @@ headline-holds PullHg (Some x) rest old new (Some held) (Some after) WriteFault 
 headline-holds PullHg (Some x) rest old new (Some held) (Some after) SlotFault ends same = tt
 headline-holds PullHg (Some x) rest old new (Some held) (Some after) (StateBad why) ends same = tt
 headline-holds PullHg (Some x) rest old new (Some held) (Some after) Memory ends same = tt
+headline-holds PullHg (Some x) rest old new (Some held) (Some after) (Mismatch commit right) ends same = tt
 headline-holds PullGit None rest old new slot kept report ends same = tt
 headline-holds PullGit (Some x) rest old new None kept report ends same = tt
 headline-holds PullGit (Some x) rest old new (Some held) None report ends same = tt
@@ -66,6 +69,7 @@ headline-holds PullGit (Some x) rest old new (Some held) (Some after) WriteFault
 headline-holds PullGit (Some x) rest old new (Some held) (Some after) SlotFault ends same = tt
 headline-holds PullGit (Some x) rest old new (Some held) (Some after) (StateBad why) ends same = tt
 headline-holds PullGit (Some x) rest old new (Some held) (Some after) Memory ends same = tt
+headline-holds PullGit (Some x) rest old new (Some held) (Some after) (Mismatch commit right) ends same = tt
 
 -- ---- the report is known by its status
 
@@ -84,6 +88,7 @@ to-status pull before after WriteFault h = tt
 to-status pull before after SlotFault h = tt
 to-status pull before after (StateBad why) h = tt
 to-status pull before after Memory h = tt
+to-status pull before after (Mismatch commit right) h = tt
 
 of-status : (pull : Pull) (before after : Option Bytes) (report : Report) → EndsWith pull before after (status_of report) → EndsAs pull before after report
 of-status pull before after Done h = h
@@ -94,6 +99,7 @@ of-status pull before after WriteFault h = tt
 of-status pull before after SlotFault h = tt
 of-status pull before after (StateBad why) h = tt
 of-status pull before after Memory h = tt
+of-status pull before after (Mismatch commit right) h = tt
 
 same-end : (pull : Pull) (before after : Option Bytes) (r q : Report) → status_of r ≡ status_of q → EndsAs pull before after r → EndsAs pull before after q
 same-end pull before after r q e h = of-status pull before after q (subst (EndsWith pull before after) e (to-status pull before after r h))
@@ -112,6 +118,8 @@ same-headline SetNamesHg input slot kept r q e h = tt
 same-headline SetNamesGit input slot kept r q e h = tt
 same-headline NamesHg input slot kept r q e h = tt
 same-headline NamesGit input slot kept r q e h = tt
+same-headline Verify input slot kept r q e h = tt
+same-headline (Make n seed) input slot kept r q e h = tt
 same-headline PullHg None slot kept r q e h = tt
 same-headline PullHg (Some x) None kept r q e h = tt
 same-headline PullHg (Some x) (Some before) None r q e h = tt

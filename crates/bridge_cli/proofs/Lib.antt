@@ -8,6 +8,10 @@ pub mod SavedLemmas
 pub mod HeadlineLemmas
 pub mod RunLemmas
 pub mod GoodText
+pub mod OutcomeLemmas
 pub mod CompleteLemmas
 pub mod NamedLemmas
+pub mod AuditLemmas
+pub mod MadeLemmas
 pub mod AcrossLemmas
+pub mod ReturnLemmas

@@ -49,7 +49,7 @@ are-names Git m text names e = refs-kept (targets_saved m) text names (by-length
 
 -- ---- a slot that gives no state
 
-unfetched : (command : Command) → reads_slot command ≡ true → (input : Option Bytes) (slot : Option (Option Bytes)) (report : Report) → IsNotFetched slot report → IsEndOf command input slot report
+pub unfetched : (command : Command) → reads_slot command ≡ true → (input : Option Bytes) (slot : Option (Option Bytes)) (report : Report) → IsNotFetched slot report → IsEndOf command input slot report
 unfetched command reads input slot code.SlotFault end = tt
 unfetched command reads input slot (code.StateBad why) end = rw reads end
 unfetched command reads input slot code.Memory end = tt
@@ -58,6 +58,7 @@ unfetched command reads input slot (code.Refused why) end = absurd end
 unfetched command reads input slot code.Usage end = absurd end
 unfetched command reads input slot code.ReadFault end = absurd end
 unfetched command reads input slot code.WriteFault end = absurd end
+unfetched command reads input slot (code.Mismatch commit right) end = absurd end
 
 -- ---- a text is set
 

@@ -77,7 +77,7 @@ git-refuses input slot s pull.Memory fetched told = tt
 -- ---- how often a pull unmarks a member
 
 -- a state of the code has as many pairs as its history has blocks
-count : (s : State) (m : model.State) → Stands s m → length s.blocks ≡ length m.blocks
+pub count : (s : State) (m : model.State) → Stands s m → length s.blocks ≡ length m.blocks
 count s m stands =
     let same = ap length ((stands.blocks).state).blocks_are in
     simp length-map at same

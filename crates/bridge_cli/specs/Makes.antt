@@ -11,7 +11,7 @@ use Rattle.state_model.specs.Kept.{State, empty_state}
 use Rattle.state_model.specs.Saved.{IsState, IsStateText}
 use Rattle.pair_state.specs.declared.state.State as pair
 use Rattle.state_text.specs.Stands.{Stands}
-use Rattle.command_model.specs.Command.{Command, Written, Refused, reads_input, reads_slot, ComesTo, BeginsWith, IsBadSlot}
+use Rattle.command_model.specs.Command.{Command, Verify, Written, Refused, Mismatched, reads_input, reads_slot, ComesTo, BeginsWith, IsBadSlot}
 use Rattle.bridge_text.specs.Refusals.{refusal_value}
 use Rattle.bridge_cli.specs.Over.{HeldBy, Over}
 use Rattle.bridge_cli.specs.Report.{bad_value}
@@ -54,6 +54,7 @@ IsEndOf command input slot code.ReadFault = HeldBy (reads_slot command) slot (λ
 IsEndOf command input slot code.SlotFault = ⊤
 IsEndOf command input slot (code.StateBad why) = HeldBy (reads_slot command) slot (λ held. IsBadSlot held (bad_value why))
 IsEndOf command input slot code.Memory = ⊤
+IsEndOf command input slot (code.Mismatch kept right) = (command ≡ Verify) × Over command input slot (λ s bytes. ComesTo command s bytes (Mismatched kept right))
 IsEndOf command input slot report = ⊥
 
 -- The output and the text are what the command comes to, with the input read to its end where it reads one.

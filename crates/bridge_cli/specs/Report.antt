@@ -13,6 +13,8 @@ use Rattle.pull_outcome.specs.declared.refused.PullFault.{PullFault}
 use Rattle.pull_outcome.specs.declared.refused.PullFault.TheVariants as pull
 use Rattle.name_engine.specs.declared.fault.SetFault.{SetFault}
 use Rattle.name_engine.specs.declared.fault.SetFault.TheVariants as set
+use Rattle.make_engine.specs.declared.fault.CountsFault.{CountsFault}
+use Rattle.make_engine.specs.declared.fault.CountsFault.TheVariants as counts
 use Rattle.bridge_cli.specs.declared.report.Report as code_report
 use Rattle.bridge_cli.specs.declared.report.Report.TheVariants as code
 use Rattle.bridge_cli.specs.declared.report.BadState as code_bad
@@ -32,6 +34,7 @@ report_value code.WriteFault = report.WriteFault
 report_value code.SlotFault = report.SlotFault
 report_value (code.StateBad why) = report.StateBad (bad_value why)
 report_value code.Memory = report.Memory
+report_value (code.Mismatch kept right) = report.Mismatch kept right
 
 -- how a run ends that reads no bundle
 abbrev pub bundle_report : bundle_fault.BundleFault → code_report.Report
@@ -60,6 +63,11 @@ abbrev pub set_report : SetFault → code_report.Report
 set_report (set.Refused why) = code.Refused why
 set_report set.Read = code.ReadFault
 set_report set.Memory = code.Memory
+
+-- how a run ends that counts no history
+abbrev pub counts_report : CountsFault → code_report.Report
+counts_report (counts.Refused why) = code.Refused why
+counts_report counts.Memory = code.Memory
 
 -- how a run ends whose slot holds the text of no state
 abbrev pub state_report : StateFault → code_report.Report

@@ -5,7 +5,7 @@ use Rattle.command_model.specs.Run as report
 use Rattle.bridge_cli.specs.declared.status.Status.{Status}
 use Rattle.bridge_cli.specs.declared.status.Status.TheVariants.{Done, Refused, Usage, ReadFault, WriteFault, SlotFault, StateBad, Memory, Mismatch}
 use Rattle.bridge_cli.specs.declared.words.Command.{Command}
-use Rattle.bridge_cli.specs.declared.words.Command.TheVariants.{ListHg, CheckHg, ListGit, CheckGit, PullHg, PullGit, DumpHg, DumpGit, Map, SetNamesHg, SetNamesGit, NamesHg, NamesGit}
+use Rattle.bridge_cli.specs.declared.words.Command.TheVariants.{ListHg, CheckHg, ListGit, CheckGit, PullHg, PullGit, DumpHg, DumpGit, Map, SetNamesHg, SetNamesGit, NamesHg, NamesGit, Verify, Make}
 
 abbrev pub command_value : Command → command.Command
 command_value ListHg = command.ListHg
@@ -21,6 +21,8 @@ command_value SetNamesHg = command.SetNamesHg
 command_value SetNamesGit = command.SetNamesGit
 command_value NamesHg = command.NamesHg
 command_value NamesGit = command.NamesGit
+command_value Verify = command.Verify
+command_value (Make n seed) = command.Make n seed
 
 -- the exit status of the program
 abbrev pub code_of : Status → ℕ
@@ -44,3 +46,4 @@ status_of report.WriteFault = WriteFault
 status_of report.SlotFault = SlotFault
 status_of (report.StateBad why) = StateBad
 status_of report.Memory = Memory
+status_of (report.Mismatch kept right) = Mismatch

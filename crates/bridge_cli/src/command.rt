@@ -7,6 +7,7 @@ ghost use Rattle.command_model.specs.Command.{command_of, reads_input, reads_slo
 ghost use Rattle.command_model.specs.Run as run;
 ghost use Rattle.command_model.specs.Headline.{Headline};
 ghost use Rattle.command_model.specs.Across.{NamesLaw};
+ghost use Rattle.closure_law.specs.Returned.{DumpReturns};
 ghost use Rattle.bridge_cli.specs.Complete.{Completes, NoFault};
 ghost use Rattle.bridge_cli.specs.Ends.{Ends, EndsBy};
 ghost use Rattle.bridge_cli.specs.Makes.{Finishes};
@@ -50,6 +51,12 @@ pub fn run<I: Source, O: Sink, E: Sink, K: Slot, L: Ledger>(
     ensures names { (command : model.Command) → command_of words.now ≡ Some command → result ≡ Status.Done
         → NamesLaw command (I.left input.old) (K.held slot.old) (K.held slot.new) }
 
+    // Both dumps return. Behind any list of pulls, with names set in between or not: what a dump that is done writes is accepted where nothing is saved,
+    // and refused for nothing. It brings just the pairs of the state, in its order, and that of `dump-git` the kept tags too; so it saves the same
+    // history.
+    ensures returns { (command : model.Command) → command_of words.now ≡ Some command → result ≡ Status.Done
+        → DumpReturns command (K.held slot.old) (O.taken output.old) (O.taken output.new) }
+
     ensures usage { (result ≡ Status.Usage) ↔ (command_of words.now ≡ None) }
     ensures untouched { result ≡ Status.Usage → (input.new ≡ input.old) × (output.new ≡ output.old) × (slot.new ≡ slot.old) }
 
@@ -64,7 +71,8 @@ pub fn run<I: Source, O: Sink, E: Sink, K: Slot, L: Ledger>(
         → ListingEnds (I.left input.old) (O.taken output.old) (O.taken output.new) result }
 
     // Where none of the counts of faults rises, input and slot tell what they have, and the slot holds nothing or the text of a state, a command that
-    // comes to no refusal over both is done, or memory ran out.
+    // comes to no refusal and to no mismatch over both is done, and one that comes to a mismatch says so, or memory ran out. `verify` alone comes to one:
+    // exactly where a block of the state isn't right.
     ensures complete { (command : model.Command) → command_of words.now ≡ Some command → NoFault (I.faults input.old) (I.faults input.new)
         → NoFault (O.faults output.old) (O.faults output.new) → NoFault (K.faults slot.old) (K.faults slot.new)
         → Completes command (I.left input.old) (K.held slot.old) result }
@@ -84,7 +92,7 @@ pub fn run<I: Source, O: Sink, E: Sink, K: Slot, L: Ledger>(
     // A run that is done has flushed what its output took.
     ensures flushed { result ≡ Status.Done → IsOut (O.flushed output.new) (O.taken output.new) }
 
-    // A step is counted for each time that a pull unmarks a member.
+    // A step is counted for each time that a pull, an audit or a made history unmarks a member.
     ensures steps { StepsOfRun (command_of words.now) (I.left input.old) (K.held slot.old) steps.old steps.new }
 {
     let report = match words.command() {

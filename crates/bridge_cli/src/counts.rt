@@ -1,5 +1,5 @@
-// What a check prints: how many revisions or objects of each kind there are.
-ghost use Rattle.std.specs.Prelude.{◌≡◌, ◌++◌, IfOk, OnOk};
+// What a check prints, how many revisions or objects of each kind there are, and what an audit does, how many blocks.
+ghost use Rattle.std.specs.Prelude.{◌≡◌, ◌++◌, IfOk, OnOk, codes};
 ghost use Rattle.std.specs.Io.{StartsWith};
 ghost use Rattle.saved_model.specs.Written.{count_line};
 ghost use Rattle.bridge_cli.specs.Counts.{arrival_counts, stream_counts};
@@ -17,10 +17,14 @@ pub fn revision_counts(alloc: Global, arrivals: &Arrivals) -> Result<Vec<u8>, No
     put_count(
         &mut lines,
         b"changesets",
-        arrivals.count(RevKind::Changeset),
+        arrivals.count(RevKind::Changeset) as u64,
     )?;
-    put_count(&mut lines, b"manifests", arrivals.count(RevKind::Manifest))?;
-    put_count(&mut lines, b"files", arrivals.count(RevKind::File))?;
+    put_count(
+        &mut lines,
+        b"manifests",
+        arrivals.count(RevKind::Manifest) as u64,
+    )?;
+    put_count(&mut lines, b"files", arrivals.count(RevKind::File) as u64)?;
     Ok(lines)
 }
 
@@ -29,20 +33,29 @@ pub fn object_counts(alloc: Global, arrivals: &ObjectArrivals) -> Result<Vec<u8>
     ensures { IfOk result (λ lines. lines.items ≡ stream_counts arrivals.now) }
 {
     let mut lines = Vec::new(alloc);
-    put_count(&mut lines, b"commits", arrivals.count(Kind::Commit))?;
-    put_count(&mut lines, b"trees", arrivals.count(Kind::Tree))?;
-    put_count(&mut lines, b"blobs", arrivals.count(Kind::Blob))?;
-    put_count(&mut lines, b"tags", arrivals.count(Kind::Tag))?;
+    put_count(&mut lines, b"commits", arrivals.count(Kind::Commit) as u64)?;
+    put_count(&mut lines, b"trees", arrivals.count(Kind::Tree) as u64)?;
+    put_count(&mut lines, b"blobs", arrivals.count(Kind::Blob) as u64)?;
+    put_count(&mut lines, b"tags", arrivals.count(Kind::Tag) as u64)?;
+    Ok(lines)
+}
+
+/// How many blocks of a saved state were found right.
+pub fn verified_count(alloc: Global, blocks: u64) -> Result<Vec<u8>, NoMemory>
+    ensures { IfOk result (λ lines. lines.items ≡ count_line (codes "verified") blocks) }
+{
+    let mut lines = Vec::new(alloc);
+    put_count(&mut lines, b"verified", blocks)?;
     Ok(lines)
 }
 
 // Appends the line of a count.
-fn put_count(out: &mut Vec<u8>, word: &[u8], count: usize) -> Result<(), NoMemory>
+fn put_count(out: &mut Vec<u8>, word: &[u8], count: u64) -> Result<(), NoMemory>
     ensures { OnOk result (out.new.items ≡ out.old.items ++ count_line word.now count) }
 {
     out.extend_from_slice(word)?;
     out.push(b' ')?;
-    decimal_into(out, count as u64)?;
+    decimal_into(out, count)?;
     out.push(b'\n')?;
     Ok(())
 }

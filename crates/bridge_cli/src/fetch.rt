@@ -1,5 +1,5 @@
 // The state that the slot holds.
-ghost use Rattle.std.specs.Prelude.{◌≡◌, ◌≤◌, length, OnOk};
+ghost use Rattle.std.specs.Prelude.{◌≡◌, ◌≤◌, [], length, OnOk};
 ghost use Rattle.text_model.specs.Text.{IsBytes};
 ghost use Rattle.state_model.specs.Limits.{slot_limit};
 ghost use Rattle.bridge_cli.specs.Fetched.{Fetches, ReadsText};
@@ -11,15 +11,19 @@ use bridge_text::SLOT_LIMIT;
 use pair_state::State;
 use std::alloc::Global;
 
-/// The state that the slot holds; the empty one where it holds nothing. `SlotFault` comes where the slot failed, `StateBad` where what it
-/// holds is the text of no state or is too long for one, and `Memory` where memory is wanted.
-pub fn fetch_state<K: Slot>(alloc: Global, slot: &mut K) -> Result<State, Report>
+/// The state that the slot holds; the empty one where it holds nothing. Its text is put into `text`, which is empty before. `SlotFault` comes where
+/// the slot failed, `StateBad` where what it holds is the text of no state or is too long for one, and `Memory` where memory is wanted.
+pub fn fetch_state<K: Slot>(
+    alloc: Global,
+    slot: &mut K,
+    text: &mut Vec<u8>,
+) -> Result<State, Report>
+    requires empty { text.old.items ≡ [] }
     ensures state { Fetches (K.held slot.old) result }
     ensures held { K.held slot.new ≡ K.held slot.old }
     ensures cause { LeavesSlotCount (K.faults slot.old) (K.faults slot.new) result }
 {
-    let mut text = Vec::new(alloc);
-    match slot.fetch(SLOT_LIMIT, &mut text) {
+    match slot.fetch(SLOT_LIMIT, text) {
         Ok(true) => state_of(alloc, text.as_slice()),
         Ok(false) => Ok(State::empty(alloc)),
         Err(SlotFault::Failed) => Err(Report::SlotFault),

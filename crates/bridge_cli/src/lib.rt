@@ -1,10 +1,12 @@
 //! The commands of the bridge: one call, `run`, from the words of the command line to the status.
 #![tactic(auto)]
 
+mod audit;
 mod command;
 mod counts;
 mod fetch;
 mod line;
+mod made;
 mod names;
 mod output;
 mod report;

@@ -1,14 +1,14 @@
 // The line that a run prints on its errors, built without memory.
 ghost use Rattle.std.specs.Prelude.{◌≡◌, ◌≤◌, length};
-ghost use Rattle.command_model.specs.Run.{BadShape, refused_line, state_line, report_line};
+ghost use Rattle.command_model.specs.Run.{BadShape, mismatch_line, refused_line, state_line, report_line};
 ghost use Rattle.bridge_text.specs.Refusals.{refusal_value};
 ghost use Rattle.bridge_cli.specs.Report.{bad_value, report_value};
 
 use crate::report::{BadState, Report};
 use arrayvec::ArrayVec;
-use bridge_text::Refusal;
+use bridge_text::{Id, Refusal};
 
-/// The longest line has 89 bytes.
+/// The longest line has 91 bytes.
 pub const LONGEST: usize = 96;
 
 /// The line of a report; no bytes where the work was done.
@@ -24,6 +24,7 @@ pub fn line_of(report: &Report) -> ArrayVec<u8, LONGEST>
         Report::SlotFault => line(b"slot fault\n"),
         Report::StateBad(why) => state_line(why),
         Report::Memory => line(b"no memory\n"),
+        Report::Mismatch { kept, right } => mismatch_line(kept, right),
     }
 }
 
@@ -72,6 +73,18 @@ fn shape_line(section: u8) -> ArrayVec<u8, LONGEST>
     let mut line = line(b"state StateShape ");
     line.try_extend_from_slice(number.format(section).as_bytes())
         .unwrap();
+    line.push(b'\n');
+    line
+}
+
+// `mismatch`, and both ids in hex digits.
+fn mismatch_line(kept: &Id, right: &Id) -> ArrayVec<u8, LONGEST>
+    ensures { result.items ≡ mismatch_line kept.now right.now }
+{
+    let mut line = line(b"mismatch ");
+    line.try_extend_from_slice(&kept.hex()).unwrap();
+    line.push(b' ');
+    line.try_extend_from_slice(&right.hex()).unwrap();
     line.push(b'\n');
     line
 }

@@ -11,6 +11,7 @@ use crate::work::Work;
 use bridge_io::{Slot, Source};
 use name_engine::{Side, names_text, set_names};
 use std::alloc::Global;
+use std::mem::forget;
 
 /// No output, and the state with the names that a text of a side sets in place of all its own.
 pub fn names_of_text<I: Source, K: Slot>(
@@ -24,9 +25,11 @@ pub fn names_of_text<I: Source, K: Slot>(
     ensures held { K.held slot.new ≡ K.held slot.old }
     ensures slot { LeavesSlotCount (K.faults slot.old) (K.faults slot.new) result }
 {
-    let state = fetch_state(alloc, slot)?;
+    let mut room = Vec::new(alloc);
+    let state = fetch_state(alloc, slot, &mut room)?;
     let next = set_names(state, side, input)?;
-    let text = text_of(&next)?;
+    let text = text_of(&next, room)?;
+    forget(next);
     Ok(Work {
         output: Vec::new(alloc),
         text: Some(text),
@@ -40,6 +43,8 @@ pub fn text_of_names<K: Slot>(alloc: Global, side: Side, slot: &mut K) -> Result
     ensures held { K.held slot.new ≡ K.held slot.old }
     ensures slot { LeavesSlotCount (K.faults slot.old) (K.faults slot.new) result }
 {
-    let state = fetch_state(alloc, slot)?;
-    Ok(Work::of(names_text(&state, side)?))
+    let state = fetch_state(alloc, slot, &mut Vec::new(alloc))?;
+    let bytes = names_text(&state, side)?;
+    forget(state);
+    Ok(Work::of(bytes))
 }

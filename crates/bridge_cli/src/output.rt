@@ -6,7 +6,9 @@ ghost use Rattle.bridge_cli.specs.Makes.{LeavesCount, LeavesSlotCount, ListsTheB
 ghost use Rattle.bridge_cli.specs.Status.{command_value};
 ghost use Rattle.bridge_cli.specs.Steps.{StepsOf};
 
+use crate::audit::audit_of_history;
 use crate::counts::{object_counts, revision_counts};
+use crate::made::counts_of_made;
 use crate::names::{names_of_text, text_of_names};
 use crate::report::Report;
 use crate::saved::{
@@ -54,6 +56,8 @@ pub fn work_of<I: Source, K: Slot, L: Ledger>(
         Command::SetNamesGit => names_of_text(alloc, Side::Git, input, slot),
         Command::NamesHg => text_of_names(alloc, Side::Hg, slot),
         Command::NamesGit => text_of_names(alloc, Side::Git, slot),
+        Command::Verify => audit_of_history(alloc, slot, steps),
+        Command::Make { n, seed } => counts_of_made(alloc, n, seed, steps),
     }
 }
 

@@ -1,13 +1,14 @@
 // How a run ends, with what is printed of it.
 ghost use Rattle.std.specs.Prelude.{◌≡◌};
-ghost use Rattle.bridge_cli.specs.Report.{bundle_report, objects_report, pull_report, report_value, set_report, state_report, stream_report};
+ghost use Rattle.bridge_cli.specs.Report.{bundle_report, counts_report, objects_report, pull_report, report_value, set_report, state_report, stream_report};
 ghost use Rattle.bridge_cli.specs.Status.{status_of};
 ghost use Rattle.bridge_cli.specs.declared.report.Report.TheVariants.{Memory};
 
 use crate::status::Status;
-use bridge_text::{NoMemory, Refusal};
+use bridge_text::{Id, NoMemory, Refusal};
 use git_batch::{BatchFault, StreamFault};
 use hg_bundle::BundleFault;
+use make_engine::CountsFault;
 use name_engine::SetFault;
 use pull_engine::PullFault;
 use state_text::StateFault;
@@ -34,6 +35,8 @@ pub enum Report {
     SlotFault,
     StateBad(BadState),
     Memory,
+    /// The commit of the saved state that isn't right, and the right one.
+    Mismatch { kept: Id, right: Id },
 }
 
 impl Report {
@@ -50,6 +53,7 @@ impl Report {
             Report::SlotFault => Status::SlotFault,
             Report::StateBad(_) => Status::StateBad,
             Report::Memory => Status::Memory,
+            Report::Mismatch { .. } => Status::Mismatch,
         }
     }
 }
@@ -114,6 +118,17 @@ impl From<SetFault> for Report {
             SetFault::Refused(why) => Report::Refused(why),
             SetFault::Read => Report::ReadFault,
             SetFault::Memory => Report::Memory,
+        }
+    }
+}
+
+impl From<CountsFault> for Report {
+    ghost from_gives = { λ fault e. e ≡ counts_report fault };
+
+    fn from(fault: CountsFault) -> Report {
+        match fault {
+            CountsFault::Refused(why) => Report::Refused(why),
+            CountsFault::Memory => Report::Memory,
         }
     }
 }

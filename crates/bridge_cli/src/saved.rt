@@ -17,6 +17,7 @@ use pair_state::State;
 use pull_engine::{Pulled, pull_git, pull_hg};
 use state_text::{dump_git, dump_hg, map_into, write_into};
 use std::alloc::Global;
+use std::mem::forget;
 use std::sync::ledger::Ledger;
 
 /// The objects of the commits of a bundle's changesets, and the next state.
@@ -32,9 +33,10 @@ pub fn commits_of_bundle<I: Source, K: Slot, L: Ledger>(
     ensures slot { LeavesSlotCount (K.faults slot.old) (K.faults slot.new) result }
     ensures steps { StepsOf model.PullHg (I.left input.old) (K.held slot.old) steps.old steps.new }
 {
-    let state = fetch_state(alloc, slot)?;
+    let mut room = Vec::new(alloc);
+    let state = fetch_state(alloc, slot, &mut room)?;
     let pulled = pull_hg(state, input, steps)?;
-    Ok(saved_work(pulled)?)
+    Ok(saved_work(pulled, room)?)
 }
 
 /// The bundle of the changesets of a stream's commits, and the next state.
@@ -50,9 +52,10 @@ pub fn changesets_of_stream<I: Source, K: Slot, L: Ledger>(
     ensures slot { LeavesSlotCount (K.faults slot.old) (K.faults slot.new) result }
     ensures steps { StepsOf model.PullGit (I.left input.old) (K.held slot.old) steps.old steps.new }
 {
-    let state = fetch_state(alloc, slot)?;
+    let mut room = Vec::new(alloc);
+    let state = fetch_state(alloc, slot, &mut room)?;
     let pulled = pull_git(state, input, steps)?;
-    Ok(saved_work(pulled)?)
+    Ok(saved_work(pulled, room)?)
 }
 
 /// The bundle of the whole history.
@@ -62,8 +65,10 @@ pub fn bundle_of_history<K: Slot>(alloc: Global, slot: &mut K) -> Result<Work, R
     ensures held { K.held slot.new ≡ K.held slot.old }
     ensures slot { LeavesSlotCount (K.faults slot.old) (K.faults slot.new) result }
 {
-    let state = fetch_state(alloc, slot)?;
-    Ok(Work::of(dump_hg(&state)?))
+    let state = fetch_state(alloc, slot, &mut Vec::new(alloc))?;
+    let bytes = dump_hg(&state)?;
+    forget(state);
+    Ok(Work::of(bytes))
 }
 
 /// The stream of the whole history, with its tags.
@@ -73,8 +78,10 @@ pub fn stream_of_history<K: Slot>(alloc: Global, slot: &mut K) -> Result<Work, R
     ensures held { K.held slot.new ≡ K.held slot.old }
     ensures slot { LeavesSlotCount (K.faults slot.old) (K.faults slot.new) result }
 {
-    let state = fetch_state(alloc, slot)?;
-    Ok(Work::of(dump_git(&state)?))
+    let state = fetch_state(alloc, slot, &mut Vec::new(alloc))?;
+    let bytes = dump_git(&state)?;
+    forget(state);
+    Ok(Work::of(bytes))
 }
 
 /// The ids of each commit and its changeset.
@@ -84,32 +91,36 @@ pub fn map_of_history<K: Slot>(alloc: Global, slot: &mut K) -> Result<Work, Repo
     ensures held { K.held slot.new ≡ K.held slot.old }
     ensures slot { LeavesSlotCount (K.faults slot.old) (K.faults slot.new) result }
 {
-    let state = fetch_state(alloc, slot)?;
+    let state = fetch_state(alloc, slot, &mut Vec::new(alloc))?;
     let mut lines = Vec::new(alloc);
     map_into(&state, &mut lines)?;
+    forget(state);
     Ok(Work::of(lines))
 }
 
-// What an accepted pull is to write, and the text of its next state.
-fn saved_work(pulled: Pulled) -> Result<Work, NoMemory>
+// What an accepted pull is to write, and the text of its next state, which is written into the room of the old one's. The state keeps its memory
+// until the program ends: to give it back part by part takes time, and a run needs it no more.
+fn saved_work(pulled: Pulled, room: Vec<u8>) -> Result<Work, NoMemory>
     requires stands { (m : saved.State) × Stands pulled.state m }
     ensures output { IfOk result (λ w. w.output.items ≡ pulled.made) }
     ensures text { IfOk result (λ w. IsNextText pulled.state w.text) }
 {
     let Pulled { state, made, .. } = pulled;
-    let text = text_of(&state)?;
+    let text = text_of(&state, room)?;
+    forget(state);
     Ok(Work {
         output: made.into_vec(),
         text: Some(text),
     })
 }
 
-/// The text of a state.
-pub fn text_of(state: &State) -> Result<Vec<u8>, NoMemory>
+/// The text of a state, in the place of what is in `room`.
+pub fn text_of(state: &State, room: Vec<u8>) -> Result<Vec<u8>, NoMemory>
     requires stands { (m : saved.State) × Stands state.now m }
     ensures { IfOk result (λ text. (m : saved.State) → Stands state.now m → IsState m → IsStateText text.items m) }
 {
-    let mut text = Vec::new(state.alloc());
+    let mut text = room;
+    text.clear();
     write_into(state, &mut text)?;
     Ok(text)
 }

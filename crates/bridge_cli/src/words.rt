@@ -3,7 +3,7 @@ ghost use Rattle.std.specs.Prelude.{◌≡◌, ◌++◌, ◌∷◌, [], List, �
 ghost use Rattle.command_model.specs.Command.{command_of, command_named, names_commands};
 ghost use Rattle.bridge_cli.specs.Status.{command_value};
 
-use bridge_text::{Bytes, NoMemory};
+use bridge_text::{Bytes, NoMemory, decimal_of};
 use std::alloc::Global;
 use std::marker::Model;
 
@@ -36,6 +36,10 @@ pub enum Command {
     NamesHg,
     /// Write the names as refs.
     NamesGit,
+    /// Audit the saved state, and count its blocks.
+    Verify,
+    /// Make a history of so many changesets from a number, take it there and back, and count it.
+    Make { n: u64, seed: u64 },
 }
 
 /// The words of a command line, after the program's name.
@@ -79,6 +83,7 @@ impl Words {
         match self.list.as_slice() {
             [] => Some(Command::ListHg),
             [word] => command_named(word.as_slice()),
+            [word, n, seed] => made_command(word.as_slice(), n.as_slice(), seed.as_slice()),
             _ => None,
         }
     }
@@ -114,6 +119,9 @@ fn command_named(word: &[u8]) -> Option<Command>
     if b"map".as_slice() == word {
         return Some(Command::Map);
     }
+    if b"verify".as_slice() == word {
+        return Some(Command::Verify);
+    }
     command_on_names(word)
 }
 
@@ -131,6 +139,17 @@ fn command_on_names(word: &[u8]) -> Option<Command>
     }
     if b"names-git".as_slice() == word {
         return Some(Command::NamesGit);
+    }
+    None
+}
+
+fn made_command(word: &[u8], n: &[u8], seed: &[u8]) -> Option<Command>
+    ensures { option_map command_value result ≡ command_of (word.now ∷ n.now ∷ seed.now ∷ []) }
+{
+    let n = decimal_of(n)?;
+    let seed = decimal_of(seed)?;
+    if b"make".as_slice() == word {
+        return Some(Command::Make { n, seed });
     }
     None
 }

@@ -1,5 +1,6 @@
 pub mod Run
 pub mod Names
+pub mod Made
 pub mod Command
 pub mod Headline
 pub mod Across

@@ -1,7 +1,7 @@
 -- How a run of the program ends, and what it prints then. Statuses and lines are this project's own rule.
 use Rattle.std.specs.Prelude.{ℕ, [], ◌∷◌, codes, decimal}
 use Rattle.text_model.specs.Text.{Bytes, line, spaced}
-use Rattle.text_model.specs.Id.{hex}
+use Rattle.text_model.specs.Id.{Id, hex}
 use Rattle.text_model.specs.Fault.{Refusal, fault_word}
 
 -- why what the slot holds is no state: it is too long, another version, or no text of one, with the first section that doesn't fit
@@ -20,6 +20,7 @@ pub data Report : Type 0 where
   SlotFault : Report
   StateBad : (why : BadState) → Report
   Memory : Report
+  Mismatch : (kept right : Id) → Report
 
 -- `refused`, the name, the id and the place; the null id stands for none and is printed as its digits
 abbrev pub refused_line : Refusal → Bytes
@@ -31,6 +32,10 @@ state_line TooLong = codes "state TooLong 0\n"
 state_line OtherVersion = codes "state StateVersion 0\n"
 state_line (BadShape section) = line (spaced (codes "state" ∷ codes "StateShape" ∷ decimal section ∷ []))
 
+-- `mismatch`, the id of the commit that isn't right and that of the right one; the null id stands for none and is printed as its digits
+abbrev pub mismatch_line : Id → Id → Bytes
+mismatch_line kept right = line (spaced (codes "mismatch" ∷ hex kept ∷ hex right ∷ []))
+
 -- the line on the errors; none where the work was done
 abbrev pub report_line : Report → Bytes
 report_line Done = []
@@ -41,3 +46,4 @@ report_line WriteFault = codes "write fault\n"
 report_line SlotFault = codes "slot fault\n"
 report_line (StateBad why) = state_line why
 report_line Memory = codes "no memory\n"
+report_line (Mismatch kept right) = mismatch_line kept right

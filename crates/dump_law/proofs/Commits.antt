@@ -82,7 +82,7 @@ alike objects one o s i j e =
     not-and true false e h = absurd (true≢false h)
     not-and false b e h = absurd (true≢false (sym e))
 
-own_in_order : (cs : List CommitView) → AreCommitsSaved cs → filter is_commit (only_new same_object [] (objects_in cs)) ≡ map own cs
+pub own_in_order : (cs : List CommitView) → AreCommitsSaved cs → filter is_commit (only_new same_object [] (objects_in cs)) ≡ map own cs
 own_in_order cs s =
     ap (filter is_commit) (only_new-nothing same_object same_object_turned (objects_in cs))
     ∙ filter_first is_commit same_object (objects_in cs) (λ x y i j e. ap (same_kind commit) (sym (alike (objects_in cs) s.one x y i j e).kind))

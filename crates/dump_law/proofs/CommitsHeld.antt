@@ -145,31 +145,28 @@ module _ (cs : List CommitView) (s : AreCommitsSaved cs) where
   abbrev new : List Object
   new = only_new same_object [] (objects_in cs)
 
-  abbrev known : List Object
-  known = objects_after_all [] (only_new same_object [] (objects_in cs))
+  abbrev brought : List Object
+  brought = objects_after_all [] (only_new same_object [] (objects_in cs))
 
   added : AreAdded [] new
   added = (commits_are_read cs s).added
 
-  grown : HasGrown [] known new
+  grown : HasGrown [] brought new
   grown = all_grown [] new added
 
-  of_new : (o : Object) → In o new → In o (objects_in cs)
+  pub of_new : (o : Object) → In o new → In o (objects_in cs)
   of_new o i = of-first same_object o (objects_in cs) (of-filter (λ x. not (list_any (same_object x) [])) o (first_of_each same_object (objects_in cs)) i)
 
-  there : (o : Object) → In o (objects_in cs) → IsKnown known o
-  there o i =
+  pub brought_there : (o : Object) → In o (objects_in cs) → IsKnown brought o
+  brought_there o i =
       let m = first_met o (objects_in cs) i in
       let x = m.0 in
-      let found = each_in (IsThere known) new x grown.added (subst (λ (l : List Object). In x l) (sym (only_new-nothing same_object same_object_turned (objects_in cs))) m.1) in
+      let found = each_in (IsThere brought) new x grown.added (subst (λ (l : List Object). In x l) (sym (only_new-nothing same_object same_object_turned (objects_in cs))) m.1) in
       let a = alike (objects_in cs) s.one o x i (of-first same_object x (objects_in cs) m.1) ((bytes_eq-Decides o.id x.id).1 (sym m.2)) in
       let same : x ≡ o = (λ k. record { id = m.2 k; kind = sym a.kind k; content = sym a.content k }) in
-      subst (IsKnown known) same found
+      subst (IsKnown brought) same found
 
-  in-commit : (c : CommitView) → In c cs → (o : Object) → In o (shapes_of c) → IsKnown known o
-  in-commit c i o j = there o (in-flat commit_objects c o cs i (subst (λ (l : List Object). In o l) (sym (commit_split c)) (in_left o (shapes_of c) (own c ∷ []) j)))
-
-  tree_is : (o : Object) → In o new → is_tree o ≡ true → (entries : List TreeEntry) × IsTreeText o.content entries
+  pub tree_is : (o : Object) → In o new → is_tree o ≡ true → (entries : List TreeEntry) × IsTreeText o.content entries
   tree_is o i t =
       let fine = each_in IsFine new o (each_fine [] new added) i in
       let from = of_flat commit_objects o cs (of_new o i) in
@@ -185,12 +182,18 @@ module _ (cs : List CommitView) (s : AreCommitsSaved cs) where
       bytes c v (inr (inl q)) = absurd (true≢false (sym t ∙ ap is_tree q))
       bytes c v (inr (inr k)) = absurd k
 
-  are_objects : AreObjects known
-  are_objects = record {
+  pub brought_objects : AreObjects brought
+  brought_objects = record {
     distinct = distinct_after [] new refl;
-    ids = each_from (λ o. o.id ≡ object_id o.kind o.content) known (λ o i. (each_in IsFine new o (each_fine [] new added) (grown.only o i)).0);
-    trees = each_from (λ o. is_tree o ≡ true → (entries : List TreeEntry) × IsTreeText o.content entries) known (λ o i. tree_is o (grown.only o i));
+    ids = each_from (λ o. o.id ≡ object_id o.kind o.content) brought (λ o i. (each_in IsFine new o (each_fine [] new added) (grown.only o i)).0);
+    trees = each_from (λ o. is_tree o ≡ true → (entries : List TreeEntry) × IsTreeText o.content entries) brought (λ o i. tree_is o (grown.only o i));
   }
+
+-- ---- what holds the objects of the commits, among which may be others
+
+module _ (cs : List CommitView) (s : AreCommitsSaved cs) (known : List Object) (are_objects : AreObjects known) (there : (o : Object) → In o (objects_in cs) → IsKnown known o) where
+  in-commit : (c : CommitView) → In c cs → (o : Object) → In o (shapes_of c) → IsKnown known o
+  in-commit c i o j = there o (in-flat commit_objects c o cs i (subst (λ (l : List Object). In o l) (sym (commit_split c)) (in_left o (shapes_of c) (own c ∷ []) j)))
 
   module _ (c : CommitView) (i : In c cs) where
     v : IsCommitView c
@@ -265,12 +268,17 @@ module _ (cs : List CommitView) (s : AreCommitsSaved cs) where
       });
     }
 
+  pub all_walks : Each (λ c. walk_fault known (c.value).tree_id ≡ None) cs
+  all_walks = each_from (λ c. walk_fault known (c.value).tree_id ≡ None) cs walk_ends
+
   pub commits_held : (ds : List CommitView) → ((c : CommitView) → In c ds → In c cs) → AreCommitsHeld known (map commit_id ds) ds
   commits_held [] inside = tt
   commits_held (d ∷ ds) inside = (commit_held d (inside d (inl refl)), commits_held ds (λ c j. inside c (inr j)))
 
+-- ---- what the dump brings holds them
+
 pub git-held : (cs : List CommitView) → AreCommitsSaved cs → AreCommitsHeld (objects_after_all [] (only_new same_object [] (objects_in cs))) (map commit_id cs) cs
-git-held cs s = commits_held cs s cs (λ c i. i)
+git-held cs s = commits_held cs s (brought cs s) (brought_objects cs s) (brought_there cs s) cs (λ c i. i)
 
 pub git-walks : (cs : List CommitView) → AreCommitsSaved cs → Each (λ c. walk_fault (objects_after_all [] (only_new same_object [] (objects_in cs))) (c.value).tree_id ≡ None) cs
-git-walks cs s = each_from (λ c. walk_fault (objects_after_all [] (only_new same_object [] (objects_in cs))) (c.value).tree_id ≡ None) cs (λ c i. walk_ends cs s c i)
+git-walks cs s = all_walks cs s (brought cs s) (brought_objects cs s) (brought_there cs s)

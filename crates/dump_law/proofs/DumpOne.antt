@@ -59,7 +59,7 @@ own_once (x ∷ hs) h =
         by true e go = absurd (true≢false (sym n ∙ ap (λ (b : Bool). not (b || list_any (bytes_eq (changeset_node x)) (map changeset_node ks))) e))
         by false e go = rw e (ap (λ (l : List Revision). own_revision k ∷ l) (go (sym (ap (λ (b : Bool). not (b || list_any (bytes_eq (changeset_node x)) (map changeset_node ks))) e) ∙ n)))
 
-own_in_order : (hs : List ChangesetView) → has_distinct (map changeset_node hs) ≡ true → of_group Changesets (brought_by [] hs) ≡ map own_revision hs
+pub own_in_order : (hs : List ChangesetView) → has_distinct (map changeset_node hs) ≡ true → of_group Changesets (brought_by [] hs) ≡ map own_revision hs
 unfolding brought_by
 own_in_order hs d =
     ap (of_group Changesets) (only_new-nothing same_revision same_revision_turned (revisions_in hs))

@@ -74,7 +74,7 @@ each_some : (known : List Revision) (sum : ℕ) (rs : List Revision) → AreAddi
 each_some known sum [] h = tt
 each_some known sum (r ∷ rs) h = (added_some known r h.0, each_some (known_after known r) (sum + length r.text) rs h.2)
 
-find_none : (group : Group) (rs : List Revision) → Each (λ r. is_null r.node ≡ false) rs → revision_of rs group null ≡ None
+pub find_none : (group : Group) (rs : List Revision) → Each (λ r. is_null r.node ≡ false) rs → revision_of rs group null ≡ None
 find_none group [] h = refl
 find_none group (r ∷ rs) h = by (is_of group null r) refl (find_none group rs h.1)
   where

@@ -88,7 +88,7 @@ all-new known (x ∷ xs) = by (knows known x.group x.node) refl (λ k. all-new k
     by false e later =
         rw e (later (known ++ x ∷ []) ∙ append_assoc known (x ∷ []) (only_new same_revision (known ++ x ∷ []) xs) ∙ ap (λ (l : List Revision). known ++ l) (sym (new-first known x xs e)))
 
-found_after : (xs : List Revision) (group : Group) (node : Id) → revision_of (known_after_all [] xs) group node ≡ revision_of xs group node
+pub found_after : (xs : List Revision) (group : Group) (node : Id) → revision_of (known_after_all [] xs) group node ≡ revision_of xs group node
 found_after xs group node =
     ap (λ (l : List Revision). revision_of l group node) (all-new [] xs ∙ only_new-nothing same_revision same_revision_turned xs) ∙ found_first xs group node
 

@@ -146,10 +146,11 @@ one_stream (o ∷ xs) (p ∷ ys) y small e =
 
 -- ---- the objects of a commit
 
--- the id is that of kind and content, and it is no commit
+-- the id is that of kind and content, and it is neither a commit nor a tag
 pub record IsPart (o : Object) : Type 0 where
   pub id : IsId o.id
   pub no_commit : same_kind commit o.kind ≡ false
+  pub no_tag : same_kind o.kind tag ≡ false
 
 pub of_append : {X : Type 0} (x : X) (xs ys : List X) → In x (xs ++ ys) → In x xs ⊎ In x ys
 of_append x [] ys i = inr i
@@ -189,7 +190,7 @@ leaf_part L name o rows i = by (leaf_named name L) refl i
         at true f =
             let r = found_is (λ leaf. is_named name leaf.names) l L e in
             elim (rw f at j) [
-              | inl q ↦ subst IsPart (sym q) (record { id = blob_id_is l (rows l r.0) f; no_commit = refl })
+              | inl q ↦ subst IsPart (sym q) (record { id = blob_id_is l (rows l r.0) f; no_commit = refl; no_tag = refl })
               | inr k ↦ absurd k
             ]
 
@@ -200,7 +201,7 @@ shape_parts (suc d) L rows o i =
     elim (of_append o (flat_map (λ e. if is_directory e.mode then shape_objects d (leaves_below e.name L) else leaf_object (leaf_named e.name L)) (shape_entries (suc d) L)) _ i) [
       | inl j ↦ (let r = of_flat (λ (e : TreeEntry). if is_directory e.mode then shape_objects d (leaves_below e.name L) else leaf_object (leaf_named e.name L)) o (shape_entries (suc d) L) j in
           by r.0 r.2 (λ k. shape_parts d (leaves_below (r.0).name L) (λ l m. rows_below (r.0).name l m) o k))
-      | inr (inl q) ↦ subst IsPart (sym q) (record { id = IsId-object_id tree _; no_commit = refl })
+      | inr (inl q) ↦ subst IsPart (sym q) (record { id = IsId-object_id tree _; no_commit = refl; no_tag = refl })
       | inr (inr k) ↦ absurd k
     ]
   where

@@ -1,3 +1,4 @@
 pub mod NodeLemmas
 pub mod One
 pub mod Dumped
+pub mod HeldLines

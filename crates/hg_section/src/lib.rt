@@ -1,6 +1,7 @@
 //! The changesets of a saved state, read from their dump.
 #![tactic(auto)]
 
+mod held;
 mod nodes;
 mod read;
 mod section;

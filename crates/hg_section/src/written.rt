@@ -4,8 +4,9 @@ ghost use Rattle.hg_store.specs.Known.{AreAdded};
 ghost use Rattle.view_model.specs.View.{ChangesetView};
 ghost use Rattle.hg_section.specs.Section.{IsWrittenOf};
 
+use crate::held::are_held;
 use bridge_text::{IdList, NoMemory};
-use hg_dump::{are_held, is_dump};
+use hg_dump::is_dump;
 use hg_store::HgStore;
 use std::alloc::Global;
 
@@ -21,7 +22,7 @@ pub fn is_written(
     ensures no { IfOk result (λ yes. (hs : List ChangesetView) → IsWrittenOf store.now nodes.now bytes.now hs → IsTrue yes) }
 {
     store.check();
-    if !are_held(store, nodes) {
+    if !are_held(alloc, store, nodes) {
         return Ok(false);
     }
     is_dump(alloc, store, nodes, bytes)

@@ -9,6 +9,7 @@ use Rattle.text_model.specs.Text.{is_below}
 use Rattle.text_model.proofs.EachLemmas.{Each-push, Each-weaker}
 use Rattle.text_model.proofs.Options.{none_some}
 use Rattle.hg_model.specs.Changeset.{Extra, Plain}
+use Rattle.git_model.proofs.SortLemmas.{in-inserted}
 use Rattle.git_model.proofs.RowOrder.{behind_filter, each_inserted}
 use Rattle.view_model.specs.View.{Row, ChangesetView}
 use Rattle.pair_model.specs.Block.{Parents}
@@ -44,17 +45,9 @@ unfolding with_row
 each-with P new old h each = each_inserted P below new (filter (is_other new) old) h (behind_filter P (is_other new) old each)
 
 -- the new row is one of them
-in-inserted : (new : Row) (rows : List Row) → In new (with_inserted below new rows)
-in-inserted new [] = inl refl
-in-inserted new (row ∷ rows) = by (below row new) refl (in-inserted new rows)
-  where
-    by : (t : Bool) → below row new ≡ t → In new (with_inserted below new rows) → In new (with_inserted below new (row ∷ rows))
-    by true e go = rw e (inr go)
-    by false e go = rw e (inl refl)
-
 pub new-in : (new : Row) (old : List Row) → In new (with_row new old)
 unfolding with_row
-new-in new old = in-inserted new (filter (is_other new) old)
+new-in new old = in-inserted below new new (filter (is_other new) old) (inl refl)
 
 -- ---- small changesets
 

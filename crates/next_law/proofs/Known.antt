@@ -32,7 +32,7 @@ saved-of s is =
     let h = is.1 in
     record { blocks = is.0; dumped = (h.0.0.0.0.1).dumped; links = (h.0.0.0.0.1).links; commits = h.0.0.0.1; tags = h.0.1 }
 
-in-order : (rs : List Revision) → in_written_order rs ≡ in_bundle_order rs
+pub in-order : (rs : List Revision) → in_written_order rs ≡ in_bundle_order rs
 unfolding in_written_order in_bundle_order
 in-order rs = refl
 

@@ -34,3 +34,4 @@ pub mod Good
 pub mod Added
 pub mod ReadHg
 pub mod DumpLeft
+pub mod Founded

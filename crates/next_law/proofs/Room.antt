@@ -11,7 +11,7 @@ use Rattle.next_law.proofs.Known.{IsSaved, saved-of}
 use Rattle.next_law.proofs.Limits.{within-limits, no-limit, blocks-within, tags-within}
 use Rattle.next_law.proofs.Pairs.{pairs-count}
 
-none-passed : (k : Kept) → IsSaved k → passes_limit k ≡ false
+pub none-passed : (k : Kept) → IsSaved k → passes_limit k ≡ false
 none-passed k saved = no-limit k (record { hg = (saved.dumped).short; git = (saved.tags).short; few = (saved.dumped).few })
 
 next-within : (k : Kept) → IsSaved k → (pull : Pull) (new : List Block) (tags : List Object) → Accepts k pull new tags → passes_limit (next_of k new tags) ≡ false

@@ -19,7 +19,7 @@ use Rattle.pull_law.proofs.Choices.{IsOneName, nothing-one, unless-one, nothing-
 use Rattle.pull_law.proofs.Known.{HasNoNull}
 
 -- known changesets of one node are the same
-apart : (known : List Revision) → HasNoNull known → AreApart (IsHeldView known)
+pub apart : (known : List Revision) → HasNoNull known → AreApart (IsHeldView known)
 apart known none v w a b e =
     let one = one_held known none (changeset_node v) v w a (subst (λ (node : Id). IsChangesetHeld known node w) (sym e) b) in
     subst (λ (z : ChangesetView). SameChangeset v z) one (same_changeset v)

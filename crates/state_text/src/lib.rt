@@ -1,6 +1,7 @@
 //! A saved state is read from its text and written as it.
 #![tactic(auto)]
 
+mod appended;
 mod assemble;
 mod blocks;
 mod fault;

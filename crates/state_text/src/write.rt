@@ -10,9 +10,10 @@ ghost use Rattle.state_model.specs.Text.{state_text};
 ghost use Rattle.saved_model.specs.Written.{map_text};
 ghost use Rattle.state_text.specs.Stands.{Stands, AreAt};
 
+use crate::appended::{append_bundle, append_stream};
 use crate::blocks::pairs_of;
 use crate::names::NAMES;
-use crate::sections::{GIT, HG, TAGS};
+use crate::sections::TAGS;
 use bridge_text::{Id, NoMemory};
 use git_batch::put_with_id;
 use git_object::Objects;
@@ -46,8 +47,8 @@ fn append_state(state: &State, out: &mut Vec<u8>) -> Result<(), NoMemory>
     put_tags(&mut tags, &state.known().git, state.tags().as_slice())?;
     let names = write_refs(alloc, state.names())?;
     put_head(out)?;
-    put_section(out, HG, dump_hg(state)?.as_slice())?;
-    put_section(out, GIT, dump_commits(state)?.as_slice())?;
+    append_bundle(out, alloc, &state.known().hg, state.changesets())?;
+    append_stream(out, alloc, &state.known().git, state.commits())?;
     put_map(out, pairs_of(alloc, state.blocks())?.as_slice())?;
     put_section(out, TAGS, tags.as_slice())?;
     put_section(out, NAMES, names.as_slice())

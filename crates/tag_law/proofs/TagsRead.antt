@@ -39,7 +39,7 @@ use Rattle.tag_law.proofs.Comes.{comes}
 use Rattle.tag_law.proofs.DistinctTags.{distinct-left}
 use Rattle.tag_law.proofs.TagsOnly.{of-came, of-new}
 
-after-append : (known xs ys : List Object) → objects_after_all known (xs ++ ys) ≡ objects_after_all (objects_after_all known xs) ys
+pub after-append : (known xs ys : List Object) → objects_after_all known (xs ++ ys) ≡ objects_after_all (objects_after_all known xs) ys
 after-append known [] ys = refl
 after-append known (x ∷ xs) ys = after-append (objects_after known x) xs ys
 

@@ -1,6 +1,6 @@
 -- The extras of a changeset's marks are extras: their keys rise, and keys and values are made of bytes.
-use Rattle.std.proofs.Common.{◌≡◌, ◌≢◌, ◌≤◌, ◌<◌, ◌==◌, ℕ, true, false, List, [], ◌∷◌, ◌++◌, length, map, Option, Some, None, refl, sym, ap, subst, ◌∙◌, append_assoc, arith, leb-true}
-use Rattle.std.specs.Prelude.{codes, decimal, nat_le, ◌&&◌, Bool}
+use Rattle.std.proofs.Common.{◌≡◌, ◌≢◌, ◌≤◌, ◌<◌, ◌==◌, ℕ, true, false, List, [], ◌∷◌, ◌++◌, length, Option, Some, None, refl, sym, subst, append_assoc, arith, leb-true}
+use Rattle.std.specs.Prelude.{codes, nat_le, ◌&&◌, Bool}
 use Rattle.std.specs.List.{flat_map, list_all}
 use Rattle.std.proofs.lemmas.Bool.{and_parts}
 use Rattle.text_model.specs.Lists.{Each}

@@ -26,7 +26,7 @@ use Rattle.next_law.proofs.LikeNew.{find-in}
 use Rattle.next_law.proofs.Linked.{bundle-known}
 use Rattle.next_law.proofs.NewBlocks.{IsOfBundle, IsOfStream}
 use Rattle.next_law.proofs.Pulls as pulls
-use Rattle.view_law.proofs.Founded.{IsFounded, founded-after, held-fits}
+use Rattle.next_law.proofs.Founded.{IsFounded, founded-after, held-fits}
 use Rattle.view_law.proofs.Views.{each-grown}
 use Rattle.view_law.specs.Views.{HasChangesetsFit}
 

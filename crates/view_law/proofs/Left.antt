@@ -1,5 +1,5 @@
 -- The changesets and the commits that a pull leaves are views, and the commits are within their limits.
-use Rattle.std.proofs.Common.{◌≡◌, ◌++◌, List, [], ◌∷◌, map, None, refl, sym, ap, subst}
+use Rattle.std.proofs.Common.{◌≡◌, ◌++◌, List, [], ◌∷◌, map, None, refl, sym, subst}
 use Rattle.text_model.specs.Lists.{Each}
 use Rattle.text_model.specs.Text.{Bytes, IsBytes}
 use Rattle.text_model.specs.Id.{object_id}
@@ -26,7 +26,7 @@ use Rattle.next_law.proofs.Objects.{dump-is, dump-read, are-read, adds-contents,
 use Rattle.next_law.proofs.Pulls as pulls
 use Rattle.view_law.proofs.CommitFit.{held-commit_fits}
 use Rattle.view_law.proofs.Fits.{founded-known}
-use Rattle.view_law.proofs.Founded.{founded-after}
+use Rattle.next_law.proofs.Founded.{founded-after}
 use Rattle.view_law.proofs.Views.{IsRightBlock, all-changesets, all-commits, all-commits_fit, each-grown, bundle-right, stream-right}
 use Rattle.view_law.specs.Views.{HasChangesetViews, HasCommitViews, HasCommitsFit}
 

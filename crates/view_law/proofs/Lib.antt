@@ -1,6 +1,5 @@
 pub mod Extras
 pub mod Lines
-pub mod Founded
 pub mod RuledCommit
 pub mod Links
 pub mod RuledChangeset

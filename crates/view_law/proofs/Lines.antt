@@ -1,8 +1,8 @@
 -- Lines of users, users of lines and descriptions are made of bytes where what they are made of is.
-use Rattle.std.proofs.Common.{◌≡◌, ◌<◌, ◌≤◌, ◌+◌, ◌-◌, ◌/◌, ◌%◌, ◌==◌, ℕ, Bool, true, false, List, [], ◌∷◌, ◌++◌, length, take, Option, Some, None, refl, sym, ap, subst, ◌∙◌, arith}
-use Rattle.std.specs.Prelude.{not, ◌&&◌, ◌||◌, if◌then◌else◌, nat_lt, nat_le, filter, codes, option_map, unwrap_or, decimal, ℤ, pos, negsuc, bytes_eq, unsigned_abs, IsTrue}
-use Rattle.std.specs.List.{ends_with, list_all}
-use Rattle.std.proofs.lemmas.Bool.{and_parts, ltb-true, leb-true}
+use Rattle.std.proofs.Common.{◌≡◌, ◌<◌, ◌-◌, ◌/◌, ◌%◌, ◌==◌, ℕ, Bool, true, false, [], ◌∷◌, ◌++◌, length, take, Option, Some, None, refl, sym, ap, subst, ◌∙◌, arith}
+use Rattle.std.specs.Prelude.{not, ◌&&◌, ◌||◌, if◌then◌else◌, nat_lt, filter, codes, option_map, unwrap_or, decimal, ℤ, pos, negsuc, bytes_eq, unsigned_abs}
+use Rattle.std.specs.List.{ends_with}
+use Rattle.std.proofs.lemmas.Bool.{and_parts, ltb-true}
 use Rattle.text_model.specs.Text.{Bytes, IsBytes, lf, has_byte}
 use Rattle.text_model.specs.Cuts.{cut_of}
 use Rattle.text_model.proofs.ByteLemmas.{IsBytes-append, IsBytes-front, IsBytes-rest, IsBytes-take}

@@ -1,16 +1,15 @@
 -- The links of a commit are views, where the changesets of the blocks are.
-use Rattle.std.proofs.Common.{◌≡◌, ◌≢◌, ◌≤◌, ◌+◌, ℕ, true, false, true≢false, List, [], ◌∷◌, ◌++◌, length, map, Option, Some, None, refl, sym, ap, subst, ◌∙◌, inl, inr, arith}
-use Rattle.std.specs.Prelude.{IsTrue, is_some, unwrap_or, codes, decimal, ℤ, pos, ⊤}
-use Rattle.std.specs.List.{find}
+use Rattle.std.proofs.Common.{◌≡◌, ◌≢◌, ◌+◌, ℕ, true, false, true≢false, List, [], ◌∷◌, ◌++◌, length, Option, Some, None, refl, sym, ap, subst, ◌∙◌, arith}
+use Rattle.std.specs.Prelude.{IsTrue, is_some, unwrap_or, decimal, pos, ⊤}
 use Rattle.std.proofs.lemmas.Int.{ints}
 use Rattle.text_model.specs.Lists.{Each, rises}
-use Rattle.text_model.specs.Text.{Bytes, IsBytes, is_below}
+use Rattle.text_model.specs.Text.{IsBytes, is_below}
 use Rattle.text_model.specs.Id.{Id, IsId, null, is_null, hex}
 use Rattle.text_model.specs.Path.{is_fit_path}
 use Rattle.text_model.proofs.ByteLemmas.{IsBytes-append}
 use Rattle.text_model.proofs.Elements.{each_in}
 use Rattle.text_model.proofs.HexLemmas.{IsId-null}
-use Rattle.hg_model.specs.Changeset.{Changeset, IsChangeset, IsDateLine, Plain}
+use Rattle.hg_model.specs.Changeset.{IsChangeset, IsDateLine, Plain}
 use Rattle.hg_model.specs.Revision.{Revision}
 use Rattle.dump_law.proofs.Brought.{node_is_id}
 use Rattle.view_model.specs.View.{ChangesetView, IsChangesetView, CommitView, IsRevision, AreManifestParents, manifest_node, changeset_node, commit_id, paths_of}
@@ -20,7 +19,7 @@ use Rattle.partner_model.specs.Partner.{IsHeldView, IsKnownAs}
 use Rattle.mark_law.proofs.TextFacts.{IsBytes-decimal}
 use Rattle.next_law.proofs.LikeNew.{find-in}
 use Rattle.view_law.proofs.Extras.{hex-bytes, small-bytes}
-use Rattle.view_law.proofs.Founded.{IsFounded, held-view}
+use Rattle.next_law.proofs.Founded.{IsFounded, held-view}
 
 -- what the files of a changeset show that is a view, or of none
 pub record HasFiles (h : ChangesetView) : Type 0 where

@@ -1,6 +1,6 @@
 -- The changeset that is marked of a commit over blocks whose changesets are views is a view.
-use Rattle.std.proofs.Common.{◌≡◌, ◌≢◌, ◌≤◌, ◌+◌, ℕ, Bool, true, false, true≢false, not, ◌&&◌, List, [], ◌∷◌, ◌++◌, length, map, Option, Some, None, refl, sym, ap, subst, ◌∙◌, inl, inr, arith, if◌then◌else◌}
-use Rattle.std.specs.Prelude.{IsTrue, is_some, unwrap_or, option_map, bytes_eq, filter, ⊤}
+use Rattle.std.proofs.Common.{◌≡◌, ◌≢◌, ℕ, Bool, true, false, true≢false, not, List, [], ◌∷◌, ◌++◌, length, map, Option, Some, None, refl, sym, ap, subst, ◌∙◌, if◌then◌else◌}
+use Rattle.std.specs.Prelude.{IsTrue, is_some, unwrap_or, option_map, bytes_eq, ⊤}
 use Rattle.std.specs.List.{find, list_any, last_or}
 use Rattle.std.specs.Option.{option_or}
 use Rattle.text_model.specs.Lists.{Each, rises}

@@ -1,12 +1,12 @@
 -- The commit that the rule gives of a changeset over blocks whose commits are views is a view, and so is the marked one.
-use Rattle.std.proofs.Common.{◌≡◌, ◌≤◌, Bool, true, false, true≢false, List, [], ◌∷◌, ◌++◌, length, map, Option, Some, None, refl, sym, ap, subst, ◌∙◌, arith}
+use Rattle.std.proofs.Common.{◌≡◌, Bool, true, false, true≢false, List, [], ◌∷◌, map, Option, Some, None, refl, sym, ap, subst, ◌∙◌, arith}
 use Rattle.std.specs.Prelude.{IsTrue, is_some, unwrap_or, option_map, bytes_eq, ℤ, pos, negsuc, neg_ℤ, ◌≤ℤ◌, ◌^◌, FitsSigned}
 use Rattle.std.specs.Int.{w64}
 use Rattle.std.proofs.lemmas.Int.{ints}
 use Rattle.std.proofs.lemmas.List.{length-map}
 use Rattle.text_model.specs.Lists.{Each, rises}
 use Rattle.text_model.specs.Text.{Bytes, IsBytes, lf, has_byte, is_below}
-use Rattle.text_model.specs.Id.{Id, IsId, null, is_null, blob_id}
+use Rattle.text_model.specs.Id.{Id, null, is_null, blob_id}
 use Rattle.text_model.specs.Path.{is_fit_path}
 use Rattle.text_model.proofs.ByteLemmas.{IsBytes-append}
 use Rattle.text_model.proofs.Elements.{each_in, in_map}

@@ -1,9 +1,9 @@
 -- Each block that a pull leaves is of views.
-use Rattle.std.proofs.Common.{◌≡◌, ◌≤◌, false, List, [], ◌∷◌, ◌++◌, map, Ok, None, refl, sym, ap, subst, ◌∙◌, append_assoc, append-nil, inl, inr}
+use Rattle.std.proofs.Common.{◌≡◌, false, List, [], ◌∷◌, ◌++◌, sym, ap, subst, append_assoc, append-nil, inl, inr}
 use Rattle.std.specs.Prelude.{is_some, length, ◌||◌}
 use Rattle.std.specs.List.{list_any}
 use Rattle.text_model.specs.Lists.{Each}
-use Rattle.text_model.specs.Id.{Id, is_null}
+use Rattle.text_model.specs.Id.{is_null}
 use Rattle.text_model.proofs.EachLemmas.{Each-append, Each-front, Each-push, Each-rest}
 use Rattle.text_model.proofs.Options.{or_parts}
 use Rattle.hg_model.specs.Revision.{Revision, is_otherwise}
@@ -25,7 +25,7 @@ use Rattle.pull_law.specs.Sound.{HasOwnNode}
 use Rattle.next_law.proofs.Linked.{few-links, bundle-known, block-some}
 use Rattle.next_law.proofs.NewBlocks.{AreNew, IsOfBundle, IsOfStream, known_behind}
 use Rattle.view_law.proofs.CommitFit.{held-commit_fits}
-use Rattle.view_law.proofs.Founded.{IsFounded, held-view}
+use Rattle.next_law.proofs.Founded.{IsFounded, held-view}
 use Rattle.view_law.proofs.Links.{IsNewNode, known-links, new-links}
 use Rattle.view_law.proofs.RuledChangeset.{first-apart, partners-right, marked-changeset}
 use Rattle.view_law.proofs.RuledCommit.{marked-view}

@@ -1,8 +1,9 @@
-use Rattle.std.proofs.Common.{◌≡◌, ◌≢◌, ℕ, sym, ap, subst, ◌∙◌}
+use Rattle.std.proofs.Common.{◌≡◌, ◌≢◌, ℕ, Option, sym, ap, subst, ◌∙◌}
 use Rattle.text_model.specs.Text.{Bytes}
 use Rattle.command_model.specs.Command as model
 use Rattle.command_model.specs.Run as run
 use Rattle.command_model.specs.Across.{NamesLaw}
+use Rattle.closure_law.specs.Returned.{DumpReturns}
 use Rattle.bridge_cli.specs.Complete.{NoFault, Completes}
 use Rattle.bridge_cli.specs.Ends.{EndsBy}
 use Rattle.bridge_cli.specs.Outside.{TakesOrFails}
@@ -13,6 +14,7 @@ use Rattle.bridge_cli.specs.declared.report.Report.TheVariants.{Done}
 use Rattle.bridge_cli.specs.declared.status.Status.{Status}
 use Rattle.bridge_cli.proofs.AcrossLemmas.{done-is, names-hold}
 use Rattle.bridge_cli.proofs.CompleteLemmas.{complete-holds}
+use Rattle.bridge_cli.proofs.ReturnLemmas.{dump-returns}
 use Rattle.bridge_cli.proofs.RunLemmas.{takes-or-fails, of-words, no-words, ends-same, run-headline}
 use Rattle.bridge_cli.proofs.command.run.Goals.{in-Some, in-None}
 use Rattle.bridge_cli.proofs.command.run.Goals as goal
@@ -55,6 +57,25 @@ returns-clause-names g c = λ command e done.
           let holds = names-hold (command_value w.in-Some.command) input rest old new slot kept ends in
           let named = subst (λ (x : model.Command). NamesLaw x input slot kept) asked holds in
           subst (NamesLaw command input slot) (ap g.K.Slot.held (sym w.slot-is)) named
+      | in-None w ↦ absurd (no-words c.command.result _ command w.in-None.is c.command.ensures e)
+    ]
+
+pub returns-clause-returns : goal.returns-clause-returns
+returns-clause-returns g c = λ command e done.
+    let input = g.I.Source.left c.args.input.now in
+    let old = g.O.Sink.taken c.args.output.now in
+    let slot = g.K.Slot.held c.args.slot.now in
+    elim c.match-command.branch [
+      | in-Some w ↦
+          let asked = of-words c.command.result w.in-Some.command _ command w.in-Some.is c.command.ensures e in
+          let p = w.perform-report in
+          let ended = done-is (report_value p.result) (ap (λ (r : Report). status_of (report_value r)) (sym w.report-is) ∙ sym c.status.ensures ∙ done) in
+          let new = g.O.Sink.taken p.new.output in
+          let rest = g.I.Source.left p.new.input in
+          let kept = g.K.Slot.held p.new.slot in
+          let ends = subst (λ (r : run.Report). EndsBy (command_value w.in-Some.command) input rest old new slot kept r) ended p.ensures.ends in
+          let same = subst (λ (x : model.Command). DumpReturns x slot old new) asked (dump-returns (command_value w.in-Some.command) input rest old new slot kept ends) in
+          subst (λ (x : Option Bytes). DumpReturns command slot old x) (ap g.O.Sink.taken (sym w.output-is)) same
       | in-None w ↦ absurd (no-words c.command.result _ command w.in-None.is c.command.ensures e)
     ]
 

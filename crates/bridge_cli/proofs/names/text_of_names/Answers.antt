@@ -3,24 +3,24 @@ use Rattle.std.proofs.lemmas.Result.{err_from_is_err_and}
 use Rattle.bridge_cli.proofs.NamedLemmas.{names-make, names-unfetched}
 use Rattle.bridge_cli.proofs.names.text_of_names.Goals as goal
 
-pub returns-in_err-names_text-clause-makes : goal.returns-in_err-names_text-clause-makes
-returns-in_err-names_text-clause-makes g c = λ input.
-    let p = err_from_is_err_and c.from_residual-in_err-names_text.result c.from_residual-in_err-names_text.ensures.1 in
+pub returns-in_err-bytes-clause-makes : goal.returns-in_err-bytes-clause-makes
+returns-in_err-bytes-clause-makes g c = λ input.
+    let p = err_from_is_err_and c.from_residual-in_err-bytes.result c.from_residual-in_err-bytes.ensures.1 in
     rw (p.1, p.2) tt
 
-pub returns-in_err-names_text-clause-input : goal.returns-in_err-names_text-clause-input
-returns-in_err-names_text-clause-input g c = λ faults.
-    let p = err_from_is_err_and c.from_residual-in_err-names_text.result c.from_residual-in_err-names_text.ensures.1 in
+pub returns-in_err-bytes-clause-input : goal.returns-in_err-bytes-clause-input
+returns-in_err-bytes-clause-input g c = λ faults.
+    let p = err_from_is_err_and c.from_residual-in_err-bytes.result c.from_residual-in_err-bytes.ensures.1 in
     rw (p.1, p.2) refl
 
-pub returns-in_err-names_text-clause-slot : goal.returns-in_err-names_text-clause-slot
-returns-in_err-names_text-clause-slot g c =
-    let p = err_from_is_err_and c.from_residual-in_err-names_text.result c.from_residual-in_err-names_text.ensures.1 in
+pub returns-in_err-bytes-clause-slot : goal.returns-in_err-bytes-clause-slot
+returns-in_err-bytes-clause-slot g c =
+    let p = err_from_is_err_and c.from_residual-in_err-bytes.result c.from_residual-in_err-bytes.ensures.1 in
     rw (p.1, p.2) c.in_ok-state.ensures.cause
 
 pub returns-clause-makes : goal.returns-clause-makes
 returns-clause-makes g c = λ input.
-    names-make c.args.side (g.K.Slot.held c.args.slot.now) c.in_ok-state.state _ _ c.in_ok-state.ensures.state c.of.ensures.output c.of.ensures.text input c.in_ok-names_text.ensures
+    names-make c.args.side (g.K.Slot.held c.args.slot.now) c.in_ok-state.state _ _ c.in_ok-state.ensures.state c.of.ensures.output c.of.ensures.text input c.in_ok-bytes.ensures
 
 pub returns-in_err-state-clause-makes : goal.returns-in_err-state-clause-makes
 returns-in_err-state-clause-makes g c = λ input.

@@ -62,3 +62,21 @@ returns-in-NamesHg-clause-input g c = c.text_of_names.ensures.input (g.I.Source.
 
 pub returns-in-NamesGit-clause-input : goal.returns-in-NamesGit-clause-input
 returns-in-NamesGit-clause-input g c = c.text_of_names-in-NamesGit.ensures.input (g.I.Source.faults c.args.input.now)
+
+pub returns-in-Verify-clause-input : goal.returns-in-Verify-clause-input
+returns-in-Verify-clause-input g c = c.audit_of_history.ensures.input (g.I.Source.faults c.args.input.now)
+
+pub returns-in-Verify-clause-steps : goal.returns-in-Verify-clause-steps
+returns-in-Verify-clause-steps g c = rw c.in-Verify.is (c.audit_of_history.ensures.steps (g.I.Source.left c.args.input.now))
+
+pub returns-in-Make-clause-makes : goal.returns-in-Make-clause-makes
+returns-in-Make-clause-makes g c = rw c.in-Make.is (c.counts_of_made.ensures.makes (g.I.Source.left c.args.input.now) (g.K.Slot.held c.args.slot.now))
+
+pub returns-in-Make-clause-input : goal.returns-in-Make-clause-input
+returns-in-Make-clause-input g c = c.counts_of_made.ensures.input (g.I.Source.faults c.args.input.now)
+
+pub returns-in-Make-clause-slot : goal.returns-in-Make-clause-slot
+returns-in-Make-clause-slot g c = c.counts_of_made.ensures.slot (g.K.Slot.faults c.args.slot.now)
+
+pub returns-in-Make-clause-steps : goal.returns-in-Make-clause-steps
+returns-in-Make-clause-steps g c = rw c.in-Make.is (c.counts_of_made.ensures.steps (g.I.Source.left c.args.input.now) (g.K.Slot.held c.args.slot.now))

@@ -8,21 +8,21 @@ dump_git-requires g c =
     let f = c.in_ok-state.ensures.state in
     record { stands = (f.0, (f.1).stands) }
 
-pub returns-in_err-dump_git-clause-makes : goal.returns-in_err-dump_git-clause-makes
-returns-in_err-dump_git-clause-makes g c = λ input.
-    let p = err_from_is_err_and c.from_residual-in_err-dump_git.result c.from_residual-in_err-dump_git.ensures.1 in
+pub returns-in_err-bytes-clause-makes : goal.returns-in_err-bytes-clause-makes
+returns-in_err-bytes-clause-makes g c = λ input.
+    let p = err_from_is_err_and c.from_residual-in_err-bytes.result c.from_residual-in_err-bytes.ensures.1 in
     rw (p.1, p.2) tt
 
-pub returns-in_err-dump_git-clause-input : goal.returns-in_err-dump_git-clause-input
-returns-in_err-dump_git-clause-input g c = λ faults.
-    let p = err_from_is_err_and c.from_residual-in_err-dump_git.result c.from_residual-in_err-dump_git.ensures.1 in
+pub returns-in_err-bytes-clause-input : goal.returns-in_err-bytes-clause-input
+returns-in_err-bytes-clause-input g c = λ faults.
+    let p = err_from_is_err_and c.from_residual-in_err-bytes.result c.from_residual-in_err-bytes.ensures.1 in
     rw (p.1, p.2) refl
 
-pub returns-in_err-dump_git-clause-slot : goal.returns-in_err-dump_git-clause-slot
-returns-in_err-dump_git-clause-slot g c =
-    let p = err_from_is_err_and c.from_residual-in_err-dump_git.result c.from_residual-in_err-dump_git.ensures.1 in
+pub returns-in_err-bytes-clause-slot : goal.returns-in_err-bytes-clause-slot
+returns-in_err-bytes-clause-slot g c =
+    let p = err_from_is_err_and c.from_residual-in_err-bytes.result c.from_residual-in_err-bytes.ensures.1 in
     rw (p.1, p.2) c.in_ok-state.ensures.cause
 
 pub returns-clause-makes : goal.returns-clause-makes
 returns-clause-makes g c = λ input.
-    dump-git-makes (g.K.Slot.held c.args.slot.now) c.in_ok-state.state _ _ c.in_ok-state.ensures.state c.of.ensures.output c.of.ensures.text input c.in_ok-dump_git.ensures
+    dump-git-makes (g.K.Slot.held c.args.slot.now) c.in_ok-state.state _ _ c.in_ok-state.ensures.state c.of.ensures.output c.of.ensures.text input c.in_ok-bytes.ensures

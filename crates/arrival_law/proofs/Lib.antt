@@ -1,0 +1,6 @@
+pub mod Views
+pub mod Bundle
+pub mod Stream
+pub mod Objects
+pub mod Arrivals
+pub mod Whole

@@ -1,0 +1,4 @@
+pub mod Dumps
+pub mod Held
+pub mod Kept
+pub mod After

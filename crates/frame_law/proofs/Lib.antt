@@ -1,0 +1,12 @@
+pub mod Lists
+pub mod Frame
+pub mod Links
+pub mod Depths
+pub mod Kept
+pub mod First
+pub mod Sources
+pub mod Parity
+pub mod Fronts
+pub mod Bodies
+pub mod Rows
+pub mod Right

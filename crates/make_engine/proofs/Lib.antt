@@ -1,0 +1,4 @@
+pub mod MarkedLemmas
+pub mod LineLemmas
+pub mod TakenLemmas
+pub mod CountLemmas

@@ -1,0 +1,24 @@
+use Rattle.std.proofs.Common.{subst}
+use Rattle.text_model.specs.Text.{Bytes}
+use Rattle.state_model.specs.Kept.{kept_of, empty_state}
+use Rattle.saved_model.specs.Step.{OfStream, Refuses}
+use Rattle.pull_outcome.specs.Refused.{IsRefusedBy}
+use Rattle.pull_engine.specs.Read.{IsPulled}
+use Rattle.make_engine.specs.Taken.{RefusesAlone}
+use Rattle.make_engine.proofs.TakenLemmas.{taken, no-read, refused-alone}
+use Rattle.make_engine.proofs.taken.state_of_stream.Goals as goal
+
+pub returns-in-Ok-clause-taken : goal.returns-in-Ok-clause-taken
+returns-in-Ok-clause-taken g c =
+    let read = c.empty_is_read.ensures c.empty.result c.empty.ensures.state c.empty.ensures.revisions c.empty.ensures.objects c.empty.ensures.tags c.empty.ensures.names in
+    taken (OfStream c.args.stream.now) c.in-Ok.pulled c.args.steps.now c.pull_git.new.steps
+    (subst (λ (b : Bytes). IsPulled empty_state (OfStream b) c.in-Ok.pulled) c.new.ensures (c.in-Ok.ensures.pulled empty_state read)) c.in-Ok.ensures.steps
+
+pub of_pull-requires : goal.of_pull-requires
+of_pull-requires g c = record { no_read = no-read c.in-Err.fault c.in-Err.ensures.cause }
+
+pub returns-in-Err-clause-refused : goal.returns-in-Err-clause-refused
+returns-in-Err-clause-refused g c =
+    let read = c.empty_is_read.ensures c.empty.result c.empty.ensures.state c.empty.ensures.revisions c.empty.ensures.objects c.empty.ensures.tags c.empty.ensures.names in
+    let due = subst (λ (b : Bytes). IsRefusedBy (Refuses (kept_of empty_state) (OfStream b)) c.in-Err.fault) c.new.ensures (c.in-Err.ensures.refused empty_state read) in
+    rw c.of_pull.ensures (refused-alone (RefusesAlone (OfStream c.args.stream.now)) c.in-Err.fault due)

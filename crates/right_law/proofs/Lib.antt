@@ -1,0 +1,9 @@
+pub mod Exact
+pub mod Order
+pub mod Judged
+pub mod Changesets
+pub mod Accepted
+pub mod Bodies
+pub mod Brought
+pub mod Closed
+pub mod Maps

@@ -1,0 +1,12 @@
+pub mod Partners
+pub mod SameCommits
+pub mod SameBodies
+pub mod Grounds
+pub mod Rows
+pub mod Turns
+pub mod Walks
+pub mod Found
+pub mod Judgements
+pub mod Compared
+pub mod Verdicts
+pub mod Audits

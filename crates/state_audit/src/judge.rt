@@ -1,0 +1,86 @@
+// One block of a saved history, over the blocks before it.
+ghost use Rattle.std.specs.Prelude.{◌≡◌, ◌≤◌, ◌+◌, [], List, IfOk};
+ghost use Rattle.view_model.specs.View.{CommitView};
+ghost use Rattle.pair_model.specs.Block.{Block};
+ghost use Rattle.state_model.specs.Kept as saved;
+ghost use Rattle.pair_known.specs.Drafts.{IsHgDraft};
+ghost use Rattle.state_audit.specs.Before.{IsPartnerHere};
+ghost use Rattle.state_audit.specs.Audited.{IsTurn, IsJudged};
+
+use crate::bodies::have_bodies;
+use crate::checked::{Checked, part_of};
+use crate::kept::{has_links, is_kept, text_of};
+use crate::late::comes_late;
+use crate::partner::partner_of;
+use bridge_io::Steps;
+use bridge_text::{Id, Kind, NoMemory, object_id};
+use hg_view::views_are_held;
+use pair_known::{GitDraft, HgDraft, draft_of_changeset};
+use pair_state::State;
+use std::sync::ledger::Ledger;
+
+/// What a block is found to be.
+#[derive(Clone, Copy, Debug, PartialEq, Eq)]
+pub enum Judgement {
+    /// It is right.
+    Right,
+    /// It isn't. This is the id of the right commit: the null id where the changeset has no partner, and where only links or bodies differ.
+    Wrong(Id),
+}
+
+/// Judges the block at this place of a saved state, which is the next one behind those that were found right.
+pub fn judge<L: Ledger>(
+    state: &State,
+    place: usize,
+    checked: &Checked,
+    steps: &mut Steps<L>,
+) -> Result<Judgement, NoMemory>
+    requires turn { (m : saved.State) × (front : List Block) × (b : Block) × (rest : List Block) × IsTurn state.now place checked.now m front b rest }
+    ensures judged { IfOk result (λ judgement. (m : saved.State) (front : List Block) (b : Block) (rest : List Block) → IsTurn state.now place checked.now m front b rest
+        → IsJudged state.now.known.hg state.now.known.git front b judgement) }
+    ensures steps { (steps.old ≤ steps.new) × (steps.new ≤ steps.old + 18) }
+{
+    let known = state.known();
+    let node = &state.blocks().at(place).node;
+    views_are_held(&known.hg, node);
+    let h = draft_of_changeset(state.alloc(), known, node)?;
+    match partner_of(state.alloc(), known, &h, &checked.nodes, steps)? {
+        Some(partner) => judge_with(state, place, checked, &h, &partner),
+        None => Ok(Judgement::Wrong(Id::NULL)),
+    }
+}
+
+// The same where the changeset has a partner, unless a parent of a file or of the manifest comes too late.
+fn judge_with(
+    state: &State,
+    place: usize,
+    checked: &Checked,
+    h: &HgDraft,
+    partner: &GitDraft,
+) -> Result<Judgement, NoMemory>
+    requires partner { (m : saved.State) × (front : List Block) × (b : Block) × (rest : List Block) × (c : CommitView) × IsTurn state.now place checked.now m front b rest
+        × IsHgDraft state.now.known.hg h.now b.changeset × IsPartnerHere state.now.known m.blocks front b.changeset partner.now c }
+    requires nothing_fresh { h.now.fresh ≡ [] }
+    ensures { IfOk result (λ judgement. (m : saved.State) (front : List Block) (b : Block) (rest : List Block) (c : CommitView) → IsTurn state.now place checked.now m front b rest
+        → IsHgDraft state.now.known.hg h.now b.changeset → IsPartnerHere state.now.known m.blocks front b.changeset partner.now c
+        → IsJudged state.now.known.hg state.now.known.git front b judgement) }
+{
+    let known = state.known();
+    if comes_late(&known.hg, &checked.referred, h) {
+        return Ok(Judgement::Wrong(Id::NULL));
+    }
+    let block = state.blocks().at(place);
+    let text = text_of(state.alloc(), &partner.commit)?;
+    if !is_kept(state.alloc(), known, &block.commit, partner, &text)? {
+        return Ok(Judgement::Wrong(object_id(Kind::Commit, &text)));
+    }
+    let nodes = state.changesets().as_slice();
+    let links = part_of(nodes, checked.changesets, usize::from(block.links));
+    if !has_links(state.alloc(), known, partner, links)? {
+        return Ok(Judgement::Wrong(Id::NULL));
+    }
+    if !have_bodies(known, &checked.referred, h.rows.as_slice()) {
+        return Ok(Judgement::Wrong(Id::NULL));
+    }
+    Ok(Judgement::Right)
+}

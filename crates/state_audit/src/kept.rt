@@ -1,0 +1,103 @@
+// Whether the commit of a block is the partner of its changeset.
+ghost use Rattle.std.specs.Prelude.{◌≡◌, ◌↔◌, List, map, None, IfOk, IsTrue, bytes_eq};
+ghost use Rattle.git_model.specs.Commit.{commit_text};
+ghost use Rattle.git_model.specs.Unfold.{walk_fault};
+ghost use Rattle.view_model.specs.View.{ChangesetView, CommitView, SameCommit, changeset_node};
+ghost use Rattle.view_model.specs.Held.{IsCommitHeld};
+ghost use Rattle.pair_model.specs.Block.{Block};
+ghost use Rattle.pair_model.specs.Octopus as octopus;
+ghost use Rattle.pair_known.specs.Ruled.{IsMadeCommit};
+ghost use Rattle.pair_choice.specs.Chosen.{IsChosenCommit};
+
+use bridge_text::{Id, IdList, NoMemory};
+use git_object::{Commit, Objects};
+use git_store::GitStore;
+use git_view::commits_are_held;
+use link_rule::link_nodes;
+use pair_known::{GitDraft, Known, draft_of_commit};
+use std::alloc::Global;
+use tree_shape::{FileRow, Files};
+
+/// Whether the commit with this id is the one that a draft stands for, whose text this is: they have the same fields, and the same files by path, mode and id.
+pub fn is_kept(
+    alloc: Global,
+    known: &Known,
+    id: &Id,
+    partner: &GitDraft,
+    text: &[u8],
+) -> Result<bool, NoMemory>
+    requires held { (e : CommitView) × IsCommitHeld known.now.git id.now e × (walk_fault known.now.git (e.value).tree_id ≡ None) }
+    requires text { text.now ≡ commit_text partner.now.commit }
+    ensures { IfOk result (λ same. (e c : CommitView) → IsCommitHeld known.now.git id.now e → IsMadeCommit known.now.git partner.now c → (IsTrue same ↔ SameCommit e c)) }
+{
+    commits_are_held(&known.git, id);
+    if !has_text(&known.git, id, text) {
+        return Ok(false);
+    }
+    let kept = draft_of_commit(alloc, known, id)?;
+    Ok(are_same_files(&kept.files, &partner.files))
+}
+
+// Whether the commit with this id has this text.
+fn has_text(git: &GitStore, id: &Id, text: &[u8]) -> bool
+    ensures { (e : CommitView) → IsCommitHeld git.now id.now e → result ≡ bytes_eq (commit_text e.value) text.now }
+{
+    match git.content(id) {
+        Some((_, content)) => content == text,
+        None => false,
+    }
+}
+
+// Whether two lists of files are the same.
+fn are_same_files(a: &Files, b: &Files) -> bool
+    ensures { IsTrue result ↔ (a.now ≡ b.now) }
+{
+    if a.len() != b.len() {
+        return false;
+    }
+    for place in 0..a.len() {
+        if !is_same_file(a.at(place), b.at(place)) {
+            return false;
+        }
+    }
+    true
+}
+
+fn is_same_file(a: &FileRow, b: &FileRow) -> bool
+    ensures { IsTrue result ↔ (a.now ≡ b.now) }
+{
+    a.path() == b.path() && a.mode() == b.mode() && a.blob() == b.blob()
+}
+
+/// The text of a commit.
+pub fn text_of(alloc: Global, commit: &Commit) -> Result<Vec<u8>, NoMemory>
+    ensures { IfOk result (λ text. text.items ≡ commit_text commit.now) }
+{
+    let mut text = Vec::new(alloc);
+    commit.write_into(&mut text)?;
+    Ok(text)
+}
+
+/// Whether these are the nodes of the links of a partner; it has none where it has at most two parents.
+pub fn has_links(
+    alloc: Global,
+    known: &Known,
+    partner: &GitDraft,
+    links: &[Id],
+) -> Result<bool, NoMemory>
+    requires chosen { (blocks : List Block) × (v : ChangesetView) × (c : CommitView) × IsChosenCommit known.now blocks v partner.now c }
+    ensures { IfOk result (λ same. (blocks : List Block) (v : ChangesetView) (c : CommitView) → IsChosenCommit known.now blocks v partner.now c
+        → (IsTrue same ↔ (links.now ≡ map changeset_node (octopus.links_of blocks c)))) }
+{
+    if partner.commit.parents.len() <= 2 {
+        return Ok(links.is_empty());
+    }
+    let nodes = link_nodes(alloc, known, partner)?;
+    Ok(are_same_nodes(&nodes, links))
+}
+
+fn are_same_nodes(nodes: &IdList, links: &[Id]) -> bool
+    ensures { IsTrue result ↔ (links.now ≡ nodes.now) }
+{
+    nodes.as_slice() == links
+}

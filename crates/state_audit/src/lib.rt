@@ -1,0 +1,14 @@
+//! The audit of a saved history: whether each block is the one that its changeset gets, and its blobs are the bodies.
+#![tactic(auto)]
+
+mod audit;
+mod bodies;
+mod checked;
+mod judge;
+mod kept;
+mod late;
+mod partner;
+mod verdict;
+
+pub use audit::verify;
+pub use verdict::Verdict;

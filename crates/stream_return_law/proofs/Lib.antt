@@ -1,0 +1,11 @@
+pub mod Way
+pub mod Bodies
+pub mod Parts
+pub mod Commits
+pub mod Placement
+pub mod Outcome
+pub mod Accepted
+pub mod On
+pub mod Brought
+pub mod Ones
+pub mod Whole
