@@ -9,7 +9,7 @@ use Rattle.saved_model.specs.Step.{Pull, Steps, Refuses}
 use Rattle.history_law.proofs.Accepted.{no-pulls}
 use Rattle.history_law.proofs.Blocks.{refused}
 use Rattle.history_law.proofs.States.{goes-on}
-use Rattle.pull_engine.proofs.Empty.{is-state}
+use Rattle.next_law.proofs.EmptySaved.{is-state}
 use Rattle.closure_law.specs.After.{IsSavedAfter, IsRightAfter}
 use Rattle.closure_law.proofs.Dumps.{dumps-return}
 use Rattle.closure_law.proofs.Kept.{kept-right, empty-right}

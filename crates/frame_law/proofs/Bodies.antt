@@ -18,7 +18,7 @@ use Rattle.partner_model.specs.Given.{Peels}
 use Rattle.partner_model.specs.Table.{AreBlobsApart}
 use Rattle.partner_model.specs.Clash.{body_object, do_bodies_collide, IsColliding, MeetsCollision}
 use Rattle.partner_law.proofs.Agreeing.{IsHeld}
-use Rattle.frame_law.proofs.Sources.{source_by}
+use Rattle.partner_law.proofs.Agreeing.{source_by}
 use Rattle.partner_law.proofs.Given.{ruled_by, revision_is}
 
 -- no two of the objects have one id and differ

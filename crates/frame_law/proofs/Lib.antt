@@ -4,8 +4,6 @@ pub mod Links
 pub mod Depths
 pub mod Kept
 pub mod First
-pub mod Sources
-pub mod Parity
 pub mod Fronts
 pub mod Bodies
 pub mod Rows

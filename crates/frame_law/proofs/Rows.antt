@@ -8,7 +8,7 @@ use Rattle.text_model.proofs.Elements.{each_in}
 use Rattle.view_model.specs.View.{Row, ChangesetView, CommitView, changeset_node, commit_id}
 use Rattle.pair_model.specs.Block.{Block, changesets_in, view_at, view_or_none, no_changeset}
 use Rattle.pair_model.specs.Octopus.{link_view, links_over, links_by, links_of, partners_of_parents}
-use Rattle.frame_law.proofs.Sources.{view_found}
+use Rattle.partner_law.proofs.Agreeing.{view_found}
 use Rattle.frame_law.proofs.Fronts.{changesets_front}
 
 pub changesets_push : (front : List Block) (b : Block) → changesets_in (front ++ b ∷ []) ≡ changesets_in front ++ (b.links ++ b.changeset ∷ [])

@@ -35,3 +35,4 @@ pub mod Added
 pub mod ReadHg
 pub mod DumpLeft
 pub mod Founded
+pub mod EmptySaved

@@ -41,7 +41,7 @@ row_found path (x ∷ xs) r h = by (bytes_eq x.path path) refl (row_found path x
         let t = go g in
         (t.0, inr t.1, t.2)
 
-view_found : (views : List ChangesetView) (node : Id) (v : ChangesetView) → view_at views node ≡ Some v → In v views
+pub view_found : (views : List ChangesetView) (node : Id) (v : ChangesetView) → view_at views node ≡ Some v → In v views
 view_found [] node v h = absurd cc
 view_found (x ∷ xs) node v h = by (bytes_eq (changeset_node x) node) refl (view_found xs node v)
   where
@@ -76,7 +76,7 @@ with_body_held id (Some s) r h = by (bytes_eq (blob_id s.body) id) refl
         absurd cc
 
 -- the revision of the rule is held, or has the content as its body
-source_by : (views : List ChangesetView) (p q : Id) (path : Bytes) (id : Id) (content : Bytes) →
+pub source_by : (views : List ChangesetView) (p q : Id) (path : Bytes) (id : Id) (content : Bytes) →
     IsHeld views (ruled_by (revision_at (view_or_none views p).rows path) (revision_at (view_or_none views q).rows path) id content)
     ⊎ ((ruled_by (revision_at (view_or_none views p).rows path) (revision_at (view_or_none views q).rows path) id content).body ≡ content)
 source_by views p q path id content = by (with_body id e1) (with_body id e2) refl refl

@@ -10,15 +10,15 @@ use Rattle.unmark_law.proofs.Same.{same_changeset, same_commit}
 use Rattle.depth_law.proofs.Falls.{IsBare, plain_is_bare}
 use Rattle.depth_law.proofs.Depths.{unmarking_one, bare_or_not}
 
-plain_depth : (blocks : List Block) (Known : ChangesetView → Type 0) (m : Member) → IsPlain blocks m → HasEvenDepth blocks Known m
+pub plain_depth : (blocks : List Block) (Known : ChangesetView → Type 0) (m : Member) → IsPlain blocks m → HasEvenDepth blocks Known m
 unfolding HasDepth
 plain_depth blocks Known m p = (0, refl, inl p)
 
-odd_above : (blocks : List Block) (Known : ChangesetView → Type 0) (m k : Member) → Unmarks blocks Known m k → (¬ (IsBare m)) → HasEvenDepth blocks Known k → HasOddDepth blocks Known m
+pub odd_above : (blocks : List Block) (Known : ChangesetView → Type 0) (m k : Member) → Unmarks blocks Known m k → (¬ (IsBare m)) → HasEvenDepth blocks Known k → HasOddDepth blocks Known m
 unfolding HasDepth
 odd_above blocks Known m k u n e = (suc e.0, omega (arith, e.1), ((λ p. n (plain_is_bare blocks m p)), k, u, e.2))
 
-even_below : (blocks : List Block) (Known : ChangesetView → Type 0) → IsTable blocks → AreApart Known → (m k : Member) → Unmarks blocks Known m k → HasOddDepth blocks Known m → HasEvenDepth blocks Known k
+pub even_below : (blocks : List Block) (Known : ChangesetView → Type 0) → IsTable blocks → AreApart Known → (m k : Member) → Unmarks blocks Known m k → HasOddDepth blocks Known m → HasEvenDepth blocks Known k
 unfolding HasDepth
 even_below blocks Known t a m k u o = by o.0 o.1 o.2
   where

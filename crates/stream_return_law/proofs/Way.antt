@@ -20,10 +20,10 @@ use Rattle.depth_law.proofs.Falls.{IsBare, plain_is_bare}
 use Rattle.depth_law.proofs.Depths.{bare_or_not, unmarking_one}
 use Rattle.depth_law.proofs.PlainCommit.{plain_commit, commit_is_plain, commit_paired}
 use Rattle.partner_law.proofs.Agreeing.{IsHeld, unmarks_from}
-use Rattle.frame_law.proofs.Sources.{source_by}
+use Rattle.partner_law.proofs.Agreeing.{source_by}
 use Rattle.partner_law.proofs.Given.{ruled_by, revision_is}
 use Rattle.partner_law.proofs.Choices.{depth_is_below}
-use Rattle.frame_law.proofs.Parity.{plain_depth, odd_above, even_below}
+use Rattle.partner_law.proofs.Returns.{plain_depth, odd_above, even_below}
 
 -- ---- the rows of a marked changeset
 
