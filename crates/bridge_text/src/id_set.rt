@@ -8,9 +8,14 @@ use std::alloc::Global;
 use std::marker::Model;
 
 /// A set of ids. Contracts see the list of the ids, each once, in the order in which they came.
-#[derive(Drop)]
 pub struct IdSet {
     ids: IndexSet<Id>,
+}
+
+impl Drop for IdSet {
+    fn drop(self) {
+        let IdSet { ids: _ } = self;
+    }
 }
 
 impl Model for IdSet {

@@ -8,22 +8,15 @@ use hg_changeset::{Changeset, DateLine, Extras};
 use name_rule::UserDate;
 use std::alloc::Global;
 
-/// The changeset with the given date and these extras.
-pub fn dated(plain: Changeset, given: &UserDate, extras: Extras) -> Changeset
-    ensures { changeset_value result ≡ record (changeset_value plain) { date = Plain given.now.time given.now.tz extras } }
+/// Gives a changeset the given date and these extras.
+pub fn set_date(changeset: &mut Changeset, given: &UserDate, extras: Extras)
+    ensures { changeset_value changeset.new ≡ record (changeset_value changeset.old) { date = Plain given.now.time given.now.tz extras } }
 {
-    let date = DateLine::Plain {
+    changeset.date = DateLine::Plain {
         time: given.time,
         tz: given.tz,
         extras,
     };
-    Changeset {
-        manifest: plain.manifest,
-        user: plain.user,
-        date,
-        files: plain.files,
-        desc: plain.desc,
-    }
 }
 
 /// The text of a changeset.

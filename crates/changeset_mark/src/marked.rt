@@ -9,7 +9,7 @@ ghost use Rattle.pair_known.specs.declared.fault.PairFault.TheVariants.{PairLimi
 ghost use Rattle.partner_model.specs.Mark as mark;
 ghost use Rattle.changeset_mark.specs.Marks.{HasDateOf};
 
-use crate::dated::{dated, text_of};
+use crate::dated::{set_date, text_of};
 use crate::marks::marks_of;
 use bridge_text::{Bytes, NoMemory};
 use changeset_rule::{changeset_fits, make_changeset};
@@ -59,36 +59,9 @@ fn with_extras(
         return Ok(plain);
     }
     extras.are_extras();
-    let HgDraft {
-        p1,
-        p2,
-        changeset,
-        manifest,
-        rows,
-        fresh,
-        texts,
-    } = plain;
-    let changeset = dated(changeset, given, extras);
-    let text = text_of(alloc, &changeset)?;
-    let texts = with_text(texts, text);
-    Ok(HgDraft {
-        p1,
-        p2,
-        changeset,
-        manifest,
-        rows,
-        fresh,
-        texts,
-    })
-}
-
-// The texts with another one of the changeset.
-fn with_text(texts: DraftTexts, text: Bytes) -> DraftTexts
-    ensures changeset { result.changeset ≡ Some text }
-    ensures manifest { result.manifest ≡ texts.manifest }
-{
-    DraftTexts {
-        changeset: Some(text),
-        manifest: texts.manifest,
-    }
+    let mut marked = plain;
+    set_date(&mut marked.changeset, given, extras);
+    let text = text_of(alloc, &marked.changeset)?;
+    marked.texts.changeset = Some(text);
+    Ok(marked)
 }

@@ -47,20 +47,7 @@ pub fn made_of(
 fn with_tree(head: Commit, tree: Id) -> Commit
     ensures { result ≡ record head { tree_id = tree } }
 {
-    let Commit {
-        tree: _,
-        parents,
-        author,
-        committer,
-        headers,
-        message,
-    } = head;
-    Commit {
-        tree,
-        parents,
-        author,
-        committer,
-        headers,
-        message,
-    }
+    let mut commit = head;
+    commit.tree = tree;
+    commit
 }

@@ -12,7 +12,7 @@ use std::alloc::Global;
 use std::marker::Model;
 
 /// A commit.
-#[derive(Debug, Drop)]
+#[derive(Debug)]
 pub struct Commit {
     /// The id of its tree.
     pub tree: Id,
@@ -26,6 +26,19 @@ pub struct Commit {
     pub headers: Bytes,
     /// The message, which is all that follows the blank line.
     pub message: Bytes,
+}
+
+impl Drop for Commit {
+    fn drop(self) {
+        let Commit {
+            tree: _,
+            parents: _,
+            author: _,
+            committer: _,
+            headers: _,
+            message: _,
+        } = self;
+    }
 }
 
 impl Model for Commit {

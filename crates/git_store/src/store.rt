@@ -14,10 +14,18 @@ use std::marker::Model;
 
 /// Git objects by their ids. Contracts see the list of them, in the order in which they came: of no two is the id the
 /// same, and each id is that of its kind and content.
-#[derive(Drop)]
 pub struct GitStore {
     alloc: Global,
     objects: IndexMap<Id, Held>,
+}
+
+impl Drop for GitStore {
+    fn drop(self) {
+        let GitStore {
+            alloc: _,
+            objects: _,
+        } = self;
+    }
 }
 
 impl Model for GitStore {

@@ -19,13 +19,23 @@ use std::alloc::Global;
 use std::collections::BTreeMap;
 
 /// The revisions to which changesets refer, group by group.
-#[derive(Drop)]
 pub struct Brought {
     alloc: Global,
     pub changesets: References,
     pub manifests: References,
     /// By the paths of the files.
     pub files: BTreeMap<Vec<u8>, References>,
+}
+
+impl Drop for Brought {
+    fn drop(self) {
+        let Brought {
+            alloc: _,
+            changesets: _,
+            manifests: _,
+            files: _,
+        } = self;
+    }
 }
 
 impl Brought {

@@ -15,10 +15,15 @@ pub struct Reference {
 }
 
 /// The revisions of a group to which changesets refer.
-#[derive(Drop)]
 pub struct References {
     met: IdSet,
     brought: Vec<Reference>,
+}
+
+impl Drop for References {
+    fn drop(self) {
+        let References { met: _, brought: _ } = self;
+    }
 }
 
 impl Model for References {

@@ -15,12 +15,22 @@ use std::marker::Model;
 
 /// Mercurial's revisions of all kinds. Contracts see the list of them, in the order in which they came.
 /// A node stands once in a group: the changesets, the manifests, or the revisions of the file at a path.
-#[derive(Drop)]
 pub struct HgStore {
     alloc: Global,
     paths: IndexSet<Vec<u8>>,
     revisions: IndexMap<Key, Held>,
     null_manifest: Manifest,
+}
+
+impl Drop for HgStore {
+    fn drop(self) {
+        let HgStore {
+            alloc: _,
+            paths: _,
+            revisions: _,
+            null_manifest: _,
+        } = self;
+    }
 }
 
 impl Model for HgStore {

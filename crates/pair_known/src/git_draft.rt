@@ -19,7 +19,6 @@ use std::alloc::Global;
 use tree_shape::{Files, TreeFault, TreeList, flatten};
 
 /// A commit with all that it stands for.
-#[derive(Drop)]
 pub struct GitDraft {
     /// Its fields.
     pub commit: Commit,
@@ -29,6 +28,33 @@ pub struct GitDraft {
     pub fresh: FreshBlobs,
     /// The trees that were made for it, subtrees before trees; none where the store holds the commit.
     pub trees: TreeList,
+}
+
+impl Drop for GitDraft {
+    fn drop(self) {
+        let GitDraft {
+            commit: _,
+            files: _,
+            fresh: _,
+            trees: _,
+        } = self;
+    }
+}
+
+impl GitDraft {
+    /// The objects that come with it: its blobs and its trees.
+    pub fn into_objects(self) -> (FreshBlobs, TreeList)
+        ensures blobs { result.0 ≡ self.fresh }
+        ensures trees { result.1 ≡ self.trees }
+    {
+        let GitDraft {
+            commit: _,
+            files: _,
+            fresh,
+            trees,
+        } = self;
+        (fresh, trees)
+    }
 }
 
 /// The draft of a commit that is held, whose tree stands for files. No blob is copied, and nothing is hashed.

@@ -69,10 +69,15 @@ impl HgDrafts {
 }
 
 /// The changesets of a block: the links of a commit of three and more parents, and its changeset.
-#[derive(Drop)]
 pub struct HgBlock {
     /// The links, of which each is the first parent of the next; none for a commit of at most two parents.
     pub links: HgDrafts,
     /// The changeset.
     pub last: HgDraft,
+}
+
+impl Drop for HgBlock {
+    fn drop(self) {
+        let HgBlock { links: _, last: _ } = self;
+    }
 }

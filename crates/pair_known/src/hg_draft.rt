@@ -24,7 +24,6 @@ use mark_code::ManifestRev;
 use std::alloc::Global;
 
 /// A changeset with all that it stands for.
-#[derive(Drop)]
 pub struct HgDraft {
     /// The node of the first parent, or the null id.
     pub p1: Id,
@@ -40,6 +39,20 @@ pub struct HgDraft {
     pub fresh: FreshFiles,
     /// Texts that were made for it.
     pub texts: DraftTexts,
+}
+
+impl Drop for HgDraft {
+    fn drop(self) {
+        let HgDraft {
+            p1: _,
+            p2: _,
+            changeset: _,
+            manifest: _,
+            rows: _,
+            fresh: _,
+            texts: _,
+        } = self;
+    }
 }
 
 /// The draft of a changeset that has a view, as each one of a history that is stored has. No body is copied, and nothing is hashed.

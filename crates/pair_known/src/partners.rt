@@ -8,10 +8,15 @@ use std::marker::Model;
 
 /// Changesets and commits that are each other's partners, by the nodes of the ones and the ids of the others. Contracts
 /// see the pairs of a node and an id, in the order in which they came.
-#[derive(Drop)]
 pub struct Partners {
     git: IndexMap<Id, Id>,
     hg: IndexMap<Id, Id>,
+}
+
+impl Drop for Partners {
+    fn drop(self) {
+        let Partners { git: _, hg: _ } = self;
+    }
 }
 
 impl Model for Partners {

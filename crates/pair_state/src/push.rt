@@ -245,7 +245,8 @@ fn add_commit(git: &mut GitStore, commit: GitDraft, id: Id, text: Vec<u8>) -> Re
     ensures sound { OnOk result (AreKnown git.new) }
     ensures collision { result ≡ Err Collision → Clash git.old (commit.fresh ++ commit.trees ++ record { id = id; kind = kinds.commit; content = text.items } ∷ []) }
 {
-    add_blobs(git, commit.fresh)?;
-    add_trees(git, commit.trees)?;
+    let (fresh, trees) = commit.into_objects();
+    add_blobs(git, fresh)?;
+    add_trees(git, trees)?;
     add_object(git, id, Kind::Commit, text)
 }

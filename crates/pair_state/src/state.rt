@@ -16,9 +16,14 @@ use std::marker::Model;
 ///
 /// Each changeset that it holds stands in a block of its history, and each manifest and file revision is that of one of these changesets. Contracts
 /// see its parts.
-#[derive(Drop)]
 pub struct State {
     parts: StateParts,
+}
+
+impl Drop for State {
+    fn drop(self) {
+        let State { parts: _ } = self;
+    }
 }
 
 impl Model for State {
@@ -60,7 +65,8 @@ impl State {
         ensures parts { result ≡ self }
         ensures history { (blocks : List Block) × HasAllBlocks result blocks }
     {
-        self.parts
+        let State { parts } = self;
+        parts
     }
 
     /// The allocator from which the state takes its memory.

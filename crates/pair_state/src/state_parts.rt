@@ -12,7 +12,6 @@ use std::alloc::Global;
 
 /// The parts of a state while a pull changes them: what both sides hold, the pairs of their history in its order, and the tags
 /// and names that are kept. A changeset that came may still be without its block.
-#[derive(Drop)]
 pub struct StateParts {
     /// Mercurial's revisions, Git's objects and the partners of changesets and commits.
     pub known: Known,
@@ -30,6 +29,21 @@ pub struct StateParts {
     pub agreed: IdSet,
     /// The allocator from which the state takes its memory.
     pub alloc: Global,
+}
+
+impl Drop for StateParts {
+    fn drop(self) {
+        let StateParts {
+            known: _,
+            blocks: _,
+            changesets: _,
+            commits: _,
+            tags: _,
+            names: _,
+            agreed: _,
+            alloc: _,
+        } = self;
+    }
 }
 
 impl StateParts {

@@ -21,9 +21,14 @@ use std::alloc::Global;
 use std::marker::Model;
 
 /// Refs, of which no two have one name. Contracts see the list.
-#[derive(Drop)]
 pub struct Rows {
     ids: IndexMap<Vec<u8>, Id>,
+}
+
+impl Drop for Rows {
+    fn drop(self) {
+        let Rows { ids: _ } = self;
+    }
 }
 
 impl Model for Rows {

@@ -15,9 +15,14 @@ use std::marker::Model;
 
 /// How many rows stand below each tree, their sizes, the longest path and the most components. Contracts see which trees
 /// are summed.
-#[derive(Drop)]
 pub struct Sums {
     known: IndexMap<Id, Sum>,
+}
+
+impl Drop for Sums {
+    fn drop(self) {
+        let Sums { known: _ } = self;
+    }
 }
 
 impl Model for Sums {
