@@ -1,24 +1,20 @@
 -- Known links lead from a changeset's first parent to the partners of its commit's parents.
-use Rattle.std.proofs.Common.{◌≡◌, ◌≤◌, ◌<◌, ◌+◌, ◌-◌, ◌^◌, ℕ, zero, suc, Bool, true, false, true≢false, List, [], ◌∷◌, ◌++◌, length, length-append, map, Option, Some, None, refl, sym, ap, subst, ◌∙◌, arith, append_assoc, le-leb}
-use Rattle.std.specs.Prelude.{◌&&◌, ◌==◌, nat_le, MatchOption, bytes_eq, decimal}
-use Rattle.std.specs.List.{slice_split, list_all}
+use Rattle.std.proofs.Common.{◌≡◌, ◌≤◌, ◌<◌, ◌+◌, ◌-◌, ◌^◌, ℕ, zero, suc, Bool, true, false, true≢false, List, [], ◌∷◌, ◌++◌, length, length-append, map, Option, Some, None, refl, sym, ap, subst, ◌∙◌, arith, append_assoc}
+use Rattle.std.specs.Prelude.{◌&&◌, MatchOption, bytes_eq, decimal}
 use Rattle.std.proofs.lemmas.Bool.{and_parts}
 use Rattle.std.proofs.lemmas.Slice.Eq.{bytes_eq-Decides}
-use Rattle.text_model.specs.Cuts.{Lacks}
 use Rattle.text_model.specs.Lists.{Each}
-use Rattle.text_model.specs.Text.{Bytes, is_digit}
-use Rattle.text_model.specs.Id.{Id, IsId, is_null, node_id, hex, is_lower_digit}
+use Rattle.text_model.specs.Text.{Bytes}
+use Rattle.text_model.specs.Id.{Id, IsId, is_null, node_id}
 use Rattle.text_model.proofs.EachLemmas.{Each-append}
-use Rattle.text_model.proofs.DecimalLemmas.{number_of-decimal, is_decimal-decimal, digits-is_decimal}
-use Rattle.text_model.proofs.HexLemmas.{is_hex_id-hex}
 use Rattle.text_model.proofs.Options.{some_is}
-use Rattle.text_model.proofs.TestLemmas.{differs}
 use Rattle.hg_model.specs.Changeset.{Changeset, IsChangesetText, changeset_text}
 use Rattle.hg_model.specs.Revision.{Revision, Changesets, revision_of}
 use Rattle.hg_store.specs.Known.{AreAdded}
 use Rattle.pair_known.proofs.HeldViews.{held-as}
 use Rattle.view_model.specs.View.{Row, SameRows, ChangesetView, changeset_node, SameChangeset}
-use Rattle.pair_model.specs.Octopus.{link_value, link_view, links_over, is_link, is_link_value, last_id}
+use Rattle.pair_model.specs.Octopus.{link_view, links_over, is_link, last_id}
+use Rattle.pair_model.proofs.LinkValues.{value-parts, value-right}
 use Rattle.partner_model.specs.Filled.{is_numbered, Walks}
 use Rattle.partner_model.specs.Partner.{IsHeldView, IsKnownAs}
 
@@ -32,60 +28,19 @@ one-walk known n (suc k) node a b h j =
     let front = one-walk known n k (j.0).p h.5 j.5 (subst (λ (r : Revision). Walks known n k r.p h.5) same h.6) j.6 in
     h.7 ∙ (λ i. front i ++ (same i).q ∷ []) ∙ sym j.7
 
--- ---- the value of a link
-
-split-at : (front rest : Bytes) → Lacks 58 front → slice_split (λ b. b == 58) (front ++ 58 ∷ rest) ≡ front ∷ slice_split (λ b. b == 58) rest
-split-at [] rest h = refl
-split-at (x ∷ xs) rest h = rw (differs x 58 h.0, split-at xs rest h.1) refl
-
-split-one : (part : Bytes) → Lacks 58 part → slice_split (λ b. b == 58) part ≡ part ∷ []
-split-one [] h = refl
-split-one (x ∷ xs) h = rw (differs x 58 h.0, split-one xs h.1) refl
-
-lower-lacks : (text : Bytes) → list_all is_lower_digit text ≡ true → Lacks 58 text
-lower-lacks [] h = tt
-lower-lacks (b ∷ text) h =
-    let parts = and_parts (is_lower_digit b) (list_all is_lower_digit text) h in
-    (λ e. true≢false (sym parts.0 ∙ ap is_lower_digit e), lower-lacks text parts.1)
-
-hex-lacks : (id : Id) → IsId id → Lacks 58 (hex id)
-hex-lacks id is = lower-lacks (hex id) (and_parts (length (hex id) == 40) (list_all is_lower_digit (hex id)) (is_hex_id-hex id is)).1
-
-digits-lack : (text : Bytes) → list_all is_digit text ≡ true → Lacks 58 text
-digits-lack [] h = tt
-digits-lack (b ∷ text) h =
-    let parts = and_parts (is_digit b) (list_all is_digit text) h in
-    (λ e. true≢false (sym parts.0 ∙ ap is_digit e), digits-lack text parts.1)
-
-decimal-lacks : (n : ℕ) → n < 2 ^ 64 → Lacks 58 (decimal n)
-decimal-lacks n h = digits-lack (decimal n) (digits-is_decimal (decimal n) (is_decimal-decimal n h)).digits
-
-value-parts : (id : Id) → IsId id → (k n : ℕ) → k < 2 ^ 64 → n < 2 ^ 64 → slice_split (λ b. b == 58) (link_value id k n) ≡ hex id ∷ decimal k ∷ decimal n ∷ []
-value-parts id is k n hk hn =
-    ap (slice_split (λ b. b == 58)) (append_assoc (hex id) (58 ∷ decimal k) (58 ∷ decimal n))
-    ∙ split-at (hex id) (decimal k ++ 58 ∷ decimal n) (hex-lacks id is)
-    ∙ ap (λ (l : List Bytes). hex id ∷ l) (split-at (decimal k) (decimal n) (decimal-lacks k hk) ∙ ap (λ (l : List Bytes). decimal k ∷ l) (split-one (decimal n) (decimal-lacks n hn)))
+-- ---- a link
 
 own : (x : Bytes) → bytes_eq x x ≡ true
 own x = (bytes_eq-Decides x x).1 refl
 
-counts-are : (k n : ℕ) → 3 ≤ n → n ≤ 64 → 1 ≤ k → k + 2 ≤ n → (nat_le 3 n && nat_le n 64 && nat_le 1 k && nat_le (k + 2) n) ≡ true
-counts-are k n a b c d = rw (le-leb 3 n a, le-leb n 64 b, le-leb 1 k c, le-leb (k + 2) n d) refl
-
 -- link k of n is one
 module _ (id : Id) (is : IsId id) (base : ChangesetView) (n k : ℕ) (p q : Id) (some-p : is_null p ≡ false) (some-q : is_null q ≡ false) (least : 3 ≤ n) (most : n ≤ 64) (low : 1 ≤ k) (high : k + 2 ≤ n) where
-  value-right : is_link_value (hex id ∷ decimal k ∷ decimal n ∷ []) ≡ true
-  value-right =
-      let hk : k < 2 ^ 64 = omega arith in
-      let hn : n < 2 ^ 64 = omega arith in
-      rw (is_hex_id-hex id is, is_decimal-decimal k hk, is_decimal-decimal n hn, number_of-decimal k hk, number_of-decimal n hn) (counts-are k n least most low high)
-
   pub link-is : (is_link (link_view id base n k p q).fields p q && is_numbered k n ((link_view id base n k p q).fields).date) ≡ true
   unfolding link_view is_link
   link-is =
       let hk : k < 2 ^ 64 = omega arith in
       let hn : n < 2 ^ 64 = omega arith in
-      rw (some-p, some-q, value-parts id is k n hk hn, value-right, own (decimal k), own (decimal n)) refl
+      rw (some-p, some-q, value-parts id is k n hk hn, value-right id is k n most low high, own (decimal k), own (decimal n)) refl
 
 -- ---- known links are a walk
 

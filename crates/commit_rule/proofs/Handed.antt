@@ -1,12 +1,12 @@
 -- The rows of a commit: the files of its changeset, with what the commit of the first parent hands on.
 use Rattle.std.proofs.Common.{◌≡◌, ◌≤◌, Bool, true, false, true≢false, List, [], ◌∷◌, ◌++◌, map, length, Option, Some, None, refl, sym, ap, subst, ◌∙◌, arith}
-use Rattle.std.specs.Prelude.{IsTrue, ◌==◌}
+use Rattle.std.specs.Prelude.{◌==◌}
 use Rattle.std.specs.List.{filter_map, cons_option, list_any}
 use Rattle.std.proofs.lemmas.Option.{same_Some, none-some}
 use Rattle.text_model.specs.Lists.{In, Each, in_order}
-use Rattle.text_model.specs.Text.{Bytes, IsBytes, is_below}
+use Rattle.text_model.specs.Text.{Bytes, is_below}
 use Rattle.text_model.specs.Id.{Id, IsId, blob, tree, object_id, blob_id}
-use Rattle.text_model.specs.Path.{is_fit_path, lies_below}
+use Rattle.text_model.specs.Path.{lies_below}
 use Rattle.text_model.proofs.EachLemmas.{Each-append}
 use Rattle.text_model.proofs.Elements.{in_left, in_map, map_append}
 use Rattle.text_model.proofs.Digests.{IsId-object_id}
@@ -23,15 +23,13 @@ use Rattle.tree_shape.specs.Sets.{IsFileRow, IsFiles}
 use Rattle.view_model.specs.View.{Row, TreeRow, IsRowId, files_among, tree_paths, has_clash, text_limit}
 use Rattle.view_model.specs.Held.{file_row_of}
 use Rattle.pair_model.specs.Rule.{mode_of_flag, tree_row_of, tree_row_with, tree_rows_with, no_content}
+use Rattle.pair_model.proofs.RuledFiles.{IsRow}
 use Rattle.commit_rule.specs.Parts.{AreShortBodies}
 use Rattle.commit_rule.proofs.FileLemmas.{IsBlobRow, none-any, unclashed, path-in}
 
 -- ---- rows of the tree
 
 -- what a commit asks of each row of its tree
-abbrev pub IsRow : TreeRow → Type 0
-IsRow row = IsTrue (is_fit_path row.path) × IsBytes row.path × IsBytes row.content × IsRowId row.mode row.id row.content
-
 each-mapped : {X Y : Type 0} (f : X → Y) (P : Y → Type 0) (Q : X → Type 0) → ((x : X) → Q x → P (f x)) → (xs : List X) → Each Q xs → Each P (map f xs)
 each-mapped f P Q h [] q = tt
 each-mapped f P Q h (x ∷ xs) q = (h x q.0, each-mapped f P Q h xs q.1)

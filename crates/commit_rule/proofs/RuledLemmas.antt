@@ -52,7 +52,8 @@ use Rattle.pair_known.proofs.HeldCommits.{held-at}
 use Rattle.commit_rule.specs.Parts.{file_of_row, partners_at, AreShort, AreShortBodies, AreBrought, AreRowsOf, IsTreeOf, residue_below, WalksThrough}
 use Rattle.commit_rule.proofs.TreeObjects.{objects-short}
 use Rattle.commit_rule.proofs.FileLemmas.{all-blobs, view-files, same-files, same-paths, paths-same, no-has_clash, content-short}
-use Rattle.commit_rule.proofs.Handed.{IsRow, bare-with, files-with, AreOld, AreRows, are-rows, file-rows, short-rows, row-in, blob-row}
+use Rattle.pair_model.proofs.RuledFiles.{IsRow}
+use Rattle.commit_rule.proofs.Handed.{bare-with, files-with, AreOld, AreRows, are-rows, file-rows, short-rows, row-in, blob-row}
 use Rattle.pair_known.proofs.PartnerLemmas.{partners-of-pairs, has-partner, found-in, IsId-partners, distinct-partners, chosen}
 
 -- ---- fields

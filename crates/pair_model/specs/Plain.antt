@@ -1,5 +1,5 @@
 -- Commits that the plain rules give back. These rules are this project's own.
-use Rattle.std.specs.Prelude.{◌≡◌, ◌≤◌, List, length}
+use Rattle.std.specs.Prelude.{◌≤◌, List, length}
 use Rattle.view_model.specs.View.{ChangesetView, CommitView, SameCommit}
 use Rattle.pair_model.specs.Block.{Block}
 use Rattle.pair_model.specs.Rule.{rule_commit, rule_changeset}

@@ -36,10 +36,11 @@ use Rattle.pair_known.specs.Partners.{ArePartners}
 use Rattle.pair_known.proofs.HeldViews.{held-as}
 use Rattle.pair_known.proofs.PartnerLemmas.{block-of-id, back-partner, found-in}
 use Rattle.commit_rule.specs.Parts.{IsTreeOf, WalksThrough, residue_below}
+use Rattle.pair_model.proofs.RuledFiles.{files-again}
 use Rattle.commit_rule.proofs.Handed.{bare-with}
 use Rattle.commit_rule.proofs.RuledLemmas.{IsOld, same-root, walks-old, residue-old, block-commit, one-commit-at}
 use Rattle.plain_rule.specs.CommitHead.{line_again, first_partner, handed_to, IsHandedOn, IsPlainHead}
-use Rattle.plain_rule.proofs.PlainRows.{files-again, files-same, same-by-files, rows-by-residue, residue-by-rows}
+use Rattle.plain_rule.proofs.PlainRows.{files-same, same-by-files, rows-by-residue, residue-by-rows}
 
 -- ---- parents
 

@@ -33,7 +33,8 @@ use Rattle.mark_law.proofs.Views.{marked_is_view}
 use Rattle.unmark_law.proofs.Tables.{git_one}
 use Rattle.depth_law.proofs.Back.{few_parents}
 use Rattle.commit_rule.proofs.FileLemmas.{view-files, same-paths, paths-same, no-has_clash}
-use Rattle.commit_rule.proofs.Handed.{IsRow, bare-with, AreOld, AreRows, are-rows, file-rows, apart-rows}
+use Rattle.pair_model.proofs.RuledFiles.{IsRow}
+use Rattle.commit_rule.proofs.Handed.{bare-with, AreOld, AreRows, are-rows, file-rows, apart-rows}
 use Rattle.commit_rule.proofs.RuledLemmas.{IsId-root}
 use Rattle.next_law.proofs.LikeNew.{find-in}
 use Rattle.view_law.proofs.Lines.{line-bytes}
