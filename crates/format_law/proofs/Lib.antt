@@ -1,3 +1,6 @@
 mod Counts
 mod BundleFormatLaws
 mod StreamFormatLaws
+mod BundlePulls
+mod StreamPulls
+mod PullLaws
