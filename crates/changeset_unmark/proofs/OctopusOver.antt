@@ -30,7 +30,7 @@ use Rattle.changeset_unmark.specs.Links.{IsKnownLink, AreLinksThere}
 use Rattle.changeset_unmark.proofs.Built.{p_over}
 use Rattle.changeset_unmark.proofs.LinkWalk.{last-rest}
 use Rattle.changeset_unmark.proofs.LinksHeld.{IsLinkLike, all-like, all-held, held-known, known-links, first-like, second-same, last-in, in-last}
-use Rattle.changeset_unmark.proofs.TwoParents.{table}
+use Rattle.commit_rule.proofs.Tables.{table}
 
 -- ---- parents that the rules see alike
 

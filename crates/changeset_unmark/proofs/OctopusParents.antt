@@ -30,7 +30,8 @@ use Rattle.changeset_unmark.proofs.Built.{p_over}
 use Rattle.changeset_unmark.proofs.Found.{count_is}
 use Rattle.changeset_unmark.proofs.LinkWalk.{one-walk, LeadsOn, leads-on, walk-some-nodes, walk-length, walk-known, last-put}
 use Rattle.changeset_unmark.proofs.OctopusOver.{each-last, second-last}
-use Rattle.changeset_unmark.proofs.TwoParents.{table, have-nodes, nodes-have}
+use Rattle.commit_rule.proofs.Tables.{table}
+use Rattle.changeset_unmark.proofs.TwoParents.{have-nodes, nodes-have}
 
 keeps : (xs : List Id) → Each (λ x. is_null x ≡ false) xs → not_null xs ≡ xs
 keeps [] h = refl

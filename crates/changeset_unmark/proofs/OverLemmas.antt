@@ -40,7 +40,7 @@ use Rattle.changeset_unmark.specs.Residues.{items_named, AreItemsFit, IsResidueN
 use Rattle.changeset_unmark.specs.Over.{IsDraftOver, IsLike, IsNamedOver}
 use Rattle.changeset_unmark.specs.Named.{commit_named}
 use Rattle.changeset_unmark.proofs.RightRows.{AreFit, handed_fit, are_files, joined, each_all}
-use Rattle.changeset_unmark.proofs.TwoParents.{table}
+use Rattle.commit_rule.proofs.Tables.{table}
 
 -- the second has the manifest and the files of the first
 like-parent : (known : List Revision) (parent : Parent) (base other : ChangesetView) → IsLike base other → IsParent known parent base → IsParent known parent other

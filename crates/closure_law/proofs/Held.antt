@@ -6,7 +6,7 @@ use Rattle.std.proofs.lemmas.List.Folds.{find-append}
 use Rattle.text_model.specs.Lists.{Each}
 use Rattle.text_model.specs.Id.{Id}
 use Rattle.text_model.proofs.EachLemmas.{Each-weaker}
-use Rattle.text_model.proofs.Elements.{each_in}
+use Rattle.text_model.proofs.Elements.{each_in, find-more}
 use Rattle.text_model.proofs.Options.{some_is}
 use Rattle.text_model.proofs.TestLemmas.{both, bytes_eq-is}
 use Rattle.hg_model.specs.Revision.{Group, Revision, is_of, revision_of, same_group, same_parents}
@@ -15,11 +15,11 @@ use Rattle.view_model.specs.View.{ChangesetView, IsChangesetView, changeset_node
 use Rattle.view_model.specs.Dump.{revisions_in}
 use Rattle.partner_model.specs.Partner.{IsHeldView}
 use Rattle.state_model.specs.Saved.{has_otherwise}
+use Rattle.hg_view.proofs.Grown.{view-more}
 use Rattle.dump_law.specs.Same.{AreSameKnown}
 use Rattle.dump_law.proofs.Same.{view-same}
 use Rattle.dump_law.proofs.Saved.{saved-held}
 use Rattle.next_law.proofs.Alike.{IsLike, parents-self}
-use Rattle.next_law.proofs.Grown.{find-more, view-more}
 use Rattle.next_law.proofs.Knows.{knows-right}
 use Rattle.next_law.proofs.LikeNew.{find-in}
 use Rattle.frame_law.proofs.Fronts.{each_held}

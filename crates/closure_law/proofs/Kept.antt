@@ -16,6 +16,7 @@ use Rattle.history_model.specs.Pull.{known_with, revisions_among, changesets_amo
 use Rattle.state_model.specs.Kept.{State, Kept, kept_of, empty_state}
 use Rattle.state_model.specs.Saved.{IsState, has_other_content}
 use Rattle.saved_model.specs.Step.{Pull, OfBundle, OfStream, AcceptsBundle, Steps, known_of, dump_objects}
+use Rattle.hg_view.proofs.Grown.{more-all}
 use Rattle.verify_model.specs.Holds.{Holds, StateHolds}
 use Rattle.dump_law.proofs.Dumped.{find_none}
 use Rattle.dump_law.proofs.Streams.{of_append}
@@ -24,7 +25,6 @@ use Rattle.pull_law.proofs.Known.{AreSome, no-null, own-some}
 use Rattle.pull_law.proofs.Members.{apart}
 use Rattle.history_law.proofs.States.{saved-sound}
 use Rattle.next_law.proofs.Alike.{IsLike, like-more, all-like}
-use Rattle.next_law.proofs.Grown.{more-all}
 use Rattle.next_law.proofs.Known.{IsSaved, saved-of, held-known, sound-known}
 use Rattle.next_law.proofs.Otherwise.{referred, bundle-like}
 use Rattle.next_law.proofs.Pulls.{own, bundle-new}

@@ -5,3 +5,4 @@ pub mod LeafObjects
 pub mod FileLemmas
 pub mod Handed
 pub mod RuledLemmas
+pub mod Tables

@@ -5,6 +5,5 @@ pub mod MarkPlaces
 pub mod PartLemmas
 pub mod ExtraLemmas
 pub mod DateLemmas
-pub mod Tables
 pub mod Whole
 pub mod NamedLemmas

@@ -30,13 +30,13 @@ use Rattle.dump_law.proofs.Streams.{of_append}
 use Rattle.dump_law.proofs.BundleRead.{HasNoFirst}
 use Rattle.dump_law.proofs.Dumped.{IsRead, increment_is_read, dump_is_read}
 
-abbrev text_in : List Revision → Group → Id → Option Bytes
+abbrev pub text_in : List Revision → Group → Id → Option Bytes
 text_in known group node = option_map (λ (r : Revision). r.text) (revision_of known group node)
 
 -- ---- the texts of what is held
 
 module _ (known : List Revision) where
-  abbrev IsTextHeld : Revision → Type 0
+  abbrev pub IsTextHeld : Revision → Type 0
   IsTextHeld r = text_in known r.group r.node ≡ Some r.text
 
   files-held : (link : Id) (rows : List Row) → Each (IsFileHeld known) rows → Each IsTextHeld (map (file_revision link) rows)
@@ -54,7 +54,7 @@ module _ (known : List Revision) where
     Each-append IsTextHeld (manifest_revision h h.manifest) (map (file_revision (changeset_node h)) h.rows) (manifest-held h h.manifest x.manifest) (files-held (changeset_node h) h.rows x.files),
   )
 
-  all-held : (hs : List ChangesetView) → AreChangesetsHeld known (map changeset_node hs) hs → Each IsTextHeld (revisions_in hs)
+  pub all-held : (hs : List ChangesetView) → AreChangesetsHeld known (map changeset_node hs) hs → Each IsTextHeld (revisions_in hs)
   all-held [] x = tt
   all-held (h ∷ hs) x = Each-append IsTextHeld (revisions_of h) (revisions_in hs) (texts-held h x.0) (all-held hs x.1)
 

@@ -8,24 +8,19 @@ use Rattle.text_model.specs.Text.{Bytes, IsBytes, is_below}
 use Rattle.text_model.specs.Id.{Id, IsId, null}
 use Rattle.text_model.specs.Path.{is_fit_path}
 use Rattle.text_model.proofs.TestLemmas.{both, bytes_eq-self}
-use Rattle.text_model.proofs.Options.{some_is, none_some}
 use Rattle.text_model.proofs.Digests.{IsId-node_id}
 use Rattle.text_model.proofs.Elements.{in_left, in_right, none_in}
-use Rattle.hg_model.specs.Changeset.{IsChangesetText}
-use Rattle.hg_model.specs.Manifest.{ManifestEntry, IsManifestText}
+use Rattle.hg_model.specs.Manifest.{ManifestEntry}
 use Rattle.hg_model.specs.FileText.{manifest_order, file_order}
 use Rattle.hg_model.specs.Revision.{Group, Changesets, Manifests, FilesAt, Revision, is_of, revision_of, same_parents, same_revision, is_otherwise}
-use Rattle.hg_model.proofs.ChangesetLemmas.{one_changeset}
-use Rattle.hg_model.proofs.ManifestLemmas.{one_manifest}
 use Rattle.hg_model.proofs.RevisionLemmas.{same_group-self}
 use Rattle.hg_model.proofs.ParentOrder.{manifest_order-turned, file_order-turned}
 use Rattle.view_model.specs.View.{ChangesetView, IsChangesetView, IsRevision, AreManifestParents, Row, ManifestParents, NoManifest, Over, changeset_node, manifest_node, entry_of_row, file_node, rows_text, paths_of}
 use Rattle.view_model.specs.Held.{IsFileHeld, IsManifestHeld, IsChangesetHeld, AreChangesetsHeld}
 use Rattle.view_model.specs.Dump.{own_revision, manifest_revision, file_revision, revisions_of, revisions_in}
 use Rattle.state_model.specs.Saved.{has_otherwise}
-use Rattle.hg_filelog.proofs.MarkLemmas.{one_pair}
+use Rattle.hg_view.proofs.One.{one_held}
 use Rattle.hg_dump_law.proofs.Written.{IsSamePair, pair-is}
-use Rattle.dump_law.proofs.Elements.{heads, tails}
 
 -- ---- elements
 
@@ -164,60 +159,10 @@ module _ (known other : List Revision) (same : (group : Group) (node : Id) → r
 -- ---- a node has one held changeset, where no manifest has the null id
 
 module _ (known : List Revision) (no_null : revision_of known Manifests null ≡ None) where
-  one_row : (a b : Row) → entry_of_row a ≡ entry_of_row b → IsFileHeld known a → IsFileHeld known b → a ≡ b
-  one_row a b same x y =
-      let path : a.path ≡ b.path = ap (λ (e : ManifestEntry). e.path) same in
-      let node : file_node a.revision ≡ file_node b.revision = ap (λ (e : ManifestEntry). e.node) same in
-      let flag : a.flag ≡ b.flag = ap (λ (e : ManifestEntry). e.flag) same in
-      let revision : x.revision ≡ y.revision = some_is (sym x.is_held ∙ (λ i. revision_of known (FilesAt (path i)) (node i)) ∙ y.is_held) in
-      let parts = one_pair (a.revision).meta (b.revision).meta (a.revision).body (b.revision).body (x.text).0 (y.text).0 (sym (x.text).1 ∙ ap (λ (r : Revision). r.text) revision ∙ (y.text).1) in
-      let order : ((a.revision).p, (a.revision).q) ≡ ((b.revision).p, (b.revision).q) =
-      x.parents ∙ (λ i. file_order (parts.0 i) (revision i).p (revision i).q) ∙ sym y.parents in
-      (λ i. record { path = path i; flag = flag i; revision = record { p = (order i).0; q = (order i).1; meta = parts.0 i; body = parts.1 i } })
-
-  one_rows : (as' bs : List Row) → map entry_of_row as' ≡ map entry_of_row bs → Each (IsFileHeld known) as' → Each (IsFileHeld known) bs → as' ≡ bs
-  one_rows [] [] e x y = refl
-  one_rows [] (b ∷ bs) e x y = absurd cc
-  one_rows (a ∷ as') [] e x y = absurd cc
-  one_rows (a ∷ as') (b ∷ bs) e x y =
-      let first : entry_of_row a ≡ entry_of_row b = heads e in
-      let more : map entry_of_row as' ≡ map entry_of_row bs = tails e in
-      (λ i. one_row a b first x.0 y.0 i ∷ one_rows as' bs more x.1 y.1 i)
-
-  record IsOneManifest (m n : ManifestParents) (as' bs : List Row) : Type 0 where
-    pub parents : m ≡ n
-    pub entries : map entry_of_row as' ≡ map entry_of_row bs
-
-  is_none : (node : Id) (r : Revision) → revision_of known Manifests node ≡ Some r → node ≡ null → ⊥
-  is_none node r at e = none_some (sym no_null ∙ ap (revision_of known Manifests) (sym e) ∙ at)
-
-  one_manifest_of : (node : Id) (m n : ManifestParents) (as' bs : List Row) → IsManifestHeld known node m as' → IsManifestHeld known node n bs → IsOneManifest m n as' bs
-  one_manifest_of node NoManifest NoManifest as' bs x y = record { parents = refl; entries = ap (map entry_of_row) (x.1 ∙ sym y.1) }
-  one_manifest_of node NoManifest (Over p q) as' bs x y = absurd (is_none node y.revision y.is_held x.0)
-  one_manifest_of node (Over p q) NoManifest as' bs x y = absurd (is_none node x.revision x.is_held y.0)
-  one_manifest_of node (Over p q) (Over p' q') as' bs x y =
-      let revision : x.revision ≡ y.revision = some_is (sym x.is_held ∙ y.is_held) in
-      let order : (p, q) ≡ (p', q') = x.parents ∙ (λ i. manifest_order (revision i).p (revision i).q) ∙ sym y.parents in
-      record {
-        parents = (λ i. Over (order i).0 (order i).1);
-        entries = one_manifest (x.revision).text (map entry_of_row as') (map entry_of_row bs) x.text (subst (λ (r : Revision). IsManifestText r.text (map entry_of_row bs)) (sym revision) y.text);
-      }
-
-  pub one_view : (node : Id) (h k : ChangesetView) → IsChangesetHeld known node h → IsChangesetHeld known node k → h ≡ k
-  one_view node h k x y =
-      let revision : x.revision ≡ y.revision = some_is (sym x.is_held ∙ y.is_held) in
-      let fields : h.fields ≡ k.fields = one_changeset (x.revision).text h.fields k.fields x.fields (subst (λ (r : Revision). IsChangesetText r.text k.fields) (sym revision) y.fields) in
-      let manifest = one_manifest_of (h.fields).manifest h.manifest k.manifest h.rows k.rows x.manifest
-      (subst (λ (n : Id). IsManifestHeld known n k.manifest k.rows) (sym (λ i. (fields i).manifest)) y.manifest) in
-      let rows = one_rows h.rows k.rows manifest.entries x.files y.files in
-      let first : h.p ≡ k.p = x.parents.0 ∙ ap (λ (r : Revision). r.p) revision ∙ sym y.parents.0 in
-      let second : h.q ≡ k.q = x.parents.1 ∙ ap (λ (r : Revision). r.q) revision ∙ sym y.parents.1 in
-      (λ i. record { p = first i; q = second i; fields = fields i; manifest = manifest.parents i; rows = rows i })
-
   pub one_list : (nodes : List Id) (hs ks : List ChangesetView) → AreChangesetsHeld known nodes hs → AreChangesetsHeld known nodes ks → hs ≡ ks
   one_list [] [] [] x y = refl
   one_list [] (h ∷ hs) ks x y = absurd x
   one_list [] [] (k ∷ ks) x y = absurd y
   one_list (n ∷ nodes) [] ks x y = absurd x
   one_list (n ∷ nodes) (h ∷ hs) [] x y = absurd y
-  one_list (n ∷ nodes) (h ∷ hs) (k ∷ ks) x y = (λ i. one_view n h k x.0 y.0 i ∷ one_list nodes hs ks x.1 y.1 i)
+  one_list (n ∷ nodes) (h ∷ hs) (k ∷ ks) x y = (λ i. one_held known no_null n h k x.0 y.0 i ∷ one_list nodes hs ks x.1 y.1 i)

@@ -3,12 +3,13 @@ use Rattle.std.proofs.Common.{◌≡◌, Bool, true, false, true≢false, List, 
 use Rattle.std.specs.Prelude.{⊤, bytes_eq, if◌then◌else◌}
 use Rattle.std.proofs.lemmas.Slice.Eq.{bytes_eq-Decides}
 use Rattle.text_model.specs.Lists.{Each}
-use Rattle.text_model.specs.Id.{Id, ObjectKind, blob, tree, commit, tag, same_kind, object_id}
+use Rattle.text_model.specs.Id.{Id, ObjectKind, object_id}
 use Rattle.git_model.specs.Tree.{TreeEntry}
 use Rattle.git_model.specs.Object.{Object, object_at, entries_of, tree_at}
 use Rattle.git_model.specs.Unfold.{is_kind_there}
 use Rattle.text_model.proofs.Options.{none_some, some_is}
 use Rattle.git_store.specs.Known.{IsSound, AreKnown}
+use Rattle.git_store.proofs.KnownLemmas.{same_kind-is}
 
 -- what holds of all objects holds of one that is found, and its id is the one asked for
 find-each : (P : Object → Type 0) (known : List Object) (id : Id) (o : Object) → Each P known → object_at known id ≡ Some o → P o × (id ≡ o.id)
@@ -43,24 +44,6 @@ some-tree known id entries h = by (object_at known id) refl h
     by None e i = absurd (none_some {x = entries} i)
     by (Some o) e i = (o, e)
 
-pub kind-is : (a b : ObjectKind) → same_kind a b ≡ true → a ≡ b
-kind-is blob blob h = refl
-kind-is blob tree h = absurd (true≢false (sym h))
-kind-is blob commit h = absurd (true≢false (sym h))
-kind-is blob tag h = absurd (true≢false (sym h))
-kind-is tree blob h = absurd (true≢false (sym h))
-kind-is tree tree h = refl
-kind-is tree commit h = absurd (true≢false (sym h))
-kind-is tree tag h = absurd (true≢false (sym h))
-kind-is commit blob h = absurd (true≢false (sym h))
-kind-is commit tree h = absurd (true≢false (sym h))
-kind-is commit commit h = refl
-kind-is commit tag h = absurd (true≢false (sym h))
-kind-is tag blob h = absurd (true≢false (sym h))
-kind-is tag tree h = absurd (true≢false (sym h))
-kind-is tag commit h = absurd (true≢false (sym h))
-kind-is tag tag h = refl
-
 -- the object of a kind that is there
 pub record There (known : List Object) (kind : ObjectKind) (id : Id) : Type 0 where
   pub object : Object
@@ -72,4 +55,4 @@ there known kind id h = by (object_at known id) refl h
   where
     by : (o : Option Object) → object_at known id ≡ o → is_kind_there kind o ≡ true → There known kind id
     by None e i = absurd (true≢false (sym i))
-    by (Some o) e i = record { object = o; at = e; kind_is = sym (kind-is kind o.kind i) }
+    by (Some o) e i = record { object = o; at = e; kind_is = sym (same_kind-is kind o.kind i) }

@@ -8,10 +8,11 @@ use Rattle.git_model.specs.Object.{Object, object_at}
 use Rattle.git_model.specs.Unfold.{FileRow, IsUnfolding, tree_rows, walk_fault}
 use Rattle.text_model.proofs.Options.{none_some, some_is}
 use Rattle.git_store.specs.Known.{AreKnown, content_of, content_at, IsCommitAt}
+use Rattle.git_store.proofs.KnownLemmas.{same_kind-is}
 use Rattle.tree_shape.proofs.Unfolding.{unfolds}
 use Rattle.view_model.specs.View.{CommitView, commit_id}
 use Rattle.view_model.specs.Held.{IsCommitHeld}
-use Rattle.git_view.proofs.Found.{found, kind-is}
+use Rattle.git_view.proofs.Found.{found}
 use Rattle.git_view.proofs.Walks.{none-refused}
 use Rattle.git_view.proofs.Rows.{row_in, rows-again, blob-of, blobs-held}
 
@@ -26,7 +27,7 @@ pub commit-at : (known : List Object) (id : Id) (content : Bytes) → content_at
 commit-at known id content h = by (object_at known id) refl h
   where
     kind : (o : Object) → object_at known id ≡ Some o → (t : Bool) → same_kind o.kind commit ≡ t → (if t then Some o.content else None) ≡ Some content → CommitAt known id content
-    kind o e true t i = record { object = o; at = e; kind_is = kind-is o.kind commit t; content_is = some_is {x = o.content} {y = content} i }
+    kind o e true t i = record { object = o; at = e; kind_is = same_kind-is o.kind commit t; content_is = some_is {x = o.content} {y = content} i }
     kind o e false t i = absurd (none_some {x = content} i)
 
     by : (o : Option Object) → object_at known id ≡ o → content_of commit o ≡ Some content → CommitAt known id content

@@ -2,3 +2,4 @@ pub mod FilePairs
 pub mod Held
 pub mod Right
 pub mod One
+pub mod Grown

@@ -19,10 +19,10 @@ use Rattle.history_model.specs.Pull.{revisions_among, known_with, objects_among,
 use Rattle.state_model.specs.Kept.{Kept}
 use Rattle.saved_model.specs.Step.{Pull, OfBundle, OfStream, known_of, Accepts, Steps}
 use Rattle.saved_model.specs.History.{Brought, nothing, and_then, HaveBrought, IsHistory, MembersOf, AreBlocksOf, kept}
+use Rattle.hg_view.proofs.Grown.{more-all, view-more}
 use Rattle.pull_law.proofs.Known.{own-some, objects-after, held-node}
 use Rattle.pull_law.proofs.Placements.{order-distinct}
 use Rattle.history_law.specs.Sound.{AreRight, AreOfBlocks, HasViews, IsSound}
-use Rattle.history_law.proofs.Held.{within-all, held-on}
 use Rattle.history_law.proofs.Known.{changesets_of}
 use Rattle.history_law.proofs.Dumps.{known-from}
 use Rattle.history_law.proofs.Read.{read-own, read-checked}
@@ -49,7 +49,7 @@ module _ (k : Kept) (sound : IsSound k) where
       let rs = revisions_among arrivals in
       let own = read-own old bundle arrivals (sound.state).revisions reads in
       let held = Each-weaker (IsHeldView old) (IsHeldView (known_after_all old rs))
-      (λ h x. held-on old (known_after_all old rs) (within-all old rs) (changeset_node h) h x) (changesets_in k.blocks) sound.held in
+      (λ h x. view-more old (known_after_all old rs) (more-all old rs) (changeset_node h) h x) (changesets_in k.blocks) sound.held in
       record {
         nodes = λ node h x. (held-node (known_after_all old rs) node h own x).0;
         saved = saved-blocks (known_after_all old rs) k.blocks held;

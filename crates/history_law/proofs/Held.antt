@@ -1,4 +1,4 @@
--- Changesets that are known with more revisions too, and those whose revisions have come.
+-- Changesets whose revisions have come are known.
 use Rattle.std.proofs.Common.{◌≡◌, ◌⊎◌, Bool, true, false, not, ◌&&◌, ◌||◌, List, [], ◌∷◌, ◌++◌, map, Option, Some, None, refl, sym, ap, subst, ◌∙◌, append_assoc, append-nil, inl, inr}
 use Rattle.std.specs.Prelude.{bytes_eq, is_some, IsTrue, if◌then◌else◌}
 use Rattle.std.specs.List.{find, list_any}
@@ -8,62 +8,19 @@ use Rattle.text_model.specs.Text.{Bytes, IsBytes, is_below}
 use Rattle.text_model.specs.Path.{is_fit_path}
 use Rattle.text_model.specs.Id.{Id, IsId}
 use Rattle.text_model.proofs.Digests.{IsId-node_id}
-use Rattle.text_model.proofs.EachLemmas.{Each-front, Each-rest, Each-weaker}
+use Rattle.text_model.proofs.EachLemmas.{Each-front, Each-rest}
 use Rattle.text_model.proofs.Elements.{none_in}
 use Rattle.text_model.proofs.TestLemmas.{both}
 use Rattle.text_model.proofs.Options.{not_false}
 use Rattle.hg_model.specs.Manifest.{ManifestEntry, IsManifest}
 use Rattle.hg_model.specs.FileText.{file_order, manifest_order}
-use Rattle.hg_model.specs.Revision.{Revision, Group, Changesets, Manifests, FilesAt, is_of, revision_of, knows, known_after, known_after_all, is_otherwise, same_parents}
+use Rattle.hg_model.specs.Revision.{Revision, is_of, revision_of, knows, known_after, known_after_all, is_otherwise, same_parents}
 use Rattle.hg_model.proofs.RevisionLemmas.{is_of-self}
 use Rattle.hg_model.proofs.ParentOrder.{manifest_order-turned, file_order-turned}
-use Rattle.view_model.specs.View.{Row, ChangesetView, IsChangesetView, IsRevision, AreManifestParents, ManifestParents, NoManifest, Over, changeset_node, manifest_node, file_node, entry_of_row, paths_of}
+use Rattle.view_model.specs.View.{Row, ChangesetView, IsChangesetView, IsRevision, AreManifestParents, ManifestParents, NoManifest, Over, changeset_node, manifest_node, entry_of_row, paths_of}
 use Rattle.view_model.specs.Held.{IsFileHeld, IsManifestHeld, IsChangesetHeld}
 use Rattle.view_model.specs.Dump.{own_revision, manifest_revision, file_revision, revisions_of}
-
--- ---- what is known stays known
-
--- what the first list has under a node the second has too
-abbrev pub IsWithin : List Revision → List Revision → Type 0
-IsWithin old new = (group : Group) (node : Id) (r : Revision) → revision_of old group node ≡ Some r → revision_of new group node ≡ Some r
-
-find-front : {X : Type 0} (test : X → Bool) (xs ys : List X) (x : X) → find test xs ≡ Some x → find test (xs ++ ys) ≡ Some x
-find-front test [] ys x h = absurd cc
-find-front test (z ∷ xs) ys x h = by (test z) h (find-front test xs ys x)
-  where
-    by : (t : Bool) → (if t then Some z else find test xs) ≡ Some x → (find test xs ≡ Some x → find test (xs ++ ys) ≡ Some x)
-        → (if t then Some z else find test (xs ++ ys)) ≡ Some x
-    by true h later = h
-    by false h later = later h
-
-within-one : (known : List Revision) (r : Revision) → IsWithin known (known_after known r)
-within-one known r group node x h = by (knows known r.group r.node)
-  where
-    by : (t : Bool) → revision_of (if t then known else known ++ r ∷ []) group node ≡ Some x
-    by true = h
-    by false = find-front (is_of group node) known (r ∷ []) x h
-
-pub within-all : (known rs : List Revision) → IsWithin known (known_after_all known rs)
-within-all known [] group node x h = h
-within-all known (r ∷ rs) group node x h = within-all (known_after known r) rs group node x (within-one known r group node x h)
-
-module _ (old new : List Revision) (within : IsWithin old new) where
-  file-on : (row : Row) → IsFileHeld old row → IsFileHeld new row
-  file-on row h = record { revision = h.revision; is_held = within (FilesAt row.path) (file_node row.revision) h.revision h.is_held; parents = h.parents; text = h.text }
-
-  manifest-on : (node : Id) (m : ManifestParents) (rows : List Row) → IsManifestHeld old node m rows → IsManifestHeld new node m rows
-  manifest-on node NoManifest rows h = h
-  manifest-on node (Over p q) rows h = record { revision = h.revision; is_held = within Manifests node h.revision h.is_held; parents = h.parents; text = h.text }
-
-  pub held-on : (node : Id) (h : ChangesetView) → IsChangesetHeld old node h → IsChangesetHeld new node h
-  held-on node h x = record {
-    revision = x.revision;
-    is_held = within Changesets node x.revision x.is_held;
-    parents = x.parents;
-    fields = x.fields;
-    manifest = manifest-on (h.fields).manifest h.manifest h.rows x.manifest;
-    files = Each-weaker (IsFileHeld old) (IsFileHeld new) file-on h.rows x.files;
-  }
+use Rattle.hg_view.proofs.Grown.{more-all}
 
 -- ---- a revision that came is known
 
@@ -117,7 +74,7 @@ there-all known [] r i = absurd i
 there-all known (z ∷ rs) r (inl e) =
     let one = there-one known z in
     subst (λ (y : Revision). (x : Revision) × (revision_of (known_after_all known (z ∷ rs)) y.group y.node ≡ Some x)) (sym e)
-    (one.0, within-all (known_after known z) rs z.group z.node one.0 one.1)
+    (one.0, more-all (known_after known z) rs z.group z.node one.0 one.1)
 there-all known (z ∷ rs) r (inr i) = there-all (known_after known z) rs r i
 
 pub is-like : (known rs : List Revision) (r : Revision) → In r rs → list_any (is_otherwise r) (known ++ rs) ≡ false → IsLike (known_after_all known rs) r

@@ -14,6 +14,7 @@ use Rattle.view_model.specs.View.{ChangesetView, IsChangesetView, Row, ManifestP
 use Rattle.view_model.specs.Held.{IsChangesetHeld}
 use Rattle.view_model.specs.Dump.{manifest_revision, file_revision, revisions_of, revisions_in}
 use Rattle.hg_view.proofs.One.{one_held}
+use Rattle.hg_view.proofs.Grown.{more-all, view-more}
 use Rattle.pair_model.specs.Block.{Block, changesets_in}
 use Rattle.partner_model.specs.Partner.{IsHeldView}
 use Rattle.partner_model.specs.Clash.{changeset_side_collides, is_any_saved}
@@ -21,7 +22,7 @@ use Rattle.history_model.specs.Pull.{is_changesets}
 use Rattle.saved_model.specs.History.{IsOfBlocks}
 use Rattle.pull_law.proofs.Known.{after-all, no-null}
 use Rattle.history_law.specs.Sound.{IsFromBlocks, AreOfBlocks}
-use Rattle.history_law.proofs.Held.{IsLike, is-like, come-held, within-all, held-on, find-in}
+use Rattle.history_law.proofs.Held.{IsLike, is-like, come-held, find-in}
 
 -- the changesets of a block
 abbrev pub changesets_of : Block → List ChangesetView
@@ -78,7 +79,7 @@ module _ (known : List Revision) (blocks : List Block) (b : Block) (apart : chan
       let next = known_after_all known brought in
       let old = changesets_in blocks in
       let nodes = map changeset_node (old ++ changesets_of b) in
-      let more = Each-weaker (IsHeldView known) (IsHeldView next) (λ h x. held-on known next (within-all known brought) (changeset_node h) h x) old are.held in
+      let more = Each-weaker (IsHeldView known) (IsHeldView next) (λ h x. view-more known next (more-all known brought) (changeset_node h) h x) old are.held in
       let new = each_from (IsHeldView next) (changesets_of b) (λ h i. come-held next h (each_in IsChangesetView (changesets_of b) h views i)
       (each_from (IsLike next) (revisions_of h) (λ r j. let k = of-one h (changesets_of b) i r j in is-like known brought r k (clear r k).1))) in
       let before = Each-weaker (IsFromBlocks blocks) (λ r. IsTrue (is_changesets r.group) → In r.node nodes)

@@ -1,6 +1,6 @@
 -- A byte that stands in no part cuts a text in one way; and what lacks a byte.
 use Rattle.std.proofs.Common.{◌≡◌, ◌≢◌, ◌<◌, ◌+◌, ◌/◌, ◌%◌, ◌==◌, ◌^◌, ℕ, zero, suc, Bool, true, false, List, [], ◌∷◌, ◌++◌, refl, sym, ap, ◌∙◌, append_assoc, append-nil, arith}
-use Rattle.std.specs.Prelude.{decimal, if◌then◌else◌, ℤ}
+use Rattle.std.specs.Prelude.{decimal, if◌then◌else◌, ℤ, pos, negsuc}
 use Rattle.std.specs.Fmt.{digits, digits_onto, digit_glyph}
 use Rattle.std.specs.List.{flat_map}
 use Rattle.std.proofs.lemmas.Bool.{lt-ltb}
@@ -86,6 +86,10 @@ Lacks-decimal b n lt = decimal-each (λ x. x ≢ b) (λ d small e. omega (arith,
 
 pub IsBytes-decimal : (n : ℕ) → IsBytes (decimal n)
 IsBytes-decimal n = decimal-each (λ x. x < 256) (λ d small. omega (arith, small)) n
+
+pub signed-bytes : (z : ℤ) → IsBytes (signed_decimal z)
+signed-bytes (pos n) = IsBytes-decimal n
+signed-bytes (negsuc n) = (omega arith, IsBytes-decimal (n + 1))
 
 pub signed_one : (y z : ℤ) → IsWithin (2 ^ 62) y → IsWithin (2 ^ 62) z → signed_decimal y ≡ signed_decimal z → y ≡ z
 signed_one y z h k e = some_is (sym (signed_of-text (2 ^ 62) y (omega arith) h) ∙ ap (signed_of (2 ^ 62)) e ∙ signed_of-text (2 ^ 62) z (omega arith) k)

@@ -1,17 +1,15 @@
 -- The marked commit of a changeset is a view where the rule's is: its headers are nonempty lines. And it is longer than the rule's.
-use Rattle.std.proofs.Common.{◌≡◌, ◌≢◌, ◌<◌, ◌≤◌, ◌+◌, ◌==◌, ℕ, Bool, true, false, List, [], ◌∷◌, ◌++◌, map, length, Some, None, refl, sym, ap, subst, arith, leb-true}
-use Rattle.std.specs.Prelude.{codes, nat_le, ◌&&◌, ℤ, pos, negsuc}
-use Rattle.std.specs.List.{flat_map, list_all}
-use Rattle.std.proofs.lemmas.Bool.{and_parts}
+use Rattle.std.proofs.Common.{◌≡◌, ◌≢◌, ◌≤◌, false, List, [], ◌∷◌, ◌++◌, map, length, Some, None, refl, sym, ap, subst, arith}
+use Rattle.std.specs.Prelude.{codes}
+use Rattle.std.specs.List.{flat_map}
 use Rattle.text_model.specs.Lists.{Each}
-use Rattle.text_model.specs.Text.{Bytes, IsBytes, line, lf, has_byte, spaced, signed_decimal}
-use Rattle.text_model.specs.Id.{Id, IsId, hex, is_lower_digit, commit}
+use Rattle.text_model.specs.Text.{Bytes, IsBytes, line, lf, has_byte, spaced}
+use Rattle.text_model.specs.Id.{hex, commit}
 use Rattle.text_model.specs.Escape.{escape}
 use Rattle.text_model.proofs.ByteLemmas.{IsBytes-append}
-use Rattle.text_model.proofs.EachLemmas.{Each-weaker, Each-append, Each-front}
-use Rattle.text_model.proofs.EscapeLemmas.{escape-printable}
-use Rattle.text_model.proofs.HexLemmas.{is_hex_id-hex}
+use Rattle.text_model.proofs.EachLemmas.{Each-append, Each-front}
 use Rattle.text_model.proofs.LackLemmas.{has_byte-lacks}
+use Rattle.text_model.proofs.TextBytes.{escape-bytes, hex-bytes, small-bytes, spaced-bytes}
 use Rattle.git_model.specs.Commit.{Commit, AreHeaders, commit_text, parent_line}
 use Rattle.git_model.specs.Object.{Object, object_of}
 use Rattle.git_model.specs.Shape.{shape_objects, shape_depth}
@@ -20,67 +18,27 @@ use Rattle.pair_model.specs.Block.{Block}
 use Rattle.pair_model.specs.Rule.{rule_commit}
 use Rattle.pair_model.specs.MarkList.{Mark, Rename, File, Manifest, Files, User, Date, RawDate, OneExtra, mark_words, marks_text, IsMark}
 use Rattle.partner_model.specs.Mark.{commit_marks, parents_of_changeset, mark_commit}
-use Rattle.mark_law.proofs.TextFacts.{Lacks-spaced, IsBytes-decimal}
+use Rattle.mark_law.proofs.TextFacts.{Lacks-spaced, IsBytes-decimal, signed-bytes}
 use Rattle.mark_law.proofs.Marks.{lf_gap, lacks_words}
 use Rattle.mark_law.proofs.MarkTypes.{marks_are}
 
 -- ---- a mark is a line of bytes
-
-escape-bytes : (raw : Bytes) → IsBytes raw → IsBytes (escape raw)
-escape-bytes raw h = Each-weaker (λ b. (33 ≤ b) × (b ≤ 126)) (λ b. b < 256) (λ b k. omega (arith, k.1)) (escape raw) (escape-printable raw h)
-
-digit-small : (b : ℕ) → is_lower_digit b ≡ true → b < 256
-digit-small b h = by (nat_le 48 b && nat_le b 57) refl
-  where
-    by : (t : Bool) → (nat_le 48 b && nat_le b 57) ≡ t → b < 256
-    by true e = omega (arith, leb-true b 57 (and_parts (nat_le 48 b) (nat_le b 57) e).1)
-    by false e =
-        let k : (nat_le 97 b && nat_le b 102) ≡ true = rw e at h in
-        omega (arith, leb-true b 102 (and_parts (nat_le 97 b) (nat_le b 102) k).1)
-
-digits-bytes : (text : Bytes) → list_all is_lower_digit text ≡ true → IsBytes text
-digits-bytes [] h = tt
-digits-bytes (b ∷ text) h =
-    let a = and_parts (is_lower_digit b) (list_all is_lower_digit text) h in
-    (digit-small b a.0, digits-bytes text a.1)
-
-hex-bytes : (id : Id) → IsId id → IsBytes (hex id)
-hex-bytes id h = digits-bytes (hex id) (and_parts (length (hex id) == 40) (list_all is_lower_digit (hex id)) (is_hex_id-hex id h)).1
-
-signed-bytes : (z : ℤ) → IsBytes (signed_decimal z)
-signed-bytes (pos n) = IsBytes-decimal n
-signed-bytes (negsuc n) = (omega arith, IsBytes-decimal (n + 1))
-
--- a text of small bytes
-small : (text : Bytes) → list_all (λ b. nat_le b 255) text ≡ true → IsBytes text
-small [] h = tt
-small (b ∷ text) h =
-    let a = and_parts (nat_le b 255) (list_all (λ b. nat_le b 255) text) h in
-    (omega (arith, leb-true b 255 a.0), small text a.1)
 
 paths-bytes : (paths : List Bytes) → Each IsBytes paths → Each IsBytes (map escape paths)
 paths-bytes [] h = tt
 paths-bytes (p ∷ ps) h = (escape-bytes p h.0, paths-bytes ps h.1)
 
 words-bytes : (m : Mark) → IsMark m → Each IsBytes (mark_words m)
-words-bytes (Rename path source) h = (small (codes "HG:rename") refl, (escape-bytes path h.0, (escape-bytes source h.1, tt)))
-words-bytes (File path p q None) h = (small (codes "HG:file") refl, (escape-bytes path h.0, (hex-bytes p h.1, (hex-bytes q h.2, (small (codes "-") refl, tt)))))
-words-bytes (File path p q (Some meta)) h = (small (codes "HG:file") refl, (escape-bytes path h.0, (hex-bytes p h.1, (hex-bytes q h.2, (IsBytes-append (codes "=") (escape meta) (small (codes "=") refl) (escape-bytes meta h.3), tt)))))
-words-bytes (Manifest NoManifest) h = (small (codes "HG:manifest") refl, (small (codes "null") refl, tt))
-words-bytes (Manifest (Over p q)) h = (small (codes "HG:manifest") refl, (hex-bytes p h.0, (hex-bytes q h.1, tt)))
-words-bytes (Files paths) h = (small (codes "HG:files") refl, (IsBytes-decimal (length paths), paths-bytes paths h))
-words-bytes (User user) h = (small (codes "HG:user") refl, (escape-bytes user h, tt))
-words-bytes (Date time tz) h = (small (codes "HG:date") refl, (signed-bytes time, (signed-bytes tz, tt)))
-words-bytes (RawDate text) h = (small (codes "HG:raw") refl, (escape-bytes text h, tt))
-words-bytes (OneExtra e) h = (small (codes "HG:extra") refl, (escape-bytes e.key h.0, (escape-bytes e.value h.1, tt)))
-
-spaced-bytes : (ws : List Bytes) → Each IsBytes ws → IsBytes (spaced ws)
-spaced-bytes [] h = tt
-spaced-bytes (w ∷ ws) h = IsBytes-append w (flat_map (λ v. 32 ∷ v) ws) h.0 (more ws h.1)
-  where
-    more : (vs : List Bytes) → Each IsBytes vs → IsBytes (flat_map (λ v. 32 ∷ v) vs)
-    more [] k = tt
-    more (v ∷ vs) k = (omega arith, IsBytes-append v (flat_map (λ v. 32 ∷ v) vs) k.0 (more vs k.1))
+words-bytes (Rename path source) h = (small-bytes (codes "HG:rename") refl, (escape-bytes path h.0, (escape-bytes source h.1, tt)))
+words-bytes (File path p q None) h = (small-bytes (codes "HG:file") refl, (escape-bytes path h.0, (hex-bytes p h.1, (hex-bytes q h.2, (small-bytes (codes "-") refl, tt)))))
+words-bytes (File path p q (Some meta)) h = (small-bytes (codes "HG:file") refl, (escape-bytes path h.0, (hex-bytes p h.1, (hex-bytes q h.2, (IsBytes-append (codes "=") (escape meta) (small-bytes (codes "=") refl) (escape-bytes meta h.3), tt)))))
+words-bytes (Manifest NoManifest) h = (small-bytes (codes "HG:manifest") refl, (small-bytes (codes "null") refl, tt))
+words-bytes (Manifest (Over p q)) h = (small-bytes (codes "HG:manifest") refl, (hex-bytes p h.0, (hex-bytes q h.1, tt)))
+words-bytes (Files paths) h = (small-bytes (codes "HG:files") refl, (IsBytes-decimal (length paths), paths-bytes paths h))
+words-bytes (User user) h = (small-bytes (codes "HG:user") refl, (escape-bytes user h, tt))
+words-bytes (Date time tz) h = (small-bytes (codes "HG:date") refl, (signed-bytes time, (signed-bytes tz, tt)))
+words-bytes (RawDate text) h = (small-bytes (codes "HG:raw") refl, (escape-bytes text h, tt))
+words-bytes (OneExtra e) h = (small-bytes (codes "HG:extra") refl, (escape-bytes e.key h.0, (escape-bytes e.value h.1, tt)))
 
 some-line : (m : Mark) → spaced (mark_words m) ≢ []
 some-line (Rename p q) = λ e. cc

@@ -16,7 +16,7 @@ use Rattle.view_model.specs.View.{Row, ManifestParents, NoManifest, Over, Change
 use Rattle.view_model.specs.Held.{IsFileHeld, IsManifestHeld, IsChangesetHeld, AreChangesetsHeld}
 use Rattle.view_model.specs.Dump.{own_revision, manifest_revision, file_revision, revisions_of, revisions_in}
 use Rattle.state_model.specs.Saved.{has_otherwise}
-use Rattle.next_law.proofs.Grown.{IsMore}
+use Rattle.hg_view.proofs.Grown.{IsMore}
 
 -- the revision is a known one, up to its link and the order of a manifest's or a file's parents
 pub record IsLike (known : List Revision) (r : Revision) : Type 0 where

@@ -15,11 +15,11 @@ use Rattle.history_model.specs.Pull.{known_with, objects_with, revisions_among}
 use Rattle.state_model.specs.Kept.{Kept, kept_of}
 use Rattle.saved_model.specs.Step.{Pull, OfBundle, OfStream, Accepts, AcceptsBundle, AcceptsStream, known_of}
 use Rattle.partner_model.specs.Table.{IsTable}
+use Rattle.hg_view.proofs.Grown.{more-all}
 use Rattle.next_law.specs.Next.{IsLeft, HasDistinct}
 use Rattle.next_law.proofs.Apart.{IsApart, own_of, bundle-apart, stream-apart}
 use Rattle.next_law.proofs.Blocks.{held-distinct}
 use Rattle.next_law.proofs.Distinct.{distinct-both}
-use Rattle.next_law.proofs.Grown.{more-all}
 use Rattle.next_law.proofs.Known.{IsSaved, saved-of, held-known, sound-known, contents-known}
 use Rattle.next_law.proofs.Linked.{bundle-linked, bundle-known}
 use Rattle.next_law.proofs.NewBlocks.{AreNew, IsOfBundle, IsOfStream, each-turned}

@@ -120,7 +120,7 @@ null-marked blocks c e = null-node (mark_changeset blocks c).manifest (mark_chan
 
 -- ---- of a bundle, and of a stream
 
-bundle-timely : (s : State) (known : List Revision) (front : List Block) (b : Block) → IsOfBundle s known front b → Each HasNullManifest (changesets_in (s.blocks ++ front)) → IsTimely (s.blocks ++ front) b
+pub bundle-timely : (s : State) (known : List Revision) (front : List Block) (b : Block) → IsOfBundle s known front b → Each HasNullManifest (changesets_in (s.blocks ++ front)) → IsTimely (s.blocks ++ front) b
 bundle-timely s known front b x each =
     let for = ((x.gives).passes).block in
     by for.0 for.1 (ap (λ (d : Block). d.changeset) for.2) (ap (λ (d : Block). d.links) for.2)
@@ -142,7 +142,7 @@ bundle-timely s known front b x each =
         (ap (λ (v : ChangesetView). has_late_file blocks v.rows) is ∙ ((x.gives).passes).files_in_time) (ap (λ (v : ChangesetView). has_late_manifest blocks v.manifest) is ∙ ((x.gives).passes).manifest_in_time)
         (subst HasNullManifest (sym is) (null-held known x.node h (x.gives).is_held))
 
-stream-timely : (s : State) (objects : List Object) (front : List Block) (b : Block) → IsOfStream s objects front b → Each HasNullManifest (changesets_in (s.blocks ++ front)) → IsTimely (s.blocks ++ front) b
+pub stream-timely : (s : State) (objects : List Object) (front : List Block) (b : Block) → IsOfStream s objects front b → Each HasNullManifest (changesets_in (s.blocks ++ front)) → IsTimely (s.blocks ++ front) b
 stream-timely s objects front b x each = by (x.gives).view for.0 for.1 (ap (λ (d : Block). d.changeset) for.2) (ap (λ (d : Block). d.links) for.2)
   where
     blocks : List Block
@@ -164,7 +164,7 @@ stream-timely s objects front b x each = by (x.gives).view for.0 for.1 (ap (λ (
 -- ---- all blocks
 
 -- a block is timely wherever those before it have null ids for no manifests
-abbrev TimelyBehind : List Block → List Block → Block → Type 0
+abbrev pub TimelyBehind : List Block → List Block → Block → Type 0
 TimelyBehind old front b = Each HasNullManifest (changesets_in (old ++ front)) → IsTimely (old ++ front) b
 
 nulls-push : (blocks : List Block) (b : Block) → Each HasNullManifest (changesets_in blocks) → Each HasNullManifest (own_of b) → Each HasNullManifest (changesets_in (blocks ++ b ∷ []))
@@ -177,7 +177,7 @@ earlier-push blocks b h t =
     subst (AreParentsEarlier []) (sym (flat_map_append own_of blocks (b ∷ [])))
     (earlier-append [] (changesets_in blocks) (changesets_in (b ∷ [])) h (subst (AreParentsEarlier (referred blocks)) (sym (append-nil (own_of b))) t.earlier))
 
-earlier-on : (old front new : List Block) → AreNew (TimelyBehind old) front new → Each HasNullManifest (changesets_in (old ++ front)) → AreParentsEarlier [] (changesets_in (old ++ front)) → AreParentsEarlier [] (changesets_in (old ++ (front ++ new)))
+pub earlier-on : (old front new : List Block) → AreNew (TimelyBehind old) front new → Each HasNullManifest (changesets_in (old ++ front)) → AreParentsEarlier [] (changesets_in (old ++ front)) → AreParentsEarlier [] (changesets_in (old ++ (front ++ new)))
 earlier-on old front [] h each earlier = subst (λ (l : List Block). AreParentsEarlier [] (changesets_in (old ++ l))) (sym (append-nil front)) earlier
 earlier-on old front (b ∷ new) h each earlier =
     let t = h.0 each in
@@ -187,7 +187,7 @@ earlier-on old front (b ∷ new) h each earlier =
     (subst (λ (l : List Block). Each HasNullManifest (changesets_in l)) longer (nulls-push (old ++ front) b each t.manifests))
     (subst (λ (l : List Block). AreParentsEarlier [] (changesets_in l)) longer (earlier-push (old ++ front) b earlier t)))
 
-null-views : (hs : List ChangesetView) → Each IsChangesetView hs → Each HasNullManifest hs
+pub null-views : (hs : List ChangesetView) → Each IsChangesetView hs → Each HasNullManifest hs
 null-views [] views = tt
 null-views (h ∷ hs) views = (null-view h views.0, null-views hs views.1)
 

@@ -1,28 +1,25 @@
 -- What each known revision shows by itself, and that a changeset which is held by such revisions is a view within its limits. Unlike in a store
 -- nothing is asked of the bytes of a text: what is held spells its text.
-use Rattle.std.proofs.Common.{◌≡◌, ◌≤◌, ◌+◌, ℕ, Bool, true, false, true≢false, not, ◌&&◌, ◌||◌, List, [], ◌∷◌, length, map, Option, Some, None, refl, sym, ap, subst, ◌∙◌, arith}
-use Rattle.std.specs.Prelude.{IsTrue, bytes_eq, is_some}
+use Rattle.std.proofs.Common.{◌≡◌, ◌≤◌, ◌+◌, ℕ, Bool, true, false, true≢false, not, ◌&&◌, ◌||◌, List, [], ◌∷◌, length, Option, Some, None, refl, sym, ap, subst, ◌∙◌, arith}
+use Rattle.std.specs.Prelude.{bytes_eq, is_some}
 use Rattle.std.specs.List.{list_any}
 use Rattle.text_model.specs.Limits as limits
-use Rattle.text_model.specs.Lists.{Each, rises}
-use Rattle.text_model.specs.Text.{Bytes, IsBytes, is_below}
+use Rattle.text_model.specs.Lists.{Each}
+use Rattle.text_model.specs.Text.{Bytes}
 use Rattle.text_model.specs.Id.{Id, IsId, is_null, node_id}
-use Rattle.text_model.specs.Path.{is_fit_path}
 use Rattle.text_model.specs.Fault as fault
 use Rattle.text_model.proofs.Digests.{IsId-node_id}
 use Rattle.text_model.proofs.HexLemmas.{IsId-null}
 use Rattle.text_model.proofs.Options.{not_false}
 use Rattle.text_model.proofs.TestLemmas.{both, bytes_eq-is}
-use Rattle.hg_model.specs.FileText.{file_order, manifest_order, file_text}
-use Rattle.hg_model.specs.Manifest.{IsManifest}
+use Rattle.hg_model.specs.FileText.{file_text}
 use Rattle.hg_model.specs.Reading.{text_limit}
 use Rattle.hg_model.specs.Revision.{Group, Changesets, Manifests, FilesAt, Revision, is_of, revision_of, knows, same_group, is_otherwise, has_bad_order, is_known_parent, is_bad_link, order_fault, named_if, shape_fault, ancestry_fault, text_fault, addition_fault, known_after, known_after_all}
 use Rattle.hg_model.proofs.ManifestLemmas.{manifest_text-none}
-use Rattle.hg_model.proofs.ParentOrder.{file_order-again, file_order-ids, manifest_order-again, manifest_order-ids, manifest_order-node}
 use Rattle.hg_model.proofs.RevisionLemmas.{first_name-two, first_name-three, named_if-None, same_group-is}
-use Rattle.hg_store.proofs.Found.{first_null, one_parent_twice}
+use Rattle.hg_view.proofs.Right.{IsNamed, named-is_view}
 use Rattle.hg_bundle.specs.Brought.{AreAdditions}
-use Rattle.view_model.specs.View.{Row, ManifestParents, NoManifest, Over, ChangesetView, IsChangesetView, ChangesetFits, IsRevision, AreManifestParents, entry_of_row, file_node, manifest_node, paths_of, rows_text}
+use Rattle.view_model.specs.View.{Row, ManifestParents, NoManifest, Over, ChangesetView, IsChangesetView, ChangesetFits, file_node, rows_text}
 use Rattle.view_model.specs.Held.{IsFileHeld, IsManifestHeld, IsChangesetHeld}
 use Rattle.pull_law.proofs.Known.{after-all}
 use Rattle.pull_law.proofs.Searches.{found}
@@ -86,75 +83,18 @@ founded-after known sum (r ∷ rs) all are =
 -- ---- a changeset that is held
 
 module _ (known : List Revision) (all : Each IsFounded known) where
-  revision-is : (row : Row) → IsFileHeld known row → IsRevision row.revision
-  revision-is row held =
-      let r = held.revision in
-      let of = (there known all (FilesAt row.path) (file_node row.revision) r held.is_held).founded in
-      let ids = file_order-ids (row.revision).meta r.p r.q (of.parents).0 (of.parents).1 in
-      let first : (row.revision).p ≡ (file_order (row.revision).meta r.p r.q).0 = ap (λ (x : Id × Id). x.0) held.parents in
-      let second : (row.revision).q ≡ (file_order (row.revision).meta r.p r.q).1 = ap (λ (x : Id × Id). x.1) held.parents in (
-        subst IsId (sym first) ids.0,
-        subst IsId (sym second) ids.1,
-        (held.text).0,
-        (λ i. file_order (row.revision).meta (first i) (second i)) ∙ file_order-again (row.revision).meta r.p r.q ∙ sym held.parents,
-      )
+  named : (group : Group) (node : Id) (r : Revision) → revision_of known group node ≡ Some r → IsNamed node r
+  named group node r at =
+      let of = there known all group node r at in
+      record { parents = (of.founded).parents; hash = sym of.node_is ∙ (of.founded).hash }
 
-  rows-are : (rows : List Row) → Each (λ e. IsTrue (is_fit_path e.path) × IsBytes e.path × IsId e.node) (map entry_of_row rows) → Each (IsFileHeld known) rows
-      → Each (λ row. IsTrue (is_fit_path row.path) × IsBytes row.path × IsRevision row.revision) rows
-  rows-are [] entries held = tt
-  rows-are (row ∷ rows) entries held = ((entries.0.0, entries.0.1, revision-is row held.0), rows-are rows entries.1 held.1)
-
-  paths-same : (rows : List Row) → map (λ e. e.path) (map entry_of_row rows) ≡ paths_of rows
-  paths-same [] = refl
-  paths-same (row ∷ rows) = ap (λ (x : List Bytes). row.path ∷ x) (paths-same rows)
-
-  -- the lines of the manifest, be it the null one or another
-  lines-are : (m : ManifestParents) (node : Id) (rows : List Row) → IsManifestHeld known node m rows → IsManifest (map entry_of_row rows)
-  lines-are NoManifest node rows held = subst (λ (x : List Row). IsManifest (map entry_of_row x)) (sym held.1) (tt, refl)
-  lines-are (Over p q) node rows held = (held.text).0
-
-  parents-are : (m : ManifestParents) (node : Id) (rows : List Row) → IsManifestHeld known node m rows → AreManifestParents m rows
-  parents-are NoManifest node rows held = held.1
-  parents-are (Over p q) node rows held =
-      let r = held.revision in
-      let of = (there known all Manifests node r held.is_held).founded in
-      let ids = manifest_order-ids r.p r.q (of.parents).0 (of.parents).1 in
-      let first : p ≡ (manifest_order r.p r.q).0 = ap (λ (x : Id × Id). x.0) held.parents in
-      let second : q ≡ (manifest_order r.p r.q).1 = ap (λ (x : Id × Id). x.1) held.parents in
-      (subst IsId (sym first) ids.0, subst IsId (sym second) ids.1, (λ i. manifest_order (first i) (second i)) ∙ manifest_order-again r.p r.q ∙ sym held.parents)
-
-  node-agrees : (m : ManifestParents) (node : Id) (rows : List Row) → IsManifestHeld known node m rows → node ≡ manifest_node m rows
-  unfolding manifest_node
-  node-agrees NoManifest node rows held = held.0
-  node-agrees (Over p q) node rows held =
-      let r = held.revision in
-      let of = there known all Manifests node r held.is_held in
-      let first : p ≡ (manifest_order r.p r.q).0 = ap (λ (x : Id × Id). x.0) held.parents in
-      let second : q ≡ (manifest_order r.p r.q).1 = ap (λ (x : Id × Id). x.1) held.parents in
-      sym of.node_is ∙ (of.founded).hash ∙ sym (manifest_order-node r.p r.q r.text) ∙ (λ i. node_id (sym first i) (sym second i) ((held.text).1 i))
-
-  good-order : (r : Revision) → IsFounded r → r.group ≡ Changesets → has_bad_order r ≡ false
-  good-order r of e = named_if-None (has_bad_order r) fault.ParentOrder (sym (ap (λ (g : Group). order_fault g r) e) ∙ of.order)
+  in-order : (node : Id) (r : Revision) → revision_of known Changesets node ≡ Some r → has_bad_order r ≡ false
+  in-order node r at =
+      let of = there known all Changesets node r at in
+      named_if-None (has_bad_order r) fault.ParentOrder (sym (ap (λ (g : Group). order_fault g r) of.group_is) ∙ (of.founded).order)
 
   pub held-view : (node : Id) (h : ChangesetView) → IsChangesetHeld known node h → IsChangesetView h
-  held-view node h held =
-      let r = held.revision in
-      let of = there known all Changesets node r held.is_held in
-      let order = good-order r of.founded of.group_is in
-      let ids = (of.founded).parents in
-      let lines = lines-are h.manifest (h.fields).manifest h.rows held.manifest in
-      let first = held.parents.0 in
-      let second = held.parents.1 in
-      record {
-        parents = (subst IsId (sym first) ids.0, subst IsId (sym second) ids.1);
-        first = λ e. second ∙ first_null r order (sym first ∙ e);
-        distinct = λ e. first ∙ one_parent_twice r order (sym first ∙ e ∙ second);
-        fields = (held.fields).0;
-        manifest = parents-are h.manifest (h.fields).manifest h.rows held.manifest;
-        rows = rows-are h.rows lines.0 held.files;
-        in_order = subst (λ (paths : List Bytes). IsTrue (rises is_below paths)) (paths-same h.rows) lines.1;
-        agrees = node-agrees h.manifest (h.fields).manifest h.rows held.manifest;
-      }
+  held-view = named-is_view known named in-order
 
   -- ---- its limits
 

@@ -1,9 +1,7 @@
 pub mod Links
 pub mod Leads
-pub mod NoLinks
 pub mod Objects
 pub mod Table
-pub mod Grown
 pub mod Alike
 pub mod LikeNew
 pub mod Distinct

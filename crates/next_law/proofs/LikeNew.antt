@@ -16,7 +16,7 @@ use Rattle.view_model.specs.Dump.{manifest_revision, file_revision, revisions_of
 use Rattle.pair_model.specs.Block.{Block, changesets_in, view_at, view_or_none, no_changeset}
 use Rattle.pair_model.specs.Octopus.{link_view, links_over, links_by, links_of, partners_of_parents}
 use Rattle.partner_model.specs.Partner.{IsHeldView, IsKnownAs}
-use Rattle.next_law.proofs.Grown.{more-all}
+use Rattle.hg_view.proofs.Grown.{more-all}
 use Rattle.next_law.proofs.Alike.{IsLike, own-like, node-same}
 
 -- ---- a search

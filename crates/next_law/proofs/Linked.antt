@@ -31,7 +31,7 @@ use Rattle.pull_law.proofs.Known.{held-node}
 use Rattle.next_law.proofs.Alike.{node-same}
 use Rattle.next_law.proofs.Links.{links-good, links-few}
 use Rattle.next_law.proofs.Leads.{IsLinked}
-use Rattle.next_law.proofs.NoLinks.{marked-no_link}
+use Rattle.unmark_law.proofs.NoLinks.{marked-no_link}
 
 -- ---- links of a commit
 

@@ -5,7 +5,7 @@ use Rattle.std.specs.List.{find, flat_map, list_any}
 use Rattle.text_model.specs.Lists.{Each, In}
 use Rattle.text_model.specs.Id.{Id, ObjectKind, blob, tree, commit, tag, same_kind}
 use Rattle.text_model.proofs.EachLemmas.{Each-append}
-use Rattle.text_model.proofs.Elements.{each_in, each_from, in_right, none_in, none_all}
+use Rattle.text_model.proofs.Elements.{each_in, each_from, in_right, none_in, none_all, find-more}
 use Rattle.text_model.proofs.Options.{some_is}
 use Rattle.text_model.proofs.TestLemmas.{both, bytes_eq-is, bytes_eq-self}
 use Rattle.git_model.specs.Tree.{TreeEntry, is_directory, is_blob_mode}
@@ -17,7 +17,6 @@ use Rattle.git_dump.proofs.CommitLemmas.{objects-of}
 use Rattle.view_model.specs.View.{CommitView, commit_objects}
 use Rattle.view_model.specs.Held.{IsCommitHeld}
 use Rattle.state_model.specs.Saved.{has_other_content}
-use Rattle.next_law.proofs.Grown.{find-more}
 use Rattle.next_law.proofs.LikeNew.{find-in}
 
 -- the object is known with its kind and content

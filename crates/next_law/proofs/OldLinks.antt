@@ -8,7 +8,7 @@ use Rattle.pair_model.specs.Block.{Block, changesets_in}
 use Rattle.partner_model.specs.Partner.{IsHeldView, IsKnownAs}
 use Rattle.state_model.specs.Saved.{AreBlocks}
 use Rattle.unmark_law.proofs.Same.{same_changeset}
-use Rattle.next_law.proofs.Grown.{IsMore, view-more}
+use Rattle.hg_view.proofs.Grown.{IsMore, view-more}
 use Rattle.next_law.proofs.Linked.{AreKnownLinks}
 
 each-held : (known : List Revision) (hs : List ChangesetView) → AreChangesetsHeld known (map changeset_node hs) hs → Each (λ h. IsHeldView known h) hs

@@ -8,10 +8,10 @@ use Rattle.pair_model.specs.Block.{Block, changesets_in}
 use Rattle.history_model.specs.Pull.{known_with, objects_with, revisions_among}
 use Rattle.state_model.specs.Kept.{Kept, kept_of}
 use Rattle.saved_model.specs.Step.{Pull, OfBundle, OfStream, Accepts, known_of}
+use Rattle.hg_view.proofs.Grown.{more-all}
 use Rattle.pull_law.proofs.Known.{AreSome, own-some}
 use Rattle.next_law.specs.Next.{IsLeft, HasNoneOtherwise}
 use Rattle.next_law.proofs.Alike.{IsLike, like-more, all-like, none-otherwise}
-use Rattle.next_law.proofs.Grown.{more-all}
 use Rattle.next_law.proofs.Known.{IsSaved, saved-of, held-known, sound-known}
 use Rattle.next_law.proofs.NewBlocks.{known_behind}
 use Rattle.next_law.proofs.Otherwise.{referred, bundle-like, stream-like}

@@ -15,9 +15,9 @@ use Rattle.view_model.specs.Dump.{revisions_of, revisions_in}
 use Rattle.pair_model.specs.Block.{Block, changesets_in}
 use Rattle.partner_model.specs.Clash.{is_any_saved}
 use Rattle.history_model.specs.Pull.{State}
+use Rattle.hg_view.proofs.Grown.{more-all}
 use Rattle.pull_law.specs.Sound.{HasOwnNode}
 use Rattle.pull_law.proofs.Known.{held-node}
-use Rattle.next_law.proofs.Grown.{more-all}
 use Rattle.next_law.proofs.Alike.{IsLike, like-more, held-like}
 use Rattle.next_law.proofs.Apart.{own_of}
 use Rattle.next_law.proofs.Linked.{bundle-known}

@@ -7,6 +7,7 @@ use Rattle.text_model.specs.Text.{Bytes}
 use Rattle.text_model.specs.Id.{Id}
 use Rattle.text_model.proofs.Options.{none_some}
 use Rattle.text_model.proofs.TestLemmas.{both, bytes_eq-is}
+use Rattle.text_model.proofs.Elements.{find-more}
 use Rattle.hg_model.specs.Changeset.{changeset_text}
 use Rattle.hg_model.specs.Revision.{Group, Revision, is_of, revision_of, knows, same_group, known_after, known_after_all}
 use Rattle.hg_model.specs.Reading.{bundle_reading}
@@ -19,7 +20,6 @@ use Rattle.dump_law.proofs.Bases.{base-is-same}
 use Rattle.dump_law.proofs.Saved.{saved-held, views-moved}
 use Rattle.next_law.specs.Next.{ViewsAreRead}
 use Rattle.next_law.proofs.Added.{views-added}
-use Rattle.next_law.proofs.Grown.{find-more}
 
 -- ---- what is found is the first of a node
 

@@ -1,48 +1,22 @@
 -- The texts of changesets, manifests and files are made of bytes.
-use Rattle.std.proofs.Common.{◌≡◌, ◌≢◌, ◌<◌, ◌+◌, ◌==◌, ℕ, Bool, true, false, List, [], ◌∷◌, ◌++◌, length, Option, Some, None, refl, arith, leb-true, if◌then◌else◌}
-use Rattle.std.specs.Prelude.{IsTrue, codes, nat_le, ◌&&◌, ℤ, pos, negsuc}
-use Rattle.std.specs.List.{flat_map, list_all}
-use Rattle.std.proofs.lemmas.Bool.{and_parts}
+use Rattle.std.proofs.Common.{◌≡◌, ◌≢◌, ◌<◌, ◌==◌, ℕ, Bool, true, false, List, [], ◌∷◌, ◌++◌, Option, Some, None, arith, if◌then◌else◌}
+use Rattle.std.specs.Prelude.{IsTrue, codes}
+use Rattle.std.specs.List.{flat_map}
 use Rattle.text_model.specs.Lists.{Each}
 use Rattle.text_model.specs.Text.{Bytes, IsBytes, has_byte, line, lf, sp, nul, signed_decimal}
-use Rattle.text_model.specs.Id.{Id, IsId, hex, is_lower_digit}
+use Rattle.text_model.specs.Id.{hex}
 use Rattle.text_model.specs.Path.{is_fit_path}
 use Rattle.text_model.proofs.ByteLemmas.{IsBytes-append}
 use Rattle.text_model.proofs.Digests.{IsId-node_id}
-use Rattle.text_model.proofs.HexLemmas.{is_hex_id-hex}
+use Rattle.text_model.proofs.TextBytes.{hex-bytes, line-bytes}
 use Rattle.hg_model.specs.Changeset.{Changeset, IsChangeset, Extra, DateLine, Plain, Raw, IsDateLine, extra_byte, extra_text, extras_text, date_text, changeset_text}
 use Rattle.hg_model.specs.FileText.{IsFile, file_text, mark}
 use Rattle.hg_model.specs.Manifest.{Flag, Regular, Executable, Symlink, flag_text, entry_text, manifest_text}
 use Rattle.view_model.specs.View.{Row, IsRevision, entry_of_row, rows_text}
-use Rattle.mark_law.proofs.TextFacts.{IsBytes-decimal}
+use Rattle.mark_law.proofs.TextFacts.{signed-bytes}
 
 both : (a b : Bytes) → IsBytes a → IsBytes b → IsBytes (a ++ b)
 both = IsBytes-append
-
-line-bytes : (text : Bytes) → IsBytes text → IsBytes (line text)
-line-bytes text h = both text (lf ∷ []) h (omega arith, tt)
-
-digit-small : (b : ℕ) → is_lower_digit b ≡ true → b < 256
-digit-small b h = by (nat_le 48 b && nat_le b 57) refl
-  where
-    by : (t : Bool) → (nat_le 48 b && nat_le b 57) ≡ t → b < 256
-    by true e = omega (arith, leb-true b 57 (and_parts (nat_le 48 b) (nat_le b 57) e).1)
-    by false e =
-        let k : (nat_le 97 b && nat_le b 102) ≡ true = rw e at h in
-        omega (arith, leb-true b 102 (and_parts (nat_le 97 b) (nat_le b 102) k).1)
-
-digits-bytes : (text : Bytes) → list_all is_lower_digit text ≡ true → IsBytes text
-digits-bytes [] h = tt
-digits-bytes (b ∷ text) h =
-    let parts = and_parts (is_lower_digit b) (list_all is_lower_digit text) h in
-    (digit-small b parts.0, digits-bytes text parts.1)
-
-hex-bytes : (id : Id) → IsId id → IsBytes (hex id)
-hex-bytes id h = digits-bytes (hex id) (and_parts (length (hex id) == 40) (list_all is_lower_digit (hex id)) (is_hex_id-hex id h)).1
-
-signed-bytes : (z : ℤ) → IsBytes (signed_decimal z)
-signed-bytes (pos n) = IsBytes-decimal n
-signed-bytes (negsuc n) = (omega arith, IsBytes-decimal (n + 1))
 
 -- ---- a changeset
 

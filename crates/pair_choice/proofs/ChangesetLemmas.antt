@@ -1,28 +1,22 @@
 -- The changeset that is chosen for a commit, and its links.
-use Rattle.std.proofs.Common.{◌≡◌, ◌≤◌, ℕ, ◌<◌, ◌%◌, Bool, true, false, true≢false, List, [], ◌∷◌, ◌++◌, length, Option, Some, None, refl, sym, ap, subst, ◌∙◌, inl, inr, arith, bytes_eq}
-use Rattle.std.specs.Prelude.{ℤ, codes, ◌&&◌, not, ◌==◌}
-use Rattle.std.specs.List.{slice_split}
+use Rattle.std.proofs.Common.{◌≡◌, ◌≤◌, ℕ, ◌<◌, ◌%◌, Bool, true, false, true≢false, List, [], ◌∷◌, ◌++◌, length, refl, sym, ap, subst, ◌∙◌, inl, inr, arith}
+use Rattle.std.specs.Prelude.{◌==◌}
 use Rattle.std.proofs.lemmas.Bool.Decides.{nat_tests}
 use Rattle.std.proofs.lemmas.List.{length-map}
 use Rattle.text_model.specs.Lists.{Each}
 use Rattle.text_model.specs.Text.{Bytes}
-use Rattle.text_model.specs.Id.{Id, is_null}
-use Rattle.text_model.proofs.EachLemmas.{Each-append}
-use Rattle.hg_model.specs.Changeset.{Extra, Plain}
+use Rattle.text_model.specs.Id.{Id}
 use Rattle.view_model.specs.View.{ChangesetView, CommitView, ChangesetFits, commit_id}
 use Rattle.pair_model.specs.Block.{Block}
-use Rattle.pair_model.specs.MarkList.{ChangesetMarks, extra_of, parents_extra, tree_extra, extras_of}
 use Rattle.git_model.specs.Commit.{Commit}
-use Rattle.git_model.specs.Residue.{ResidueItem}
-use Rattle.pair_model.specs.Octopus.{is_zero, is_link, is_link_view, is_link_date, is_link_value, link_key, link_user, link_description, links_of, links_by, links_over, partners_of_parents}
-use Rattle.pair_model.specs.User.{user_of_line}
+use Rattle.pair_model.specs.Octopus.{is_link_view, links_of, links_by, links_over, partners_of_parents}
 use Rattle.partner_model.specs.Mark.{mark_changeset}
 use Rattle.partner_model.specs.Partner.{Member, OfHg, OfGit, IsHeldView, UnmarksCommit, Unmarks, IsPlain, HasDepth}
 use Rattle.partner_model.specs.Given.{IsChangesetFor, IsTooDeep, depth_limit}
 use Rattle.depth_law.proofs.Back.{links_none}
 use Rattle.depth_law.proofs.Falls.{plain_is_bare}
 use Rattle.depth_law.proofs.PlainCommit.{plain_commit, commit_is_plain, commit_paired, commit_few}
-use Rattle.unmark_law.proofs.ChangesetOne.{marks_in, date_is}
+use Rattle.unmark_law.proofs.NoLinks.{marked-no_link}
 use Rattle.partner_law.proofs.Choices.{depth_is_below}
 use Rattle.pair_known.specs.Blocks.{IsHistoryHeld}
 use Rattle.pair_known.specs.Over.{IsCommitOver, AreCommitParentsPaired}
@@ -37,61 +31,9 @@ use Rattle.pair_choice.specs.Chosen.{IsChosenBlock, CommitRefuses}
 use Rattle.pair_choice.specs.Fault.{choice_fault}
 use Rattle.pair_choice.specs.Parts.{IsBlockMade}
 use Rattle.pair_choice.specs.Depths.{MeetsNone}
-use Rattle.pair_choice.proofs.Histories.{table, apart}
+use Rattle.commit_rule.proofs.Tables.{table}
+use Rattle.pair_choice.proofs.Histories.{apart}
 use Rattle.pair_choice.proofs.Meets.{plain-meets, none-meets}
-
--- ---- no marked changeset is a link
-
-abbrev IsOther : Extra → Type 0
-IsOther e = bytes_eq e.key link_key ≡ false
-
-part-other : (key : Bytes) → bytes_eq key link_key ≡ false → (part : Option Bytes) → Each IsOther (extra_of key part)
-part-other key e None = tt
-part-other key e (Some part) = (e, tt)
-
-parents-other : (part : Option ℕ) → Each IsOther (parents_extra part)
-parents-other None = tt
-parents-other (Some n) = (refl, tt)
-
-tree-other : (part : Option (List ResidueItem)) → Each IsOther (tree_extra part)
-tree-other None = tt
-tree-other (Some items) = (refl, tt)
-
-others : (m : ChangesetMarks) → Each IsOther (extras_of m)
-unfolding extras_of
-others m =
-    let a = part-other (codes "hg-git-author") refl m.author in
-    let b = part-other (codes "hg-git-committer") refl m.committer in
-    let c = part-other (codes "hg-git-headers") refl m.headers in
-    let d = part-other (codes "hg-git-message") refl m.message in
-    let ab = Each-append IsOther _ _ a b in
-    let abc = Each-append IsOther _ _ ab c in
-    let abcd = Each-append IsOther _ _ abc d in
-    Each-append IsOther _ _ (Each-append IsOther _ _ abcd (parents-other m.parents)) (tree-other m.tree)
-
-third-false : (a b d : Bool) → (a && b && false && d) ≡ false
-third-false true true d = refl
-third-false true false d = refl
-third-false false b d = refl
-
-no-link-date : (time tz : ℤ) (es : List Extra) → Each IsOther es → is_link_date (Plain time tz es) ≡ false
-no-link-date time tz [] h = refl
-no-link-date time tz (e ∷ []) h = rw h.0 (third-false (is_zero time) (is_zero tz) (is_link_value (slice_split (λ b. b == 58) e.value)))
-no-link-date time tz (e ∷ f ∷ es) h = refl
-
-fourth-false : (a b c d e : Bool) → (a && b && c && false && d && e) ≡ false
-fourth-false true true true d e = refl
-fourth-false true true false d e = refl
-fourth-false true false c d e = refl
-fourth-false false b c d e = refl
-
-pub marked-no-link : (blocks : List Block) (c : CommitView) → is_link_view (mark_changeset blocks c) ≡ false
-unfolding is_link
-marked-no-link blocks c =
-    let h = mark_changeset blocks c in
-    let given = user_of_line (c.value).author in
-    let none : is_link_date (h.fields).date ≡ false = ap is_link_date (date_is blocks c) ∙ no-link-date given.time given.tz (extras_of (marks_in blocks c)) (others (marks_in blocks c)) in
-    rw none (fourth-false (not (is_null h.p)) (not (is_null h.q)) (bytes_eq (h.fields).user link_user) (length (h.fields).files == 0) (bytes_eq (h.fields).description link_description))
 
 -- ---- links
 
@@ -182,7 +124,7 @@ module _ (k : Known) (blocks : List Block) (history : IsHistoryHeld k blocks) (c
   odd-choice h u n odd depth less clear = record { partner = inr ((n, odd, depth), u); no_link = u.no_link; apart = clear; not_deep = shallow n depth less }
 
   pub even-choice : AreCommitParentsPaired blocks c → (n : ℕ) → n % 2 ≡ 0 → HasDepth blocks (IsHeldView k.hg) n (OfGit c) → n < depth_limit → MeetsNone k blocks (OfGit c) → IsChoice k blocks c (mark_changeset blocks c)
-  even-choice paired n even depth less clear = record { partner = inl ((n, even, depth), paired, refl); no_link = marked-no-link blocks c; apart = clear; not_deep = shallow n depth less }
+  even-choice paired n even depth less clear = record { partner = inl ((n, even, depth), paired, refl); no_link = marked-no_link blocks c; apart = clear; not_deep = shallow n depth less }
 
   -- and one without an unmarking has its marked changeset
   pub alone-choice : AreCommitParentsPaired blocks c → ((h : ChangesetView) → ¬ (UnmarksCommit blocks c h)) → IsChoice k blocks c (mark_changeset blocks c)

@@ -31,7 +31,8 @@ use Rattle.pair_choice.specs.Chosen.{IsChosenCommit, ChangesetRefuses}
 use Rattle.pair_choice.specs.Fault.{choice_fault}
 use Rattle.pair_choice.specs.Parts.{is_bare_date}
 use Rattle.pair_choice.specs.Depths.{MeetsNone}
-use Rattle.pair_choice.proofs.Histories.{table, apart}
+use Rattle.commit_rule.proofs.Tables.{table}
+use Rattle.pair_choice.proofs.Histories.{apart}
 use Rattle.pair_choice.proofs.Meets.{plain-meets, none-meets}
 use Rattle.pair_choice.proofs.ParentLemmas.{no-link-parents, paired-or-not}
 

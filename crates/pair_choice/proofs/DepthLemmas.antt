@@ -24,7 +24,7 @@ use Rattle.changeset_unmark.specs.Drafts.{IsBuiltCommit}
 use Rattle.pair_choice.proofs.BodyLemmas.{stands}
 use Rattle.pair_choice.proofs.Collisions.{apart-of, none-collide}
 use Rattle.pair_choice.proofs.Meets.{clear-end, clear-more}
-use Rattle.pair_choice.proofs.Histories.{table}
+use Rattle.commit_rule.proofs.Tables.{table}
 
 pub history-of : (k : Known) (blocks : List Block) (d : Draft) (m : Member) → IsDraftOf k blocks d m → IsHistoryHeld k blocks
 history-of k blocks (Changeset d) (OfHg h) is = is.history

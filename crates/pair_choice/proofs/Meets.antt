@@ -10,7 +10,8 @@ use Rattle.depth_law.proofs.Depths.{unmarking_one}
 use Rattle.pair_known.specs.Blocks.{IsHistoryHeld}
 use Rattle.pair_known.specs.declared.known.Known.{Known}
 use Rattle.pair_choice.specs.Depths.{IsClear, MeetsNone}
-use Rattle.pair_choice.proofs.Histories.{table, apart}
+use Rattle.commit_rule.proofs.Tables.{table}
+use Rattle.pair_choice.proofs.Histories.{apart}
 
 abbrev Stored : Known → ChangesetView → Type 0
 Stored k = IsHeldView k.hg

@@ -7,7 +7,7 @@ use Rattle.text_model.specs.Lists.{In, Each}
 use Rattle.text_model.specs.Text.{IsBytes}
 use Rattle.text_model.specs.Path.{is_fit_path}
 use Rattle.text_model.specs.Id.{Id, null, is_null}
-use Rattle.text_model.proofs.EachLemmas.{Each-front, Each-rest, Each-weaker}
+use Rattle.text_model.proofs.EachLemmas.{Each-front, Each-rest}
 use Rattle.text_model.proofs.TestLemmas.{both, bytes_eq-self as self}
 use Rattle.text_model.proofs.Elements.{none_in}
 use Rattle.text_model.proofs.Options.{not_false, or_parts}
@@ -17,9 +17,10 @@ use Rattle.hg_model.specs.Revision.{Revision, Group, Changesets, Manifests, File
 use Rattle.hg_model.proofs.RevisionLemmas.{is_of-self}
 use Rattle.hg_model.proofs.ParentOrder.{manifest_order-turned, file_order-turned}
 use Rattle.pair_known.specs.Ruled.{IsLooseView}
-use Rattle.view_model.specs.View.{Row, ChangesetView, IsRevision, AreManifestParents, ManifestParents, NoManifest, Over, changeset_node, manifest_node, file_node, rows_text}
+use Rattle.view_model.specs.View.{Row, ChangesetView, IsRevision, AreManifestParents, ManifestParents, NoManifest, Over, changeset_node, manifest_node, rows_text}
 use Rattle.view_model.specs.Held.{IsFileHeld, IsManifestHeld, IsChangesetHeld, AreChangesetsHeld}
 use Rattle.view_model.specs.Dump.{own_revision, manifest_revision, file_revision, revisions_of}
+use Rattle.hg_view.proofs.Grown.{view-more}
 use Rattle.pair_state.specs.Came.{is_bad, AreClean, IsWithinHg}
 use Rattle.pair_state.proofs.CameLemmas.{within-all}
 use Rattle.pair_state.proofs.ManifestLemmas.{rows-manifest}
@@ -27,28 +28,11 @@ use Rattle.pair_state.proofs.ManifestLemmas.{rows-manifest}
 -- ---- what is held stays held
 
 module _ (old new : List Revision) (within : IsWithinHg old new) where
-  file-on : (row : Row) → IsFileHeld old row → IsFileHeld new row
-  file-on row h = record { revision = h.revision; is_held = within (FilesAt row.path) (file_node row.revision) h.revision h.is_held; parents = h.parents; text = h.text }
-
-  manifest-on : (node : Id) (m : ManifestParents) (rows : List Row) → IsManifestHeld old node m rows → IsManifestHeld new node m rows
-  manifest-on node NoManifest rows h = h
-  manifest-on node (Over p q) rows h = record { revision = h.revision; is_held = within Manifests node h.revision h.is_held; parents = h.parents; text = h.text }
-
-  pub changeset-on : (node : Id) (v : ChangesetView) → IsChangesetHeld old node v → IsChangesetHeld new node v
-  changeset-on node v h = record {
-    revision = h.revision;
-    is_held = within Changesets node h.revision h.is_held;
-    parents = h.parents;
-    fields = h.fields;
-    manifest = manifest-on (v.fields).manifest v.manifest v.rows h.manifest;
-    files = Each-weaker (IsFileHeld old) (IsFileHeld new) file-on v.rows h.files;
-  }
-
   pub changesets-on : (nodes : List Id) (vs : List ChangesetView) → AreChangesetsHeld old nodes vs → AreChangesetsHeld new nodes vs
   changesets-on [] [] h = tt
   changesets-on [] (v ∷ vs) h = absurd h
   changesets-on (n ∷ nodes) [] h = absurd h
-  changesets-on (n ∷ nodes) (v ∷ vs) h = (changeset-on n v h.0, changesets-on nodes vs h.1)
+  changesets-on (n ∷ nodes) (v ∷ vs) h = (view-more old new within n v h.0, changesets-on nodes vs h.1)
 
 -- ---- a revision that came is there
 

@@ -35,8 +35,9 @@ use Rattle.pair_state.specs.Step.{AreItsTexts, IsPushed, line_of}
 use Rattle.pair_state.specs.declared.state_parts.StateParts.{StateParts}
 use Rattle.pair_state.proofs.BlockLemmas.{HoldMore, HasMore, has-more, has-view, parts_of, state-more, git-some}
 use Rattle.pair_state.proofs.CameLemmas.{lines-are, within-all}
-use Rattle.pair_state.proofs.ChangesetHeld.{CameAs, all-as, changeset-on, changesets-on, new-changeset}
+use Rattle.pair_state.proofs.ChangesetHeld.{CameAs, all-as, changesets-on, new-changeset}
 use Rattle.pair_state.proofs.SlotLemmas.{none-bad}
+use Rattle.hg_view.proofs.Grown.{view-more}
 
 -- a block of a node has its changeset among those of the blocks
 pub block-saved : (blocks : List Block) (node : Id) → is_some (block_of_node blocks node) ≡ true → has_id (map changeset_node (changesets_in blocks)) node ≡ true
@@ -227,7 +228,7 @@ module _ (s : StateParts) (d : HgBlock) (blocks : List Block) (b : Block) (p : B
     none-collides = (λ i. none-bad s.known.hg (revisions_in hs) came.came.clean i || (sym (any-same s.changesets blocks p.state.changesets hs) ∙ came.apart) i)
 
     pub agreed-on : (x : Id) → IsTrue (has_id s.agreed x) → IsAgreed new s.known.git x
-    agreed-on x some = let a = p.state.agreed x some in record { view = a.view; held = changeset-on s.known.hg new within x a.view a.held; blobs = a.blobs }
+    agreed-on x some = let a = p.state.agreed x some in record { view = a.view; held = view-more s.known.hg new within x a.view a.held; blobs = a.blobs }
 
     -- the block of a commit that is stored
     pub pushed : (id : Id) → IsCommitHeld s.known.git id b.commit → walk_fault s.known.git ((b.commit).value).tree_id ≡ None → commit_id b.commit ≡ id

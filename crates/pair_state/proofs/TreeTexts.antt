@@ -1,14 +1,11 @@
 -- The trees of files have the texts of trees.
-use Rattle.std.proofs.Common.{◌≡◌, ◌≢◌, ◌≤◌, ℕ, zero, suc, Bool, true, false, List, [], ◌∷◌, ◌++◌, length, take, drop, map, Option, Some, None, refl, sym, ap, subst, ◌∙◌, inl, inr, arith}
-use Rattle.std.specs.Prelude.{bytes_eq, IsTrue}
-use Rattle.std.specs.List.{list_any, prefix_len}
-use Rattle.std.proofs.lemmas.List.{take-append-drop, length-drop}
+use Rattle.std.proofs.Common.{◌≡◌, ◌≤◌, ℕ, zero, suc, Bool, true, false, List, [], ◌∷◌, ◌++◌, length, map, Option, Some, None, refl, sym, ap, subst, ◌∙◌, arith}
 use Rattle.text_model.specs.Cuts.{cut_of}
-use Rattle.text_model.specs.Lists.{In, Each}
+use Rattle.text_model.specs.Lists.{Each}
 use Rattle.text_model.specs.Text.{Bytes, IsBytes}
-use Rattle.text_model.specs.Id.{IsId, tree}
-use Rattle.text_model.specs.Path.{is_fit_path, is_fit_name}
-use Rattle.text_model.proofs.ByteLemmas.{IsBytes-front, IsBytes-rest}
+use Rattle.text_model.specs.Id.{tree}
+use Rattle.text_model.specs.Path.{is_fit_path}
+use Rattle.text_model.proofs.ByteLemmas.{IsBytes-front}
 use Rattle.text_model.proofs.EachLemmas.{Each-append, Each-front, Each-rest}
 use Rattle.text_model.proofs.LackLemmas.{has_byte-lacks}
 use Rattle.text_model.proofs.Elements.{each_in, each_from}
@@ -16,81 +13,19 @@ use Rattle.text_model.proofs.Digests.{IsId-object_id}
 use Rattle.git_model.specs.Tree.{is_directory, TreeEntry, IsTree, tree_text, has_distinct}
 use Rattle.git_model.specs.Object.{Object, object_of, tree_name}
 use Rattle.git_model.specs.Unfold.{FileRow, by_walk, is_met_before}
-use Rattle.git_model.specs.Shape.{Leaf, leaf_of, first_names, first_clash, trees_of}
+use Rattle.git_model.specs.Shape.{first_clash, trees_of}
 use Rattle.git_model.proofs.TreeTextLemmas.{tree_fault-text}
 use Rattle.tree_shape.specs.Sets.{IsFileRow, IsFiles}
-use Rattle.tree_shape.specs.Shapes.{entry_of, entries_in, trees_in, trees_of_rows, Good, is_in}
+use Rattle.tree_shape.specs.Shapes.{entries_in, trees_in, trees_of_rows, Good}
 use Rattle.tree_shape.proofs.WalkOrder.{walk-good, walk-trees}
 use Rattle.git_model.proofs.SortLemmas.{of-order}
 use Rattle.tree_shape.proofs.FitPieces.{fit-pieces, fit-name}
-use Rattle.tree_shape.proofs.Leaves.{NotFirst, entry_of-name, first_names-other, other}
 use Rattle.tree_shape.proofs.PutRows.{entries-dir, trees-dir, entries-file, trees-file, trees-empty}
-use Rattle.tree_shape.proofs.Rows.{deep, flat, is-in, in-is, Splits, file-one, dir-one, good-rest, good-front, shorter, shorter-path, shorter-good}
+use Rattle.tree_shape.proofs.Rows.{deep, flat, in-is, Splits, file-one, dir-one, good-rest, good-front, shorter, shorter-good}
 use Rattle.tree_shape.proofs.Sorted.{entries-rise, trees-are}
-use Rattle.tree_shape.proofs.Turns.{prefix-all, prefix-stops, none-depth}
+use Rattle.tree_shape.proofs.Turns.{none-depth}
 use Rattle.git_store.specs.Growth.{IsRight}
-
-abbrev leaves : List FileRow → List Leaf
-leaves rows = map leaf_of rows
-
--- ---- what an entry of a tree is
-
-abbrev IsEntry : TreeEntry → Type 0
-IsEntry e = IsTrue (is_fit_name e.name) × IsBytes e.name × IsId e.id
-
-abbrev names : List TreeEntry → List Bytes
-names entries = map (λ e. e.name) entries
-
--- the names of entries are the first names of the leaves
-names-are : (depth : ℕ) (all : List Leaf) (ns : List Bytes) → names (map (entry_of depth all) ns) ≡ ns
-names-are depth all [] = refl
-names-are depth all (n ∷ ns) = (λ k. entry_of-name depth all n k ∷ names-are depth all ns k)
-
-none-same : (n : Bytes) (ns : List Bytes) → ((m : Bytes) → In m ns → n ≢ m) → list_any (bytes_eq n) ns ≡ false
-none-same n [] h = refl
-none-same n (m ∷ ns) h = rw (other n m (h m (inl refl)), none-same n ns (λ x i. h x (inr i))) refl
-
--- a name that no row has first stands before those of the rows
-distinct-more : (depth : ℕ) (n : Bytes) (rest : List Leaf) → Each (NotFirst n) rest → has_distinct (names (entries_in depth rest)) ≡ true → has_distinct (n ∷ names (entries_in depth rest)) ≡ true
-distinct-more depth n rest h d =
-    let none : list_any (bytes_eq n) (names (entries_in depth rest)) ≡ false =
-    ap (list_any (bytes_eq n)) (names-are depth rest (first_names rest)) ∙ none-same n (first_names rest) (first_names-other n rest h) in
-    rw (none, d) refl
-
-shorter-row : (name : Bytes) (row : FileRow) → is_in name row ≡ true → IsFileRow row → IsFileRow (shorter name row)
-shorter-row name row i f =
-    let u = is-in name row i in
-    let pieces = fit-pieces name u.0 (sym (ap is_fit_path u.1.is) ∙ f.fit) in
-    record {
-      fit = ap is_fit_path (shorter-path name row u) ∙ pieces.second;
-      bytes = subst IsBytes (sym (shorter-path name row u)) (IsBytes-rest name (47 ∷ u.0) (subst IsBytes u.1.is f.bytes)).1;
-      empty = f.empty;
-      id = f.id;
-    }
-
-all-shorter : (P Q : FileRow → Type 0) (name : Bytes) (group : List FileRow) → ((row : FileRow) → is_in name row ≡ true → P row → Q (shorter name row)) → Each (λ t. is_in name t ≡ true) group → Each P group → Each Q (map (shorter name) group)
-all-shorter P Q name [] f i h = tt
-all-shorter P Q name (t ∷ group) f i h = (f t i.0 h.0, all-shorter P Q name group f i.1 h.1)
-
--- ---- the first rows of one directory
-
-record Cut (name : Bytes) (a : FileRow) (rows : List FileRow) : Type 0 where
-  group : List FileRow
-  rest : List FileRow
-  whole : rows ≡ group ++ rest
-  splits : Splits name a group rest
-  shorter_rest : length rest ≤ length rows
-
-cut-group : (name : Bytes) (a : FileRow) (rows : List FileRow) → is_in name a ≡ true → Cut name a rows
-cut-group name a rows i =
-    let m : ℕ = prefix_len (is_in name) rows in
-    record {
-      group = take m rows;
-      rest = drop m rows;
-      whole = sym (take-append-drop m rows);
-      splits = record { all = (i, prefix-all (is_in name) rows); stops = λ q more e. prefix-stops (is_in name) rows q more e };
-      shorter_rest = omega (arith, length-drop m rows);
-    }
+use Rattle.tree_shape.proofs.Growing.{leaves, IsEntry, names, distinct-more, shorter-row, all-shorter, cut-group}
 
 -- ---- trees
 

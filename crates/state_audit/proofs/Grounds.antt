@@ -16,7 +16,8 @@ use Rattle.frame_law.proofs.Fronts.{each_held, ground_front, front_among}
 use Rattle.pair_known.specs.Blocks.{IsHistoryHeld}
 use Rattle.pair_known.specs.declared.known.Known.{Known}
 use Rattle.pair_known.proofs.HeldViews.{held-as}
-use Rattle.pair_choice.proofs.Histories.{table, apart}
+use Rattle.commit_rule.proofs.Tables.{table}
+use Rattle.pair_choice.proofs.Histories.{apart}
 use Rattle.state_audit.specs.Before.{IsBefore}
 
 -- ---- all blocks

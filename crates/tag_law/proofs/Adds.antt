@@ -5,7 +5,7 @@ use Rattle.std.specs.List.{list_any}
 use Rattle.text_model.specs.Lists.{Each, In}
 use Rattle.text_model.specs.Fault.{FaultName}
 use Rattle.text_model.specs.Fault as fault
-use Rattle.text_model.proofs.Elements.{each_in, each_from, in_left, none_in, none_all, in_map}
+use Rattle.text_model.proofs.Elements.{each_in, each_from, in_left, none_in, none_all, in_map, find-more}
 use Rattle.text_model.proofs.Options.{some_is, some_none, or_neither, not_true}
 use Rattle.text_model.proofs.TestLemmas.{both, bytes_eq-sym, bytes_eq-self}
 use Rattle.git_model.specs.Tree.{has_distinct}
@@ -13,7 +13,6 @@ use Rattle.git_model.specs.Object.{Object, content_fault, object_fault, object_a
 use Rattle.git_batch.specs.Arrivals.{AddsAll}
 use Rattle.dump_law.proofs.Streams.{of_append}
 use Rattle.pull_law.proofs.Known.{objects-after}
-use Rattle.next_law.proofs.Grown.{find-more}
 use Rattle.next_law.proofs.Objects.{HasContent}
 use Rattle.next_law.proofs.ObjectLike.{IsKnownAs, known-more, append-more, all-more, found-as, none-other, added-known}
 

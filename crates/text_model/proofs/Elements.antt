@@ -1,6 +1,7 @@
 -- Elements of lists: what holds of each, and where they stand.
 use Rattle.std.proofs.Common.{◌≡◌, ◌+◌, ℕ, zero, suc, Bool, true, false, ◌||◌, List, [], ◌∷◌, ◌++◌, length, map, take, drop, slice_get, Some, refl, sym, ap, subst, ◌∙◌, inl, inr, arith, append_assoc, ◌≤◌}
-use Rattle.std.specs.List.{list_any, flat_map}
+use Rattle.std.specs.Prelude.{if◌then◌else◌}
+use Rattle.std.specs.List.{find, list_any, flat_map}
 use Rattle.std.proofs.lemmas.Bool.{true≢false}
 use Rattle.text_model.specs.Lists.{Each, In}
 use Rattle.text_model.proofs.Options.{some_is, none_some}
@@ -54,6 +55,15 @@ none_in test xs x none i = by (test x) refl
 pub none_all : {X : Type 0} (test : X → Bool) (xs : List X) → ((x : X) → In x xs → test x ≡ false) → list_any test xs ≡ false
 none_all test [] h = refl
 none_all test (x ∷ xs) h = rw (h x (inl refl), none_all test xs (λ y i. h y (inr i))) refl
+
+-- what is found stays found where more elements follow
+pub find-more : {X : Type 0} (p : X → Bool) (xs ys : List X) (x : X) → find p xs ≡ Some x → find p (xs ++ ys) ≡ Some x
+find-more p [] ys x h = absurd (none_some h)
+find-more p (y ∷ xs) ys x h = by (p y) refl h (find-more p xs ys x)
+  where
+    by : (t : Bool) → p y ≡ t → (if t then Some y else find p xs) ≡ Some x → (find p xs ≡ Some x → find p (xs ++ ys) ≡ Some x) → find p (y ∷ (xs ++ ys)) ≡ Some x
+    by true e k go = rw e k
+    by false e k go = rw e (go k)
 
 -- ---- lists that are mapped, or taken from the front
 

@@ -15,3 +15,4 @@ pub mod Options
 pub mod Elements
 pub mod Search
 pub mod Digests
+pub mod TextBytes

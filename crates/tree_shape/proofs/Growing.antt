@@ -36,10 +36,10 @@ leaves rows = map leaf_of rows
 
 -- ---- what an entry of a tree is
 
-abbrev IsEntry : TreeEntry → Type 0
+abbrev pub IsEntry : TreeEntry → Type 0
 IsEntry e = IsTrue (is_fit_name e.name) × IsBytes e.name × IsId e.id
 
-abbrev names : List TreeEntry → List Bytes
+abbrev pub names : List TreeEntry → List Bytes
 names entries = map (λ e. e.name) entries
 
 -- the names of entries are the first names of the leaves
@@ -52,7 +52,7 @@ none-same n [] h = refl
 none-same n (m ∷ ns) h = rw (other n m (h m (inl refl)), none-same n ns (λ x i. h x (inr i))) refl
 
 -- a name that no row has first stands before those of the rows
-distinct-more : (depth : ℕ) (n : Bytes) (rest : List Leaf) → Each (NotFirst n) rest → has_distinct (names (entries_in depth rest)) ≡ true → has_distinct (n ∷ names (entries_in depth rest)) ≡ true
+pub distinct-more : (depth : ℕ) (n : Bytes) (rest : List Leaf) → Each (NotFirst n) rest → has_distinct (names (entries_in depth rest)) ≡ true → has_distinct (n ∷ names (entries_in depth rest)) ≡ true
 distinct-more depth n rest h d =
     let none : list_any (bytes_eq n) (names (entries_in depth rest)) ≡ false =
     ap (list_any (bytes_eq n)) (names-are depth rest (first_names rest)) ∙ none-same n (first_names rest) (first_names-other n rest h) in
@@ -63,7 +63,7 @@ distinct-more depth n rest h d =
 abbrev pub IsDeep : ℕ → FileRow → Type 0
 IsDeep depth row = length (components row.path) ≤ depth
 
-shorter-row : (name : Bytes) (row : FileRow) → is_in name row ≡ true → IsFileRow row → IsFileRow (shorter name row)
+pub shorter-row : (name : Bytes) (row : FileRow) → is_in name row ≡ true → IsFileRow row → IsFileRow (shorter name row)
 shorter-row name row i f =
     let u = is-in name row i in
     let pieces = fit-pieces name u.0 (sym (ap is_fit_path u.1.is) ∙ f.fit) in
@@ -84,7 +84,7 @@ put-shorter name row i =
     let u = is-in name row i in
     (λ k. record { names = (ap (λ (p : Bytes). name ∷ components p) (shorter-path name row u) ∙ sym u.1.parts) k; mode = row.mode; id = row.id; content = [] })
 
-all-shorter : (P Q : FileRow → Type 0) (name : Bytes) (group : List FileRow) → ((row : FileRow) → is_in name row ≡ true → P row → Q (shorter name row)) → Each (λ t. is_in name t ≡ true) group → Each P group → Each Q (map (shorter name) group)
+pub all-shorter : (P Q : FileRow → Type 0) (name : Bytes) (group : List FileRow) → ((row : FileRow) → is_in name row ≡ true → P row → Q (shorter name row)) → Each (λ t. is_in name t ≡ true) group → Each P group → Each Q (map (shorter name) group)
 all-shorter P Q name [] f i h = tt
 all-shorter P Q name (t ∷ group) f i h = (f t i.0 h.0, all-shorter P Q name group f i.1 h.1)
 
@@ -94,14 +94,14 @@ put-all name (t ∷ group) i = (λ k. put-shorter name t i.0 k ∷ put-all name 
 
 -- ---- the first rows of one directory
 
-record Cut (name : Bytes) (a : FileRow) (rows : List FileRow) : Type 0 where
-  group : List FileRow
-  rest : List FileRow
-  whole : rows ≡ group ++ rest
-  splits : Splits name a group rest
-  shorter_rest : length rest ≤ length rows
+pub record Cut (name : Bytes) (a : FileRow) (rows : List FileRow) : Type 0 where
+  pub group : List FileRow
+  pub rest : List FileRow
+  pub whole : rows ≡ group ++ rest
+  pub splits : Splits name a group rest
+  pub shorter_rest : length rest ≤ length rows
 
-cut-group : (name : Bytes) (a : FileRow) (rows : List FileRow) → is_in name a ≡ true → Cut name a rows
+pub cut-group : (name : Bytes) (a : FileRow) (rows : List FileRow) → is_in name a ≡ true → Cut name a rows
 cut-group name a rows i =
     let m : ℕ = prefix_len (is_in name) rows in
     record {

@@ -6,3 +6,4 @@ pub mod CommitOne
 pub mod Walk
 pub mod ChangesetOne
 pub mod Refuted
+pub mod NoLinks

@@ -1,16 +1,12 @@
 -- The extras of a changeset's marks are extras: their keys rise, and keys and values are made of bytes.
-use Rattle.std.proofs.Common.{◌≡◌, ◌≢◌, ◌≤◌, ◌<◌, ◌==◌, ℕ, true, false, List, [], ◌∷◌, ◌++◌, length, Option, Some, None, refl, sym, subst, append_assoc, arith, leb-true}
-use Rattle.std.specs.Prelude.{codes, nat_le, ◌&&◌, Bool}
-use Rattle.std.specs.List.{flat_map, list_all}
-use Rattle.std.proofs.lemmas.Bool.{and_parts}
+use Rattle.std.proofs.Common.{◌≡◌, ◌≢◌, ℕ, true, false, List, [], ◌∷◌, ◌++◌, Option, Some, None, refl, sym, subst, append_assoc, arith}
+use Rattle.std.specs.Prelude.{codes}
 use Rattle.text_model.specs.Lists.{Each}
-use Rattle.text_model.specs.Text.{Bytes, IsBytes, has_byte, is_below, spaced}
+use Rattle.text_model.specs.Text.{Bytes, IsBytes, has_byte, is_below}
 use Rattle.text_model.specs.Escape.{escape}
-use Rattle.text_model.specs.Id.{Id, IsId, hex, is_lower_digit}
+use Rattle.text_model.specs.Id.{hex}
 use Rattle.text_model.proofs.ByteLemmas.{IsBytes-append}
-use Rattle.text_model.proofs.EachLemmas.{Each-weaker}
-use Rattle.text_model.proofs.EscapeLemmas.{escape-printable}
-use Rattle.text_model.proofs.HexLemmas.{is_hex_id-hex}
+use Rattle.text_model.proofs.TextBytes.{escape-bytes, hex-bytes, small-bytes, spaced-bytes}
 use Rattle.hg_model.specs.Changeset.{Extra, AreExtras}
 use Rattle.git_model.specs.Residue.{ResidueItem, ResidueKind, Group, Link, Empty}
 use Rattle.git_model.proofs.SortLemmas.{Ascends, ascends-rises}
@@ -18,41 +14,6 @@ use Rattle.pair_model.specs.MarkList.{ChangesetMarks, extra_of, parents_extra, i
 use Rattle.mark_law.proofs.TextFacts.{IsBytes-decimal}
 
 -- ---- texts of bytes
-
-escape-bytes : (raw : Bytes) → IsBytes raw → IsBytes (escape raw)
-escape-bytes raw h = Each-weaker (λ b. (33 ≤ b) × (b ≤ 126)) (λ b. b < 256) (λ b k. omega (arith, k.1)) (escape raw) (escape-printable raw h)
-
-digit-small : (b : ℕ) → is_lower_digit b ≡ true → b < 256
-digit-small b h = by (nat_le 48 b && nat_le b 57) refl
-  where
-    by : (t : Bool) → (nat_le 48 b && nat_le b 57) ≡ t → b < 256
-    by true e = omega (arith, leb-true b 57 (and_parts (nat_le 48 b) (nat_le b 57) e).1)
-    by false e =
-        let k : (nat_le 97 b && nat_le b 102) ≡ true = rw e at h in
-        omega (arith, leb-true b 102 (and_parts (nat_le 97 b) (nat_le b 102) k).1)
-
-digits-bytes : (text : Bytes) → list_all is_lower_digit text ≡ true → IsBytes text
-digits-bytes [] h = tt
-digits-bytes (b ∷ text) h =
-    let parts = and_parts (is_lower_digit b) (list_all is_lower_digit text) h in
-    (digit-small b parts.0, digits-bytes text parts.1)
-
-pub hex-bytes : (id : Id) → IsId id → IsBytes (hex id)
-hex-bytes id h = digits-bytes (hex id) (and_parts (length (hex id) == 40) (list_all is_lower_digit (hex id)) (is_hex_id-hex id h)).1
-
-pub small-bytes : (text : Bytes) → list_all (λ b. nat_le b 255) text ≡ true → IsBytes text
-small-bytes [] h = tt
-small-bytes (b ∷ text) h =
-    let a = and_parts (nat_le b 255) (list_all (λ b. nat_le b 255) text) h in
-    (omega (arith, leb-true b 255 a.0), small-bytes text a.1)
-
-spaced-bytes : (ws : List Bytes) → Each IsBytes ws → IsBytes (spaced ws)
-spaced-bytes [] h = tt
-spaced-bytes (w ∷ ws) h = IsBytes-append w (flat_map (λ v. 32 ∷ v) ws) h.0 (more ws h.1)
-  where
-    more : (vs : List Bytes) → Each IsBytes vs → IsBytes (flat_map (λ v. 32 ∷ v) vs)
-    more [] k = tt
-    more (v ∷ vs) k = (omega arith, IsBytes-append v (flat_map (λ v. 32 ∷ v) vs) k.0 (more vs k.1))
 
 word-bytes : (path : Bytes) (kind : ResidueKind) → IsBytes path → IsItemKind kind → IsBytes (item_word path kind)
 word-bytes path Group h k = IsBytes-append (codes "group:") (escape path) (small-bytes (codes "group:") refl) (escape-bytes path h)

@@ -8,12 +8,12 @@ use Rattle.text_model.specs.Cuts.{cut_of}
 use Rattle.text_model.proofs.ByteLemmas.{IsBytes-append, IsBytes-front, IsBytes-rest, IsBytes-take}
 use Rattle.text_model.proofs.CutLemmas.{cut_of-takes}
 use Rattle.text_model.proofs.Options.{none_some, some_is}
+use Rattle.text_model.proofs.TextBytes.{small-bytes}
 use Rattle.git_model.specs.Commit.{Ident, ident_text, ident_of, has_angle}
 use Rattle.git_model.proofs.IdentLemmas.{ident_of-takes}
 use Rattle.git_model.proofs.OptionLemmas.{and_then-some, if-some}
 use Rattle.pair_model.specs.User.{Address, name_in, email_in, split_user, no_email, or_unknown, unknown_user, plain_address, without_angles, other_address, address_of, zone_sign, two_digits, zone_of, seconds_of, line_of_user, user_of_ident, user_date_of, user_of_line, description_of}
 use Rattle.mark_law.proofs.TextFacts.{IsBytes-decimal}
-use Rattle.view_law.proofs.Extras.{small-bytes}
 
 -- ---- the address of a user
 

@@ -9,6 +9,7 @@ use Rattle.text_model.specs.Path.{is_fit_path}
 use Rattle.text_model.proofs.ByteLemmas.{IsBytes-append}
 use Rattle.text_model.proofs.Elements.{each_in}
 use Rattle.text_model.proofs.HexLemmas.{IsId-null}
+use Rattle.text_model.proofs.TextBytes.{hex-bytes, small-bytes}
 use Rattle.hg_model.specs.Changeset.{IsChangeset, IsDateLine, Plain}
 use Rattle.hg_model.specs.Revision.{Revision}
 use Rattle.dump_law.proofs.Brought.{node_is_id}
@@ -18,7 +19,6 @@ use Rattle.pair_model.specs.Octopus.{link_user, link_key, link_value, link_descr
 use Rattle.partner_model.specs.Partner.{IsHeldView, IsKnownAs}
 use Rattle.mark_law.proofs.TextFacts.{IsBytes-decimal}
 use Rattle.next_law.proofs.LikeNew.{find-in}
-use Rattle.view_law.proofs.Extras.{hex-bytes, small-bytes}
 use Rattle.next_law.proofs.Founded.{IsFounded, held-view}
 
 -- what the files of a changeset show that is a view, or of none

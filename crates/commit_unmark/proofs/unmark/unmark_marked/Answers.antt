@@ -11,7 +11,7 @@ use Rattle.pair_known.specs.Over.{IsChangesetOver}
 use Rattle.filled_law.proofs.Filled.{filled-is, unmarking-is_right}
 use Rattle.filled_law.proofs.Right.{named-parts, own-paired, right-is_unmarking}
 use Rattle.commit_unmark.specs.Changesets.{NamesNoChangeset, NamesChangeset, IsRight}
-use Rattle.commit_unmark.proofs.Tables.{table}
+use Rattle.commit_rule.proofs.Tables.{table}
 use Rattle.commit_unmark.proofs.Whole.{own-list, narrow-of, right-of, asked-of}
 use Rattle.commit_unmark.proofs.unmark.unmark_marked.Goals as goal
 

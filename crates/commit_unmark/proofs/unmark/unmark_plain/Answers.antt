@@ -3,7 +3,7 @@ use Rattle.pair_model.specs.Plain.{changeset_by_rule}
 use Rattle.pair_known.specs.Partners.{ArePartners}
 use Rattle.changeset_rule.proofs.RuledLemmas.{few-of, whole}
 use Rattle.filled_law.proofs.Plain.{unmarked-is_plain, plain-is_unmarked}
-use Rattle.commit_unmark.proofs.Tables.{table}
+use Rattle.commit_rule.proofs.Tables.{table}
 use Rattle.commit_unmark.proofs.Whole.{narrow-of}
 use Rattle.commit_unmark.proofs.unmark.unmark_plain.Goals as goal
 
