@@ -2,22 +2,26 @@
 ghost use Rattle.std.specs.Prelude.{◌≡◌, false, [], List, map, is_some, IfSome, OnOk, IfErr, IsTrue};
 ghost use Rattle.std.specs.Bool.{OnTrue};
 ghost use Rattle.text_model.specs.Lists.{Each};
+ghost use Rattle.hg_model.specs.Revision.{Revision};
 ghost use Rattle.hg_manifest.specs.Values.{manifest_entry};
 ghost use Rattle.view_model.specs.View.{ChangesetView, Row, entry_of_row};
 ghost use Rattle.view_model.specs.Held.{IsFileHeld, IsChangesetHeld};
-ghost use Rattle.pair_model.specs.Block.{Block};
+ghost use Rattle.view_model.specs.Dump.{revisions_in};
+ghost use Rattle.pair_model.specs.Block.{Block, changesets_in};
 ghost use Rattle.partner_model.specs.Given.{has_late_file, has_late_manifest, is_late_file, is_late_manifest};
 ghost use Rattle.mark_code.specs.Values.{manifest_value};
 ghost use Rattle.pair_known.specs.Drafts.{IsHgDraft};
 ghost use Rattle.pair_known.specs.Partners.{git_at};
 ghost use Rattle.pair_known.specs.Rows.{row_value};
+ghost use Rattle.hg_dump.specs.Refers.{RefersTo};
 ghost use Rattle.pull_bundle.specs.Faults.{IsTakeFault, IsOfChangeset, IsLate};
-ghost use Rattle.pull_bundle.specs.Late.{HasLine, is_late_row, IsLineInTime};
+ghost use Rattle.pull_bundle.specs.Late.{RefersIn, HasLine, is_late_row, IsLineInTime};
 ghost use Rattle.pull_bundle.specs.Takes.{IsTaking};
 
 use crate::fault::TakeFault;
 use crate::taking::Taking;
 use bridge_text::Id;
+use hg_dump::Refers;
 use hg_manifest::{Cursor, Manifest};
 use hg_store::{Group, HgStore};
 use mark_code::ManifestRev;
@@ -40,7 +44,7 @@ pub fn check_parents(alloc: Global, taking: &Taking, h: &HgDraft) -> Result<(), 
     if has_late_row(taking, h.rows.as_slice(), near) {
         return Err(TakeFault::Refused(Fault::FileParentLate));
     }
-    if is_manifest_late(taking, &h.manifest) {
+    if is_manifest_late(&taking.referred, &h.manifest) {
         return Err(TakeFault::Refused(Fault::ManifestParentLate));
     }
     Ok(())
@@ -111,7 +115,7 @@ fn is_row_late(taking: &Taking, row: &HgRow, lines: &mut Cursor<'_>) -> bool
     {
         Some((p, q)) => {
             let path = row.path.as_slice();
-            is_file_late(taking, path, &p) || is_file_late(taking, path, &q)
+            is_file_late(&taking.referred, path, &p) || is_file_late(&taking.referred, path, &q)
         }
         None => false,
     }
@@ -128,26 +132,26 @@ fn has_line(lines: &mut Cursor<'_>, row: &HgRow) -> bool
     }
 }
 
-// Whether a parent of a revision of the file at a path stands in no changeset of the blocks.
-fn is_file_late(taking: &Taking, path: &[u8], parent: &Id) -> bool
-    ensures { (blocks : List Block) → IsTaking taking.now blocks → result ≡ is_late_file blocks path.now parent.now }
+/// Whether a parent of a revision of the file at a path stands in no changeset of the blocks, to whose revisions `referred` refers.
+pub fn is_file_late(referred: &Refers, path: &[u8], parent: &Id) -> bool
+    ensures { (blocks : List Block) → RefersTo referred.now (revisions_in (changesets_in blocks)) → result ≡ is_late_file blocks path.now parent.now }
 {
-    !parent.is_null() && !taking.referred.has(Group::FilesAt(path), parent)
+    !parent.is_null() && !referred.has(Group::FilesAt(path), parent)
 }
 
-// Whether a parent of a manifest is that of no changeset of the blocks.
-fn is_manifest_late(taking: &Taking, manifest: &ManifestRev) -> bool
-    ensures { (blocks : List Block) → IsTaking taking.now blocks → result ≡ has_late_manifest blocks (manifest_value manifest.now) }
+/// Whether a parent of a manifest is that of no changeset of the blocks, to whose revisions `referred` refers.
+pub fn is_manifest_late(referred: &Refers, manifest: &ManifestRev) -> bool
+    ensures { (known : List Revision) (blocks : List Block) → RefersIn known referred.now blocks → result ≡ has_late_manifest blocks (manifest_value manifest.now) }
 {
     match manifest {
         ManifestRev::Null => false,
-        ManifestRev::Over { p, q } => is_parent_late(taking, p) || is_parent_late(taking, q),
+        ManifestRev::Over { p, q } => is_parent_late(referred, p) || is_parent_late(referred, q),
     }
 }
 
 // Whether a manifest is that of no changeset of the blocks.
-fn is_parent_late(taking: &Taking, parent: &Id) -> bool
-    ensures { (blocks : List Block) → IsTaking taking.now blocks → result ≡ is_late_manifest blocks parent.now }
+fn is_parent_late(referred: &Refers, parent: &Id) -> bool
+    ensures { (known : List Revision) (blocks : List Block) → RefersIn known referred.now blocks → result ≡ is_late_manifest blocks parent.now }
 {
-    !parent.is_null() && !taking.referred.has(Group::Manifests, parent)
+    !parent.is_null() && !referred.has(Group::Manifests, parent)
 }

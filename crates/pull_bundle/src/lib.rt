@@ -1,4 +1,4 @@
-//! The pull of a bundle: each changeset that it brings gets its commit.
+//! The pull of a bundle: each changeset that it brings gets its commit. And which parents that a changeset names come too late.
 #![tactic(auto)]
 
 mod arrivals;
@@ -12,4 +12,5 @@ mod read;
 mod take;
 mod taking;
 
+pub use late::{is_file_late, is_manifest_late};
 pub use pull::pull_hg;

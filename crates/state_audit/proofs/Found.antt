@@ -31,7 +31,8 @@ use Rattle.pair_state.specs.Blocks.{BlockValue}
 use Rattle.pair_state.specs.Step.{AreAsked}
 use Rattle.state_audit.specs.declared.checked.Checked.{Checked}
 use Rattle.state_audit.specs.Before.{IsBefore, HasNone, IsPartnerHere}
-use Rattle.state_audit.specs.Audited.{RefersIn, AreInTime, AreBodiesHeld, IsTurn}
+use Rattle.pull_bundle.specs.Late.{RefersIn}
+use Rattle.state_audit.specs.Audited.{AreInTime, AreBodiesHeld, IsTurn}
 use Rattle.state_audit.proofs.SameBodies.{ids-known, bodies-same, bodies-too}
 use Rattle.state_audit.proofs.Turns.{history, is-before, changeset-held, commit-held, walk, block-at, link-nodes}
 

@@ -21,9 +21,9 @@ use Rattle.hg_dump.specs.declared.refers.Refers.{Refers}
 use Rattle.pair_known.specs.Rows.{RowValue, row_value}
 use Rattle.pair_known.proofs.HeldViews.{one_row}
 use Rattle.pair_choice.specs.Bodies.{IsBodyHeld}
-use Rattle.pull_bundle.specs.Late.{is_late_row}
+use Rattle.pull_bundle.specs.Late.{RefersIn, is_late_row}
 use Rattle.pull_bundle.proofs.Referred.{knows-file}
-use Rattle.state_audit.specs.Audited.{RefersIn, AreInTime, AreBodiesHeld}
+use Rattle.state_audit.specs.Audited.{AreInTime, AreBodiesHeld}
 
 -- a row with the path and the node
 pub record IsRowAt (hs : List ChangesetView) (path : Bytes) (node : Id) : Type 0 where

@@ -21,7 +21,8 @@ use Rattle.pair_known.proofs.PartnerLemmas.{block-there}
 use Rattle.pair_state.specs.declared.state_parts.StateParts.{StateParts}
 use Rattle.pull_bundle.proofs.Referred.{has-files}
 use Rattle.state_audit.specs.declared.checked.Checked.{Checked}
-use Rattle.state_audit.specs.Audited.{RefersIn, IsWalked, IsTurn}
+use Rattle.pull_bundle.specs.Late.{RefersIn}
+use Rattle.state_audit.specs.Audited.{IsWalked, IsTurn}
 use Rattle.state_audit.proofs.Rows.{view-held}
 use Rattle.state_audit.proofs.Turns.{own, held-first, history}
 

@@ -1,30 +1,21 @@
 -- The blocks that were found right, and what is remembered of them.
-use Rattle.std.specs.Prelude.{◌≡◌, ℕ, false, List, [], ◌∷◌, ◌++◌, length, map, is_some}
+use Rattle.std.specs.Prelude.{◌≡◌, ℕ, false, List, [], ◌∷◌, ◌++◌, length, is_some}
 use Rattle.text_model.specs.Lists.{Each}
 use Rattle.text_model.specs.Id.{Id, has_id}
 use Rattle.hg_model.specs.Revision.{Revision}
 use Rattle.git_model.specs.Object.{Object}
-use Rattle.view_model.specs.View.{changeset_node}
-use Rattle.view_model.specs.Held.{AreChangesetsHeld}
-use Rattle.view_model.specs.Dump.{revisions_in}
 use Rattle.pair_model.specs.Block.{Block, block_of_node, changesets_in}
 use Rattle.partner_model.specs.Given.{has_late_file}
 use Rattle.state_model.specs.Kept.{State}
 use Rattle.state_model.specs.Saved.{IsState}
 use Rattle.verify_model.specs.Holds.{IsRight, IsRightId, Holds}
-use Rattle.hg_dump.specs.declared.refers.Refers.{Refers}
-use Rattle.hg_dump.specs.Refers.{RefersTo}
 use Rattle.pair_choice.specs.Bodies.{IsBodyHeld}
 use Rattle.pair_state.specs.declared.state_parts.StateParts.{StateParts}
 use Rattle.state_text.specs.Stands.{Stands}
+use Rattle.pull_bundle.specs.Late.{RefersIn}
 use Rattle.state_audit.specs.declared.checked.Checked.{Checked}
 use Rattle.state_audit.specs.declared.judge.Judgement.{Judgement}
 use Rattle.state_audit.specs.declared.judge.Judgement.TheVariants.{Right, Wrong}
-
--- The changesets of the blocks are stored, links among them, and just the revisions to which they refer are remembered.
-pub record RefersIn (hg : List Revision) (referred : Refers) (front : List Block) : Type 0 where
-  pub held : AreChangesetsHeld hg (map changeset_node (changesets_in front)) (changesets_in front)
-  pub refers : RefersTo referred (revisions_in (changesets_in front))
 
 -- the parents of their files are those of changesets of the blocks
 abbrev pub AreInTime : List Block → Type 0

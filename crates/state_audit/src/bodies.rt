@@ -5,7 +5,8 @@ ghost use Rattle.view_model.specs.View.{Row};
 ghost use Rattle.pair_model.specs.Block.{Block};
 ghost use Rattle.pair_choice.specs.Bodies.{IsBodyHeld};
 ghost use Rattle.pair_state.specs.Step.{AreAsked};
-ghost use Rattle.state_audit.specs.Audited.{RefersIn, AreBodiesHeld};
+ghost use Rattle.pull_bundle.specs.Late.{RefersIn};
+ghost use Rattle.state_audit.specs.Audited.{AreBodiesHeld};
 
 use git_object::Objects;
 use hg_dump::Refers;

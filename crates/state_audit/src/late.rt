@@ -4,22 +4,16 @@ ghost use Rattle.text_model.specs.Lists.{Each};
 ghost use Rattle.view_model.specs.View.{ChangesetView, Row};
 ghost use Rattle.view_model.specs.Held.{IsFileHeld};
 ghost use Rattle.pair_model.specs.Block.{Block};
-ghost use Rattle.partner_model.specs.Given.{has_late_file, has_late_manifest, is_late_file, is_late_manifest};
-ghost use Rattle.mark_code.specs.Values.{manifest_value};
+ghost use Rattle.partner_model.specs.Given.{has_late_file, has_late_manifest};
 ghost use Rattle.pair_known.specs.Drafts.{IsHgDraft};
 ghost use Rattle.pair_known.specs.Rows.{row_value};
-ghost use Rattle.pull_bundle.specs.Late.{is_late_row};
-ghost use Rattle.view_model.specs.Dump.{revisions_in};
-ghost use Rattle.hg_dump.specs.Refers.{RefersTo};
-ghost use Rattle.hg_model.specs.Revision.{Revision};
-ghost use Rattle.pair_model.specs.Block.{changesets_in};
-ghost use Rattle.state_audit.specs.Audited.{RefersIn, AreInTime};
+ghost use Rattle.pull_bundle.specs.Late.{RefersIn, is_late_row};
+ghost use Rattle.state_audit.specs.Audited.{AreInTime};
 
-use bridge_text::Id;
 use hg_dump::Refers;
 use hg_store::{Group, HgStore};
-use mark_code::ManifestRev;
 use pair_known::{HgDraft, HgRow};
+use pull_bundle::{is_file_late, is_manifest_late};
 
 /// Whether a parent that a changeset names for a file revision or for its manifest stands in no changeset of the blocks before, to whose revisions
 /// `referred` refers. The parents of a file revision to which that refers stand there.
@@ -55,28 +49,4 @@ fn is_row_late(hg: &HgStore, referred: &Refers, row: &HgRow) -> bool
         Some((p, q)) => is_file_late(referred, path, &p) || is_file_late(referred, path, &q),
         None => false,
     }
-}
-
-// Whether a parent of a revision of the file at a path stands in no changeset of the blocks.
-fn is_file_late(referred: &Refers, path: &[u8], parent: &Id) -> bool
-    ensures { (front : List Block) → RefersTo referred.now (revisions_in (changesets_in front)) → result ≡ is_late_file front path.now parent.now }
-{
-    !parent.is_null() && !referred.has(Group::FilesAt(path), parent)
-}
-
-// Whether a parent of a manifest is that of no changeset of the blocks.
-fn is_manifest_late(referred: &Refers, manifest: &ManifestRev) -> bool
-    ensures { (known : List Revision) (front : List Block) → RefersIn known referred.now front → result ≡ has_late_manifest front (manifest_value manifest.now) }
-{
-    match manifest {
-        ManifestRev::Null => false,
-        ManifestRev::Over { p, q } => is_parent_late(referred, p) || is_parent_late(referred, q),
-    }
-}
-
-// Whether a manifest is that of no changeset of the blocks.
-fn is_parent_late(referred: &Refers, parent: &Id) -> bool
-    ensures { (known : List Revision) (front : List Block) → RefersIn known referred.now front → result ≡ is_late_manifest front parent.now }
-{
-    !parent.is_null() && !referred.has(Group::Manifests, parent)
 }

@@ -4,7 +4,8 @@ use Rattle.view_model.specs.View.{Row}
 use Rattle.pair_model.specs.Block.{Block}
 use Rattle.pair_choice.specs.Bodies.{IsBodyHeld}
 use Rattle.pair_state.specs.Step.{AreAsked}
-use Rattle.state_audit.specs.Audited.{RefersIn, AreBodiesHeld}
+use Rattle.pull_bundle.specs.Late.{RefersIn}
+use Rattle.state_audit.specs.Audited.{AreBodiesHeld}
 use Rattle.state_audit.proofs.bodies.have_bodies.Given as goal
 
 -- the files so far have their bodies

@@ -5,8 +5,8 @@ use Rattle.view_model.specs.View.{Row}
 use Rattle.view_model.specs.Held.{IsFileHeld}
 use Rattle.pair_model.specs.Block.{Block}
 use Rattle.pair_known.specs.Rows.{row_value}
-use Rattle.pull_bundle.specs.Late.{is_late_row}
-use Rattle.state_audit.specs.Audited.{RefersIn, AreInTime}
+use Rattle.pull_bundle.specs.Late.{RefersIn, is_late_row}
+use Rattle.state_audit.specs.Audited.{AreInTime}
 use Rattle.state_audit.proofs.late.has_late_row.Given as goal
 
 -- none of the files so far is late
