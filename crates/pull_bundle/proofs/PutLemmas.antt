@@ -32,8 +32,9 @@ use Rattle.pair_state.specs.declared.fault.PushFault.{PushFault}
 use Rattle.pair_state.specs.declared.fault.PushFault.TheVariants as push
 use Rattle.pair_state.specs.Push.{HaveSame, PushesCommit, CommitPushed}
 use Rattle.pair_state.proofs.BlockLemmas.{parts_of, held-append}
-use Rattle.pull_bundle.specs.declared.fault.TakeFault.{TakeFault}
-use Rattle.pull_bundle.specs.Faults.{IsTakeFault, IsOfChangeset, push_refused}
+use Rattle.pull_outcome.specs.declared.take_fault.TakeFault.{TakeFault}
+use Rattle.pull_outcome.specs.Takes.{IsTakeFault, push_refused}
+use Rattle.pull_bundle.specs.Faults.{IsOfChangeset}
 use Rattle.pull_bundle.specs.declared.take.Pair.{Pair}
 use Rattle.pull_bundle.specs.declared.taking.Taking.{Taking}
 use Rattle.pull_bundle.specs.Late.{is_late_row}

@@ -26,11 +26,12 @@ use Rattle.pair_known.specs.Partners.{git_at}
 use Rattle.pair_state.specs.Blocks.{value_of, block_value}
 use Rattle.pair_state.proofs.BlockLemmas.{git-some}
 use Rattle.pair_state.specs.Push.{HaveSame}
-use Rattle.pull_bundle.specs.declared.fault.TakeFault.{TakeFault}
-use Rattle.pull_bundle.specs.declared.fault.TakeFault.TheVariants.{Refused, Memory}
+use Rattle.pull_outcome.specs.declared.take_fault.TakeFault.{TakeFault}
+use Rattle.pull_outcome.specs.declared.take_fault.TakeFault.TheVariants.{Refused, Memory}
 use Rattle.pull_bundle.specs.declared.take.Pair.{Pair}
 use Rattle.pull_bundle.specs.declared.taking.Taking.{Taking}
-use Rattle.pull_bundle.specs.Faults.{IsTakeFault, IsOfChangeset, ViewLacks, IsLate, choice_refused}
+use Rattle.pull_outcome.specs.Takes.{IsTakeFault, choice_refused}
+use Rattle.pull_bundle.specs.Faults.{IsOfChangeset, ViewLacks, IsLate}
 use Rattle.pull_bundle.specs.Puts.{IsPairFor, IsPut}
 use Rattle.pull_bundle.specs.Takes.{IsTaking, Comes, IsNew, GetsBlock, Takes, IsRefusedNew}
 use Rattle.pull_bundle.proofs.Came.{came-found}

@@ -14,7 +14,6 @@ ghost use Rattle.pair_state.specs.Blocks.{IsStateOf};
 ghost use Rattle.pull_bundle.specs.Faults.{IsNoRead};
 ghost use Rattle.pull_bundle.specs.Takes.{Comes, TakesArrivals, IsRefusedArrival, Starts, SomeTaken};
 
-use crate::fault::TakeFault;
 use crate::take::take_changeset;
 use crate::taking::Taking;
 use bridge_io::Steps;
@@ -22,7 +21,7 @@ use bridge_text::NoMemory;
 use hg_bundle::{Arrival, Arrivals, RevKind};
 use hg_dump::Refers;
 use pair_state::StateParts;
-use pull_outcome::{PullFault, Refusal};
+use pull_outcome::{PullFault, Refusal, TakeFault};
 use std::alloc::Global;
 use std::sync::ledger::Ledger;
 

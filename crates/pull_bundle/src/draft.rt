@@ -5,14 +5,14 @@ ghost use Rattle.hg_model.specs.Revision.{Revision, Changesets, revision_of};
 ghost use Rattle.view_model.specs.View.{ChangesetView};
 ghost use Rattle.view_model.specs.Held.{IsChangesetHeld};
 ghost use Rattle.pair_known.specs.Drafts.{IsHgDraft};
-ghost use Rattle.pull_bundle.specs.Faults.{IsTakeFault, IsOfChangeset, ViewLacks};
+ghost use Rattle.pull_outcome.specs.Takes.{IsTakeFault};
+ghost use Rattle.pull_bundle.specs.Faults.{IsOfChangeset, ViewLacks};
 
-use crate::fault::TakeFault;
 use bridge_text::Id;
 use hg_store::ViewFault;
 use hg_view::views_are_held;
 use pair_known::{DraftFault, HgDraft, Known, read_changeset_draft};
-use pull_outcome::Fault;
+use pull_outcome::{Fault, TakeFault};
 use std::alloc::Global;
 
 /// The draft of a changeset that is known. ManifestUnknown comes exactly where its manifest is unknown, and FileUnknown where a line of

@@ -14,11 +14,11 @@ ghost use Rattle.pair_known.specs.Drafts.{IsHgDraft};
 ghost use Rattle.pair_known.specs.Partners.{git_at};
 ghost use Rattle.pair_known.specs.Rows.{row_value};
 ghost use Rattle.hg_dump.specs.Refers.{RefersTo};
-ghost use Rattle.pull_bundle.specs.Faults.{IsTakeFault, IsOfChangeset, IsLate};
+ghost use Rattle.pull_outcome.specs.Takes.{IsTakeFault};
+ghost use Rattle.pull_bundle.specs.Faults.{IsOfChangeset, IsLate};
 ghost use Rattle.pull_bundle.specs.Late.{RefersIn, HasLine, is_late_row, IsLineInTime};
 ghost use Rattle.pull_bundle.specs.Takes.{IsTaking};
 
-use crate::fault::TakeFault;
 use crate::taking::Taking;
 use bridge_text::Id;
 use hg_dump::Refers;
@@ -26,7 +26,7 @@ use hg_manifest::{Cursor, Manifest};
 use hg_store::{Group, HgStore};
 use mark_code::ManifestRev;
 use pair_known::{HgDraft, HgRow, Known};
-use pull_outcome::Fault;
+use pull_outcome::{Fault, TakeFault};
 use std::alloc::Global;
 
 /// Passes where each parent that a changeset, which is held, names for a file revision or for its manifest stands in a changeset of the

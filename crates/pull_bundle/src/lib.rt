@@ -3,7 +3,6 @@
 
 mod arrivals;
 mod draft;
-mod fault;
 mod late;
 mod left_over;
 mod link;

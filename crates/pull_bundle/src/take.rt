@@ -11,12 +11,12 @@ ghost use Rattle.partner_model.specs.Clash.{commit_side_collides};
 ghost use Rattle.partner_model.specs.Given.{block_with};
 ghost use Rattle.hg_dump.specs.Refers.{RefersTo, HasFilesOf};
 ghost use Rattle.pair_choice.specs.Chosen.{IsChosenCommit};
-ghost use Rattle.pull_bundle.specs.Faults.{IsTakeFault, IsOfChangeset};
+ghost use Rattle.pull_outcome.specs.Takes.{IsTakeFault};
+ghost use Rattle.pull_bundle.specs.Faults.{IsOfChangeset};
 ghost use Rattle.pull_bundle.specs.Puts.{IsPairFor, IsPut};
 ghost use Rattle.pull_bundle.specs.Takes.{Comes, IsNew, GetsBlock, Takes, IsRefusedNew};
 
 use crate::draft::draft_of;
-use crate::fault::TakeFault;
 use crate::late::{check_parents, near_of};
 use crate::link::is_known_link;
 use crate::taking::Taking;
@@ -26,6 +26,7 @@ use hg_view::views_are_held;
 use link_rule::link_nodes;
 use pair_choice::pair_of_changeset;
 use pair_known::{GitDraft, HgDraft, Known};
+use pull_outcome::TakeFault;
 use std::alloc::Global;
 use std::sync::ledger::Ledger;
 

@@ -1,4 +1,5 @@
 pub mod Refused
+pub mod Takes
 pub mod Names
 pub mod Pulls
 pub mod Steps

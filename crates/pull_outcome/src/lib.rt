@@ -3,7 +3,9 @@
 
 mod pulled;
 mod refused;
+mod take_fault;
 
 pub use bridge_text::{Fault, Refusal};
 pub use pulled::{GitPulled, HgPulled};
 pub use refused::PullFault;
+pub use take_fault::TakeFault;

@@ -21,7 +21,7 @@ use Rattle.pair_known.specs.GitDrafts.{IsGitDraft}
 use Rattle.pair_known.proofs.HeldCommits.{held-at}
 use Rattle.pair_state.specs.declared.state_parts.StateParts.{StateParts}
 use Rattle.history_model.specs.Pull.{WalkRefused, CommitRefused}
-use Rattle.pull_stream.specs.Faults.{IsNameDue, tree_refused}
+use Rattle.pull_outcome.specs.Takes.{IsTakeFault, tree_refused}
 use Rattle.pull_stream.specs.Taken.{TakesCommit, IsDraftFor}
 
 -- what is known of the commits of a store
@@ -47,22 +47,22 @@ module _ (known : List Object) (id : Id) (v : Commit) (at : IsCommitAt known id 
         fault = named (walk_fault known v.tree_id) name h;
       }
 
-  walk-refused : (e : TreeFault) → IsTreeFault (walk_fault known v.tree_id) e → IsNameDue (WalkRefused known id) (tree_refused e)
+  walk-refused : (e : TreeFault) → IsTreeFault (walk_fault known v.tree_id) e → IsTakeFault (WalkRefused known id) (tree_refused e)
   walk-refused (tree.ObjectUnknown x) is = walk-named fault.ObjectUnknown (ap (option_map (λ (w : WalkFault). w.name)) is)
   walk-refused tree.PathUnfit is = walk-named fault.PathUnfit is
   walk-refused tree.Limit is = walk-named fault.PairLimit is
   walk-refused tree.Memory is = tt
 
 module _ (s : StateParts) (id : Id) (blocks : List Block) where
-  due : (e : TreeFault) → IsNameDue (WalkRefused s.known.git id) (tree_refused e) → IsNameDue (CommitRefused s.known.hg s.known.git blocks id) (tree_refused e)
+  due : (e : TreeFault) → IsTakeFault (WalkRefused s.known.git id) (tree_refused e) → IsTakeFault (CommitRefused s.known.hg s.known.git blocks id) (tree_refused e)
   due (tree.ObjectUnknown x) is = inl is
   due tree.PathUnfit is = inl is
   due tree.Limit is = inl is
   due tree.Memory is = tt
 
   pub tree-refused : (e : TreeFault) → (e ≡ tree.Memory) ⊎ ((v : Commit) × IsCommitAt s.known.git id v) → ((v : Commit) → IsCommitAt s.known.git id v → IsTreeFault (walk_fault s.known.git v.tree_id) e)
-      → IsNameDue (CommitRefused s.known.hg s.known.git blocks id) (tree_refused e)
-  tree-refused e (inl is) refused = subst (λ (x : TreeFault). IsNameDue (CommitRefused s.known.hg s.known.git blocks id) (tree_refused x)) (sym is) tt
+      → IsTakeFault (CommitRefused s.known.hg s.known.git blocks id) (tree_refused e)
+  tree-refused e (inl is) refused = subst (λ (x : TreeFault). IsTakeFault (CommitRefused s.known.hg s.known.git blocks id) (tree_refused x)) (sym is) tt
   tree-refused e (inr at) refused = due e (walk-refused s.known.git id at.0 at.1 e (refused at.0 at.1))
 
   -- ---- a commit with all its files

@@ -28,9 +28,10 @@ use Rattle.pair_state.proofs.BlockLemmas.{parts_of}
 use Rattle.pull_outcome.specs.declared.refused.PullFault.{PullFault}
 use Rattle.history_model.specs.Pull as model
 use Rattle.history_model.specs.Pull.{CommitGives, CommitsBring, CommitRefused, IsCommitRefusal, objects_with, saved_ids, place_of}
-use Rattle.pull_stream.specs.declared.fault.TakeFault.{TakeFault}
-use Rattle.pull_stream.specs.declared.fault.TakeFault.TheVariants.{Refused, Memory}
-use Rattle.pull_stream.specs.Faults.{IsNameDue, IsJudgement, placed_fault}
+use Rattle.pull_outcome.specs.declared.take_fault.TakeFault.{TakeFault}
+use Rattle.pull_outcome.specs.declared.take_fault.TakeFault.TheVariants.{Refused, Memory}
+use Rattle.pull_outcome.specs.Takes.{IsTakeFault}
+use Rattle.pull_stream.specs.Faults.{IsJudgement, placed_fault}
 use Rattle.pull_stream.specs.Ready.{IsInOrder, place_among}
 use Rattle.pull_stream.specs.Taken.{TakesCommit, CommitTaken, CommitsTaken}
 use Rattle.text_model.proofs.Elements.{each_in, drop_next, take_push}
@@ -206,7 +207,7 @@ module _ (s : StateParts) (arrivals : List ObjectArrival) (ordered : List Id) (m
       is = refl;
     }
 
-    pub refused-is : (e : TakeFault) (r : PullFault) → IsNameDue (CommitRefused now.known.hg now.known.git (m.blocks ++ new) id) e → ((place : ℕ) → place_among arrivals id ≡ Some place → r ≡ placed_fault id place e)
+    pub refused-is : (e : TakeFault) (r : PullFault) → IsTakeFault (CommitRefused now.known.hg now.known.git (m.blocks ++ new) id) e → ((place : ℕ) → place_among arrivals id ≡ Some place → r ≡ placed_fault id place e)
         → IsJudgement (IsCommitRefusal m came ordered) r
     refused-is (Refused why) r due gives =
         let p = its-place in

@@ -15,7 +15,8 @@ use Rattle.git_batch.specs.declared.stream_fault.StreamFault.{StreamFault}
 use Rattle.git_batch.specs.declared.stream_fault.StreamFault.TheVariants as stream
 use Rattle.pull_outcome.specs.Names.{IsOfPullGit}
 use Rattle.pull_outcome.specs.Refused.{stream_refused}
-use Rattle.pull_stream.specs.Faults.{IsOfCommit, tree_refused, choice_refused, push_refused}
+use Rattle.pull_outcome.specs.Takes.{tree_refused, choice_refused, push_refused}
+use Rattle.pull_stream.specs.Faults.{IsOfCommit}
 
 pub tree-named : (e : TreeFault) → IsOfCommit (tree_refused e)
 tree-named (tree.ObjectUnknown id) = tt

@@ -24,16 +24,16 @@ use Rattle.pair_state.specs.Push.{PushesChangeset, ChangesetPushed}
 use Rattle.pair_state.proofs.AllBlocks.{all-pushed}
 use Rattle.pair_state.proofs.Referred.{files-late-is, manifest-late-is}
 use Rattle.history_model.specs.Pull.{ChangesetsFit, BlockRefused, FilesRefused, CommitRefused}
-use Rattle.pull_stream.specs.declared.fault.TakeFault.{TakeFault}
-use Rattle.pull_stream.specs.declared.fault.TakeFault.TheVariants.{Refused, Memory}
-use Rattle.pull_stream.specs.Faults.{IsNameDue, choice_refused, push_refused}
+use Rattle.pull_outcome.specs.declared.take_fault.TakeFault.{TakeFault}
+use Rattle.pull_outcome.specs.declared.take_fault.TakeFault.TheVariants.{Refused, Memory}
+use Rattle.pull_outcome.specs.Takes.{IsTakeFault, choice_refused, push_refused}
 use Rattle.pull_stream.specs.Late.{AreFilesInTime, IsLate}
 use Rattle.pull_stream.specs.Taken.{TakesCommit, IsDraftFor, CommitTaken}
 use Rattle.pull_stream.proofs.LateParents.{late-refused, clash-refused}
 use Rattle.pull_stream.proofs.Linked.{linked}
 use Rattle.pull_stream.proofs.Links.{short, few-links, link-parts}
 
-weaker : (P Q : FaultName → Type 0) → ((name : FaultName) → P name → Q name) → (f : TakeFault) → IsNameDue P f → IsNameDue Q f
+weaker : (P Q : FaultName → Type 0) → ((name : FaultName) → P name → Q name) → (f : TakeFault) → IsTakeFault P f → IsTakeFault Q f
 weaker P Q h (Refused why) due = h _ due
 weaker P Q h Memory due = tt
 
@@ -44,7 +44,7 @@ module _ (s : StateParts) (id : Id) (blocks : List Block) (d : GitDraft) (v : Co
   files-refused : (name : FaultName) → FilesRefused s.known.hg s.known.git blocks v name → Refuses name
   files-refused name r = inr (v, f.held, f.walks, r)
 
-  pub choice-refused : (e : ChoiceFault) → CommitRefuses s.known blocks v e → IsNameDue Refuses (choice_refused e)
+  pub choice-refused : (e : ChoiceFault) → CommitRefuses s.known blocks v e → IsTakeFault Refuses (choice_refused e)
   choice-refused choice.PathClash due = absurd due
   choice-refused choice.ParentIsLink due = absurd due
   choice-refused choice.NestLimit due = files-refused fault.NestLimit (inr (due.0, inl (due.1, refl)))
@@ -67,7 +67,7 @@ module _ (s : StateParts) (id : Id) (blocks : List Block) (d : GitDraft) (v : Co
     late-named : (name : FaultName) → IsLate s.known.hg h name → Refuses name
     late-named name late = block-refused name (late-refused s blocks takes.state block (¬ (ChangesetsFit block)) (IsTrue (changeset_side_collides s.known.hg blocks block)) small name late)
 
-    pub late-due : (e : TakeFault) → IsNameDue (IsLate s.known.hg h) e → IsNameDue Refuses e
+    pub late-due : (e : TakeFault) → IsTakeFault (IsLate s.known.hg h) e → IsTakeFault Refuses e
     late-due e due = weaker (IsLate s.known.hg h) Refuses late-named e due
 
     module _ (files : AreFilesInTime s.known.hg h) (manifest : HasManifestParents s.known.hg h.manifest) where
@@ -91,7 +91,7 @@ module _ (s : StateParts) (id : Id) (blocks : List Block) (d : GitDraft) (v : Co
         free = takes.free;
       }
 
-      pub push-refused : (e : PushFault) → (e ≡ push.Collision → IsTrue (changeset_side_collides s.known.hg blocks block)) → IsNameDue Refuses (push_refused e)
+      pub push-refused : (e : PushFault) → (e ≡ push.Collision → IsTrue (changeset_side_collides s.known.hg blocks block)) → IsTakeFault Refuses (push_refused e)
       push-refused push.Collision clash =
           block-refused fault.Collision
           (clash-refused s blocks takes.state block (¬ (ChangesetsFit block)) (IsTrue (changeset_side_collides s.known.hg blocks block)) small files manifest (clash refl))

@@ -9,14 +9,13 @@ ghost use Rattle.pull_stream.specs.Faults.{IsJudgement, IsOfCommit, placed_fault
 ghost use Rattle.pull_stream.specs.Ready.{IsInOrder, place_among};
 ghost use Rattle.pull_stream.specs.Taken.{CommitsTaken, SomeTaken};
 
-use crate::fault::TakeFault;
 use crate::place::first_place;
 use crate::take::take_commit;
 use bridge_io::Steps;
 use bridge_text::{Id, IdList};
 use git_batch::ObjectArrivals;
 use pair_state::StateParts;
-use pull_outcome::{PullFault, Refusal};
+use pull_outcome::{PullFault, Refusal, TakeFault};
 use std::sync::ledger::Ledger;
 
 /// Takes the commits of a stream in their order, each over the blocks before it. The fault is that of the first that is refused.

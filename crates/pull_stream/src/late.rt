@@ -5,22 +5,22 @@ ghost use Rattle.hg_store.specs.Known.{AreAdded};
 ghost use Rattle.mark_code.specs.Values.{manifest_value};
 ghost use Rattle.view_model.specs.View.{ChangesetView};
 ghost use Rattle.pair_known.specs.Ruled.{IsMadeChangeset, HasManifestParents};
-ghost use Rattle.pull_stream.specs.Faults.{IsNameDue, IsOfCommit};
+ghost use Rattle.pull_outcome.specs.Takes.{IsTakeFault};
+ghost use Rattle.pull_stream.specs.Faults.{IsOfCommit};
 ghost use Rattle.pull_stream.specs.Late.{AreFilesInTime, IsLate};
 
-use crate::fault::TakeFault;
 use bridge_text::Id;
 use hg_store::HgStore;
 use mark_code::ManifestRev;
 use pair_known::{FreshFile, HgDraft};
-use pull_outcome::Fault;
+use pull_outcome::{Fault, TakeFault};
 
 /// Passes where the store has each parent that a changeset names for a file revision or for its manifest. FileParentLate comes exactly where
 /// it lacks one of a file revision, and else ManifestParentLate where it lacks one of the manifest.
 pub fn check_parents(store: &HgStore, h: &HgDraft) -> Result<(), TakeFault>
     ensures files { OnOk result ((v : ChangesetView) → AreAdded store.now → IsMadeChangeset store.now h.now v → AreFilesInTime store.now v) }
     ensures manifest { OnOk result ((v : ChangesetView) → AreAdded store.now → IsMadeChangeset store.now h.now v → HasManifestParents store.now v.manifest) }
-    ensures refused { IfErr result (λ fault. (v : ChangesetView) → AreAdded store.now → IsMadeChangeset store.now h.now v → IsNameDue (IsLate store.now v) fault) }
+    ensures refused { IfErr result (λ fault. (v : ChangesetView) → AreAdded store.now → IsMadeChangeset store.now h.now v → IsTakeFault (IsLate store.now v) fault) }
     ensures names { IfErr result IsOfCommit }
 {
     if !has_file_parents(store, h) {

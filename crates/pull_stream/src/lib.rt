@@ -2,7 +2,6 @@
 #![tactic(auto)]
 
 mod commits;
-mod fault;
 mod late;
 mod objects;
 mod ordering;

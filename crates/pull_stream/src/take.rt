@@ -2,10 +2,10 @@
 ghost use Rattle.std.specs.Prelude.{◌≤◌, ◌+◌, List, IfOk, IfErr};
 ghost use Rattle.pair_model.specs.Block.{Block};
 ghost use Rattle.history_model.specs.Pull.{CommitRefused};
-ghost use Rattle.pull_stream.specs.Faults.{IsNameDue, IsOfCommit};
+ghost use Rattle.pull_outcome.specs.Takes.{IsTakeFault};
+ghost use Rattle.pull_stream.specs.Faults.{IsOfCommit};
 ghost use Rattle.pull_stream.specs.Taken.{TakesCommit, CommitTaken};
 
-use crate::fault::TakeFault;
 use crate::late::check_parents;
 use bridge_io::Steps;
 use bridge_text::Id;
@@ -13,6 +13,7 @@ use git_view::commits_are_held;
 use pair_choice::pair_of_commit;
 use pair_known::read_commit_draft;
 use pair_state::StateParts;
+use pull_outcome::TakeFault;
 use std::sync::ledger::Ledger;
 
 /// Adds the block of a commit that is held and stands in none, over the blocks of its parents. The fault is the first for which
@@ -25,7 +26,7 @@ pub fn take_commit<L: Ledger>(
     requires commit { (blocks : List Block) × TakesCommit state id.now blocks }
     ensures ok { IfOk result (λ next. (blocks : List Block) → TakesCommit state id.now blocks → (b : Block) × CommitTaken state next id.now blocks b) }
     ensures refused { IfErr result (λ fault. (blocks : List Block) → TakesCommit state id.now blocks
-        → IsNameDue (CommitRefused state.known.hg state.known.git blocks id.now) fault) }
+        → IsTakeFault (CommitRefused state.known.hg state.known.git blocks id.now) fault) }
     ensures names { IfErr result IsOfCommit }
     ensures steps { (steps.old ≤ steps.new) × (steps.new ≤ steps.old + 18) }
 {

@@ -1,7 +1,8 @@
 use Rattle.std.proofs.Common.{inr, ap, sym, subst, ◌∙◌}
 use Rattle.hg_bundle.specs.declared.arrival.Arrival.{Arrival}
 use Rattle.bridge_text.specs.Refusals.{fault_name}
-use Rattle.pull_bundle.specs.Faults.{IsTakeFault, IsOfChangeset}
+use Rattle.pull_outcome.specs.Takes.{IsTakeFault}
+use Rattle.pull_bundle.specs.Faults.{IsOfChangeset}
 use Rattle.pull_bundle.proofs.ArrivalLemmas.{ComesDue, group-is, other-taken, changeset-taken}
 use Rattle.pull_bundle.proofs.arrivals.take_arrival.Goals as goal
 

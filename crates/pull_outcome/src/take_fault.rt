@@ -1,18 +1,17 @@
-// Why a commit isn't taken.
+// Why what came gets no block.
 ghost use Rattle.std.specs.Prelude.{◌≡◌};
-ghost use Rattle.pull_stream.specs.Faults.{tree_refused, choice_refused, push_refused};
-ghost use Rattle.pull_stream.specs.declared.fault.TakeFault.TheVariants.{Memory};
+ghost use Rattle.pull_outcome.specs.Takes.{tree_refused, choice_refused, push_refused};
+ghost use Rattle.pull_outcome.specs.declared.take_fault.TakeFault.TheVariants.{Memory};
 
-use bridge_text::NoMemory;
+use bridge_text::{Fault, NoMemory};
 use pair_choice::ChoiceFault;
 use pair_state::PushFault;
-use pull_outcome::Fault;
 use tree_shape::TreeFault;
 
-/// Why a commit isn't taken.
+/// Why what came gets no block.
 #[derive(Clone, Copy, Debug, PartialEq, Eq)]
 pub enum TakeFault {
-    /// The commit is refused for this.
+    /// It is refused for this.
     Refused(Fault),
     /// Memory ran out.
     Memory,
