@@ -14,14 +14,11 @@ ghost use Rattle.changeset_unmark.specs.Over.{IsDraftOver};
 ghost use Rattle.changeset_unmark.specs.Rows.{IsDraftRow, IsFreshRow};
 
 use bridge_text::Id;
-use file_rule::{Parent, has_parents, is_ruled, kept_node, node_or_null, parents_over};
+use file_rule::{Parent, has_parents, is_plain, is_ruled, kept_node, node_or_null, parents_over};
 use hg_filelog::{file_order, split};
 use hg_manifest::Entry;
 use hg_store::HgStore;
 use pair_known::{Cursor, FreshFile, FreshFiles, HgDraft, HgRow};
-
-/// What stands before and behind metadata.
-const MARK: &[u8] = b"\x01\n";
 
 /// Whether the rule gives for each file of a changeset the same flag and a revision with the same node, parents, metadata and blob.
 /// Nothing is hashed.
@@ -114,15 +111,5 @@ fn is_same_meta(a: Option<&[u8]>, b: Option<&[u8]>) -> bool
         (None, None) => true,
         (Some(_), None) => false,
         (None, Some(_)) => false,
-    }
-}
-
-// Whether these are the metadata that the rule gives to the body.
-fn is_plain(meta: Option<&[u8]>, body: &[u8]) -> bool
-    ensures { IsFile (option_map (λ m. m.now) meta.entry) body.now → (IsTrue result ↔ option_map (λ m. m.now) meta.entry ≡ plain_meta body.now) }
-{
-    match meta {
-        Some(meta) => meta.is_empty() && body.starts_with(MARK),
-        None => true,
     }
 }

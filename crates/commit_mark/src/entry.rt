@@ -13,15 +13,12 @@ ghost use Rattle.commit_mark.specs.Parts.{marks_in, ArePartsOf, AreLentAt};
 use crate::file_parts::{FileParts, parts_of, stored_parts};
 use crate::over::Over;
 use bridge_text::{Bytes, NoMemory};
-use file_rule::{is_ruled, kept_node, node_or_null, parents_over};
+use file_rule::{is_plain, is_ruled, kept_node, node_or_null, parents_over};
 use hg_filelog::copy_of;
 use hg_manifest::Entry;
 use mark_code::Mark;
 use pair_known::HgRow;
 use std::alloc::Global;
-
-/// What stands before and behind metadata.
-const MARK: &[u8] = b"\x01\n";
 
 /// The mark of a file, where the rule gives another revision for it; these are the entries of its path in the parents. Nothing is hashed, and
 /// no body is copied.
@@ -81,16 +78,6 @@ fn is_new(parts: &FileParts<'_>, first: Option<&Entry>, second: Option<&Entry>) 
 {
     let parents = parents_over(node_or_null(first), node_or_null(second));
     parts.has_parents(parents) && is_plain(parts.meta, parts.body)
-}
-
-// Whether these are the metadata that the rule gives to the body: none, or empty ones where it begins with a mark.
-fn is_plain(meta: Option<&[u8]>, body: &[u8]) -> bool
-    ensures { IsFile (option_map (λ m. m.now) meta.entry) body.now → (IsTrue result ↔ option_map (λ m. m.now) meta.entry ≡ plain_meta body.now) }
-{
-    match meta {
-        Some(meta) => meta.is_empty() && body.starts_with(MARK),
-        None => true,
-    }
 }
 
 // The mark of a revision that isn't the one of the rule: a rename where it says no more than one, else its parents and its metadata.

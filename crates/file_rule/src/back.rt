@@ -66,8 +66,8 @@ fn has_plain_meta(store: &HgStore, path: &[u8], node: &Id) -> bool
     }
 }
 
-// Whether these are the metadata that the rule gives to the body.
-fn is_plain(meta: Option<&[u8]>, body: &[u8]) -> bool
+/// Whether these are the metadata that the rule gives to the body: none, or empty ones where it begins with a mark.
+pub fn is_plain(meta: Option<&[u8]>, body: &[u8]) -> bool
     ensures { IsFile (option_map (λ m. m.now) meta.entry) body.now → (IsTrue result ↔ option_map (λ m. m.now) meta.entry ≡ plain_meta body.now) }
 {
     match meta {

@@ -7,7 +7,7 @@ mod parents;
 mod revision;
 mod rows;
 
-pub use back::is_ruled;
+pub use back::{is_plain, is_ruled};
 pub use parents::{Parent, parent_of};
 pub use revision::{
     RuledRow, content_of, has_parents, kept_node, make_row, node_or_null, parents_over,
