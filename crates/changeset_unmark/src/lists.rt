@@ -7,10 +7,10 @@ ghost use Rattle.pair_model.specs.Rule.{ruled_files};
 ghost use Rattle.changeset_unmark.specs.Over.{IsDraftOver, ListsComeBack};
 
 use crate::rows::are_rows_ruled;
-use bridge_text::{Bytes, NoMemory, Paths};
+use bridge_text::NoMemory;
 use file_rule::Parent;
 use hg_store::HgStore;
-use manifest_rule::{is_ruled_manifest, ruled_files};
+use manifest_rule::{are_same_paths, is_ruled_manifest, ruled_files};
 use pair_known::HgDraft;
 use std::alloc::Global;
 
@@ -45,26 +45,5 @@ fn has_ruled_files(
         → (IsTrue same ↔ (v.fields).files ≡ ruled_files ps v.rows)) }
 {
     let files = ruled_files(alloc, &h.rows, first.entries(), second.entries())?;
-    Ok(are_same(&h.changeset.files, &files))
-}
-
-// Whether two lists of paths are the same.
-fn are_same(a: &Paths, b: &Paths) -> bool
-    ensures { IsTrue result ↔ a.now ≡ b.now }
-{
-    if a.len() != b.len() {
-        return false;
-    }
-    for place in 0..a.len() {
-        if !is_same(a.at(place), b.at(place)) {
-            return false;
-        }
-    }
-    true
-}
-
-fn is_same(a: &Bytes, b: &Bytes) -> bool
-    ensures { IsTrue result ↔ a.now ≡ b.now }
-{
-    a.as_slice() == b.as_slice()
+    Ok(are_same_paths(&h.changeset.files, &files))
 }

@@ -14,7 +14,7 @@ use git_object::{Residue, ResidueItem};
 use git_store::GitStore;
 use pair_known::HgRows;
 use std::alloc::Global;
-use tree_residue::{carry, residue_at, with_residue};
+use tree_residue::{carry, is_same_residue, residue_at, with_residue};
 use tree_shape::{Files, find_clash};
 
 /// The rows of the commit that the marks of a changeset name: its files with the items of the mark, or else with those that fit the files of
@@ -76,7 +76,7 @@ fn items_named<'a>(
 {
     match tree {
         Some(items) => {
-            if is_same(items, given) {
+            if is_same_residue(items, given) {
                 return Ok(None);
             }
             if !are_fit(alloc, files, items)? {
@@ -108,25 +108,4 @@ fn have_fit_paths(items: &[ResidueItem]) -> bool
             ensures { result ≡ is_fit_path item.now.path }
         { fit_path(item.path()) },
     )
-}
-
-// Whether two residues are the same.
-fn is_same(a: &Residue, b: &Residue) -> bool
-    ensures { IsTrue result ↔ a.now ≡ b.now }
-{
-    if a.len() != b.len() {
-        return false;
-    }
-    for place in 0..a.len() {
-        if !is_same_item(a.at(place), b.at(place)) {
-            return false;
-        }
-    }
-    true
-}
-
-fn is_same_item(a: &ResidueItem, b: &ResidueItem) -> bool
-    ensures { IsTrue result ↔ a.now ≡ b.now }
-{
-    a.path() == b.path() && a.kind() == b.kind()
 }

@@ -2,7 +2,6 @@
 ghost use Rattle.std.specs.Prelude.{◌≡◌, ◌↔◌, Option, Some, map, option_map, IsTrue};
 ghost use Rattle.std.specs.Option.{option_copied};
 ghost use Rattle.text_model.specs.Text.{Bytes};
-ghost use Rattle.hg_model.specs.FileText.{IsFile, plain_meta};
 ghost use Rattle.hg_manifest.specs.Values.{manifest_entry};
 ghost use Rattle.view_model.specs.View.{ChangesetView, FileRevision, file_node, Row, SameRow, SameRows};
 ghost use Rattle.view_model.specs.Held.{IsFileHeld};

@@ -1,5 +1,5 @@
 ghost use Rattle.std.specs.Prelude.{◌≡◌, ◌↔◌, List, option_map, IfOk, IsTrue};
-ghost use Rattle.hg_model.specs.FileText.{IsFile, plain_meta};
+ghost use Rattle.hg_model.specs.FileText.{IsFile};
 ghost use Rattle.hg_model.specs.Revision.{Revision};
 ghost use Rattle.view_model.specs.View.{FileRevision, Row};
 ghost use Rattle.pair_model.specs.Block.{Parents};

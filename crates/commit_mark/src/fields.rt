@@ -1,5 +1,5 @@
 // The marks of a changeset's manifest, of its list of files, of its user and of its date.
-ghost use Rattle.std.specs.Prelude.{◌≡◌, ◌↔◌, ◌++◌, [], ◌∷◌, if◌then◌else◌, IfOk, OnOk, IsTrue};
+ghost use Rattle.std.specs.Prelude.{◌≡◌, ◌++◌, [], ◌∷◌, if◌then◌else◌, IfOk, OnOk};
 ghost use Rattle.hg_changeset.specs.Values.{date_value};
 ghost use Rattle.view_model.specs.View.{ChangesetView};
 ghost use Rattle.pair_model.specs.Block.{Parents};
@@ -14,7 +14,7 @@ use crate::over::Over;
 use crate::put::{put, put_extras};
 use bridge_text::{Bytes, NoMemory, Paths};
 use hg_changeset::DateLine;
-use manifest_rule::{is_ruled_manifest, ruled_files};
+use manifest_rule::{are_same_paths, is_ruled_manifest, ruled_files};
 use mark_code::{CommitMarks, Mark};
 use name_rule::{UserDate, line_of_user, user_of_line};
 use pair_known::HgDraft;
@@ -35,32 +35,11 @@ pub fn files_mark(alloc: Global, over: &Over<'_>, h: &HgDraft) -> Result<Option<
     ensures { IfOk result (λ mark. (ps : Parents) (v : ChangesetView) → IsOver over.now h.now ps v → marks_in mark ≡ model.files_marks ps v) }
 {
     let files = ruled_files(alloc, &h.rows, over.first.entries(), over.second.entries())?;
-    if are_same(&h.changeset.files, &files) {
+    if are_same_paths(&h.changeset.files, &files) {
         return Ok(None);
     }
     let copy = copy_of_paths(alloc, &h.changeset.files)?;
     Ok(Some(Mark::Files(copy)))
-}
-
-// Whether two lists of paths are the same.
-fn are_same(a: &Paths, b: &Paths) -> bool
-    ensures { IsTrue result ↔ a.now ≡ b.now }
-{
-    if a.len() != b.len() {
-        return false;
-    }
-    for place in 0..a.len() {
-        if !is_same(a.at(place), b.at(place)) {
-            return false;
-        }
-    }
-    true
-}
-
-fn is_same(a: &Bytes, b: &Bytes) -> bool
-    ensures { IsTrue result ↔ a.now ≡ b.now }
-{
-    a.as_slice() == b.as_slice()
 }
 
 // The paths, as a list of its own.

@@ -1,4 +1,4 @@
-ghost use Rattle.std.specs.Prelude.{◌≡◌, ℕ, ◌+◌, ◌++◌, ◌<◌, List, [], ◌∷◌, length, true, if◌then◌else◌, option_map, map, IfOk, OnOk};
+ghost use Rattle.std.specs.Prelude.{◌≡◌, ◌↔◌, ℕ, ◌+◌, ◌++◌, ◌<◌, List, [], ◌∷◌, length, true, if◌then◌else◌, option_map, map, IfOk, OnOk, IsTrue};
 ghost use Rattle.view_model.specs.View.{Row};
 ghost use Rattle.pair_model.specs.Block.{Parents};
 ghost use Rattle.pair_model.specs.Rule as rule;
@@ -87,6 +87,27 @@ fn files_listed(
         in_second = after(in_second, found.second.is_some(), len_of(second));
     }
     Ok(paths)
+}
+
+/// Whether two lists of paths are the same.
+pub fn are_same_paths(a: &Paths, b: &Paths) -> bool
+    ensures { IsTrue result ↔ a.now ≡ b.now }
+{
+    if a.len() != b.len() {
+        return false;
+    }
+    for place in 0..a.len() {
+        if !is_same_path(a.at(place), b.at(place)) {
+            return false;
+        }
+    }
+    true
+}
+
+fn is_same_path(a: &Bytes, b: &Bytes) -> bool
+    ensures { IsTrue result ↔ a.now ≡ b.now }
+{
+    a.as_slice() == b.as_slice()
 }
 
 // How many entries there are.

@@ -5,5 +5,5 @@ mod files;
 mod manifest;
 mod merge;
 
-pub use files::{files_over, ruled_files};
+pub use files::{are_same_paths, files_over, ruled_files};
 pub use manifest::{RuledManifest, is_ruled_manifest, lines_fit, lines_of, make_manifest};

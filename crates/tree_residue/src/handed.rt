@@ -66,7 +66,7 @@ fn plain_files(alloc: Global, files: &Files) -> Result<Files, NoMemory>
 }
 
 /// Whether two residues are the same.
-fn is_same_residue(a: &Residue, b: &Residue) -> bool
+pub fn is_same_residue(a: &Residue, b: &Residue) -> bool
     ensures { IsTrue result ↔ a.now ≡ b.now }
 {
     if a.len() != b.len() {

@@ -9,7 +9,7 @@ mod rows;
 mod walk;
 
 pub use carried::carry;
-pub use handed::is_handed_on;
+pub use handed::{is_handed_on, is_same_residue};
 pub use items::residue_of;
 pub use rows::with_residue;
 pub use walk::residue_at;

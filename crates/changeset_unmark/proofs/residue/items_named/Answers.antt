@@ -7,10 +7,10 @@ use Rattle.changeset_unmark.specs.Residues.{items_named, AreItemsFit}
 use Rattle.changeset_unmark.proofs.ItemLemmas.{unless-other}
 use Rattle.changeset_unmark.proofs.residue.items_named.Goals as goal
 
-pub returns-then-is_same : goal.returns-then-is_same
-returns-then-is_same c = λ named.
+pub returns-then-is_same_residue : goal.returns-then-is_same_residue
+returns-then-is_same_residue c = λ named.
     let given = c.args.given.now in
-    let none = residue_none c.in-Some.items given (c.is_same.ensures.0 c.if-is_same.true) in
+    let none = residue_none c.in-Some.items given (c.is_same_residue.ensures.0 c.if-is_same_residue.true) in
     let own = ap (λ (t : Option (List ResidueItem)). residue_unless (items_named given t) given) (sym c.in-Some.is) ∙ named.1 ∙ c.in-Some.is in
     none_some (sym none ∙ own)
 
@@ -21,7 +21,7 @@ returns-then-not-branch c = λ named.
 pub returns-else-not-branch : goal.returns-else-not-branch
 returns-else-not-branch c =
     let given = c.args.given.now in
-    let other = unless-other c.in-Some.items given (λ e. true≢false (sym (c.is_same.ensures.1 e) ∙ c.if-is_same.false)) in (
+    let other = unless-other c.in-Some.items given (λ e. true≢false (sym (c.is_same_residue.ensures.1 e) ∙ c.if-is_same_residue.false)) in (
       subst (AreItemsFit c.args.files.now) (sym c.in-Some.is) (c.in_ok-are_fit-in-Some.ensures.0 c.if-not-branch.false),
       ap (λ (t : Option (List ResidueItem)). residue_unless (items_named given t) given) c.in-Some.is ∙ other ∙ sym c.in-Some.is,
       ap (λ (t : Option (List ResidueItem)). items_named given t) (sym c.in-Some.is),

@@ -1,5 +1,5 @@
 use Rattle.std.proofs.Common.{◌≡◌, take}
-use Rattle.changeset_unmark.proofs.lists.are_same.Given as goal
+use Rattle.manifest_rule.proofs.files.are_same_paths.Given as goal
 
 -- the paths so far are the same
 abbrev pub invariant-loop-place : goal.invariant-loop-place

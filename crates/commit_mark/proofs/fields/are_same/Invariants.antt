@@ -1,6 +1,0 @@
-use Rattle.std.proofs.Common.{◌≡◌, take}
-use Rattle.commit_mark.proofs.fields.are_same.Given as goal
-
--- the paths so far are the same
-abbrev pub invariant-loop-place : goal.invariant-loop-place
-invariant-loop-place l = take l.place l.a ≡ take l.place l.b
