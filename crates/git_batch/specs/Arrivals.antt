@@ -1,7 +1,7 @@
 -- What reading a stream brings: its objects as this crate lists them, and the objects that are known then.
-use Rattle.std.specs.Prelude.{◌≡◌, ℕ, Bool, List, [], ◌∷◌, map, count_by, Option, Some, None, Result, Ok, Err, ⊤, IfSome}
+use Rattle.std.specs.Prelude.{◌≡◌, ℕ, Bool, List, [], ◌∷◌, map, filter, count_by, Option, Some, None, Result, Ok, Err, ⊤, IfSome}
 use Rattle.text_model.specs.Text.{Bytes}
-use Rattle.text_model.specs.Id.{ObjectKind, blob, tree, commit, tag, same_kind}
+use Rattle.text_model.specs.Id.{Id, ObjectKind, blob, tree, commit, tag, same_kind}
 use Rattle.text_model.specs.Fault.{Refusal}
 use Rattle.git_model.specs.Object.{Object, object_fault, objects_after, objects_after_all}
 use Rattle.git_model.specs.Stream.{Placed, stream_reading}
@@ -29,6 +29,10 @@ is_of kind a = same_kind kind (object_kind a.kind)
 -- how many of the listed objects are of a kind
 abbrev pub count_of : ObjectKind → List ObjectArrival → ℕ
 count_of kind arrivals = count_by (is_of kind) arrivals
+
+-- the ids of the commits among the listed objects
+abbrev pub commits_among : List ObjectArrival → List Id
+commits_among arrivals = map (λ a. a.id) (filter (is_of commit) arrivals)
 
 -- why a reading is refused
 abbrev pub refused : Result (List Placed) Refusal → Option Refusal

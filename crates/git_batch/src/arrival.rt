@@ -1,8 +1,8 @@
-ghost use Rattle.std.specs.Prelude.{◌≡◌, ◌==◌, ◌<◌, ◌++◌, [], ◌∷◌, length, slice_get, Some, OnOk, OnErr};
+ghost use Rattle.std.specs.Prelude.{◌≡◌, ◌==◌, ◌<◌, ◌++◌, [], ◌∷◌, length, slice_get, Some, IfOk, OnOk, OnErr};
 ghost use Rattle.bridge_text.specs.Kinds.{object_kind};
-ghost use Rattle.git_batch.specs.Arrivals.{count_of, is_of};
+ghost use Rattle.git_batch.specs.Arrivals.{commits_among, count_of, is_of};
 
-use bridge_text::{Id, Kind, NoMemory};
+use bridge_text::{Id, IdList, Kind, NoMemory};
 use std::alloc::Global;
 use std::marker::Model;
 
@@ -61,6 +61,19 @@ impl ObjectArrivals {
         ensures { result ≡ count_of (object_kind kind) self.now }
     {
         self.items.iter().filter(|item| item.is_of(kind)).count()
+    }
+
+    /// The ids of the commits among them, in their order.
+    pub fn commit_ids(&self, alloc: Global) -> Result<IdList, NoMemory>
+        ensures { IfOk result (λ ids. ids ≡ commits_among self.now) }
+    {
+        let mut ids = IdList::new(alloc);
+        for item in self.as_slice() {
+            if item.kind == Kind::Commit {
+                ids.push(item.id)?;
+            }
+        }
+        Ok(ids)
     }
 
     /// How many there are.

@@ -1,27 +1,13 @@
 -- The commits of a stream, as they are listed.
-use Rattle.std.proofs.Common.{◌≡◌, ◌<◌, ◌+◌, ◌++◌, ℕ, Bool, true, false, List, [], ◌∷◌, length, take, get_or, map, refl, sym, ap, ◌∙◌}
+use Rattle.std.proofs.Common.{◌≡◌, Bool, true, false, List, [], ◌∷◌, map, refl, ap, ◌∙◌}
 use Rattle.std.specs.Prelude.{if◌then◌else◌, filter}
-use Rattle.std.proofs.lemmas.List.{take_more, map-append}
-use Rattle.std.proofs.lemmas.List.Elements.{filter-append}
 use Rattle.text_model.specs.Id.{Id, ObjectKind, blob, tree, commit, tag, same_kind}
 use Rattle.bridge_text.specs.Kinds.{object_kind}
 use Rattle.git_model.specs.Object.{Object}
 use Rattle.git_model.specs.Stream.{Placed}
 use Rattle.git_batch.specs.declared.arrival.ObjectArrival.{ObjectArrival}
-use Rattle.git_batch.specs.Arrivals.{kind_of, arrival_of, is_of}
-use Rattle.git_section.specs.Sections.{listed_commits, objects_of, commit_ids}
-
-pub one_more : (came : List ObjectArrival) (i : ℕ) (a : ObjectArrival) → i < length came → a ≡ get_or came i a
-    → listed_commits (take (i + 1) came) ≡ listed_commits (take i came) ++ (if is_of commit a then a.id ∷ [] else [])
-one_more came i a below is =
-    ap listed_commits (take_more came i a below ∙ ap (λ (y : ObjectArrival). take i came ++ y ∷ []) (sym is))
-    ∙ ap (map (λ (a : ObjectArrival). a.id)) (filter-append (is_of commit) (take i came) (a ∷ []))
-    ∙ map-append (λ (a : ObjectArrival). a.id) (filter (is_of commit) (take i came)) (filter (is_of commit) (a ∷ []))
-    ∙ ap (λ (l : List Id). listed_commits (take i came) ++ l) (by (is_of commit a))
-  where
-    by : (t : Bool) → map (λ (a : ObjectArrival). a.id) (if t then a ∷ [] else []) ≡ (if t then a.id ∷ [] else [])
-    by true = refl
-    by false = refl
+use Rattle.git_batch.specs.Arrivals.{kind_of, arrival_of, is_of, commits_among}
+use Rattle.git_section.specs.Sections.{objects_of, commit_ids}
 
 kind_again : (k : ObjectKind) → object_kind (kind_of k) ≡ k
 kind_again blob = refl
@@ -30,13 +16,13 @@ kind_again commit = refl
 kind_again tag = refl
 
 -- the listed commits are those of the objects
-pub same_commits : (placed : List Placed) → listed_commits (map arrival_of placed) ≡ commit_ids (objects_of placed)
+pub same_commits : (placed : List Placed) → commits_among (map arrival_of placed) ≡ commit_ids (objects_of placed)
 same_commits [] = refl
 same_commits (p ∷ placed) =
     ap (λ (k : ObjectKind). map (λ (a : ObjectArrival). a.id) (if same_kind commit k then arrival_of p ∷ filter (is_of commit) (map arrival_of placed) else filter (is_of commit) (map arrival_of placed))) (kind_again (p.object).kind)
     ∙ by (same_kind commit (p.object).kind) (same_commits placed)
   where
-    by : (t : Bool) → listed_commits (map arrival_of placed) ≡ commit_ids (objects_of placed)
+    by : (t : Bool) → commits_among (map arrival_of placed) ≡ commit_ids (objects_of placed)
         → map (λ (a : ObjectArrival). a.id) (if t then arrival_of p ∷ filter (is_of commit) (map arrival_of placed) else filter (is_of commit) (map arrival_of placed))
         ≡ map (λ (o : Object). o.id) (if t then p.object ∷ filter (λ (o : Object). same_kind commit o.kind) (objects_of placed) else filter (λ (o : Object). same_kind commit o.kind) (objects_of placed))
     by true rest = ap (λ (l : List Id). (p.object).id ∷ l) rest

@@ -11,7 +11,7 @@ use Rattle.git_model.specs.Object.{Object, objects_after_all}
 use Rattle.git_model.specs.Stream.{Placed, stream_reading}
 use Rattle.git_store.specs.Known.{AreKnown}
 use Rattle.git_batch.specs.declared.arrival.ObjectArrival.{ObjectArrival}
-use Rattle.git_batch.specs.Arrivals.{Reads, refused}
+use Rattle.git_batch.specs.Arrivals.{Reads, refused, commits_among}
 use Rattle.git_batch.specs.declared.stream_fault.StreamFault.{StreamFault}
 use Rattle.git_batch.specs.declared.stream_fault.StreamFault.TheVariants.{Refused}
 use Rattle.git_batch.specs.StreamFaults.{IsFault}
@@ -19,21 +19,21 @@ use Rattle.view_model.specs.View.{CommitView}
 use Rattle.state_model.specs.Kept.{git_dump}
 use Rattle.state_model.specs.Saved.{AreCommitsSaved}
 use Rattle.git_section.specs.declared.section.GitSection.{GitSection}
-use Rattle.git_section.specs.Sections.{IsRead, objects_of, listed_commits}
+use Rattle.git_section.specs.Sections.{IsRead, objects_of}
 use Rattle.git_section.proofs.Listed.{same_commits}
 
 -- a count that never rises has no fault
 pub never_rose : Rose 0 0 → ⊥
 never_rose r = omega (arith, r.raised (λ e. omega (arith, e)))
 
-pub section_read : (known : List Object) (left bytes : Bytes) (read : List Object × List ObjectArrival) (ids : List Id) → known ≡ [] → left ≡ bytes → Reads known left (Ok read) → AreKnown read.0 → ids ≡ listed_commits read.1
+pub section_read : (known : List Object) (left bytes : Bytes) (read : List Object × List ObjectArrival) (ids : List Id) → known ≡ [] → left ≡ bytes → Reads known left (Ok read) → AreKnown read.0 → ids ≡ commits_among read.1
     → IsRead bytes (record { store = read.0; ids = ids })
 section_read known left bytes read ids none all r are listed =
     let same : stream_reading known left ≡ stream_reading [] bytes = (λ i. stream_reading (none i) (all i)) in record {
       placed = r.0;
       reads = sym same ∙ r.1;
       holds = r.3 ∙ ap (λ (os : List Object). objects_after_all os (objects_of r.0)) none;
-      ids = listed ∙ ap listed_commits r.2 ∙ same_commits r.0;
+      ids = listed ∙ ap commits_among r.2 ∙ same_commits r.0;
       known = are;
     }
 

@@ -10,8 +10,6 @@ use Rattle.git_store.specs.Known.{AreKnown}
 use Rattle.view_model.specs.View.{CommitView, commit_id}
 use Rattle.view_model.specs.Held.{AreCommitsHeld}
 use Rattle.view_model.specs.Dump.{objects_in}
-use Rattle.git_batch.specs.Arrivals.{is_of}
-use Rattle.git_batch.specs.declared.arrival.ObjectArrival.{ObjectArrival}
 use Rattle.git_section.specs.declared.section.GitSection.{GitSection}
 
 -- the section holds these commits: the objects of their dump, in its order
@@ -29,10 +27,6 @@ objects_of placed = map (λ o. o.object) placed
 -- the ids of the commits among objects
 abbrev pub commit_ids : List Object → List Id
 commit_ids objects = map (λ o. o.id) (filter (λ o. same_kind commit o.kind) objects)
-
--- the ids of the commits of a stream, in its order
-abbrev pub listed_commits : List ObjectArrival → List Id
-listed_commits arrivals = map (λ a. a.id) (filter (is_of commit) arrivals)
 
 -- the bytes bring these objects to none, and their commits are listed
 pub record IsRead (bytes : Bytes) (s : GitSection) : Type 0 where

@@ -1,10 +1,10 @@
 // What a stream brings.
 ghost use Rattle.std.specs.Prelude.{◌≡◌, [], IfOk, MatchOption, false, is_ok};
 ghost use Rattle.git_model.specs.Stream.{stream_reading};
-ghost use Rattle.git_section.specs.Sections.{IsRead, listed_commits};
+ghost use Rattle.git_section.specs.Sections.{IsRead};
 
-use bridge_text::{IdList, Kind, NoMemory};
-use git_batch::{ObjectArrivals, StreamFault, read_into};
+use bridge_text::{IdList, NoMemory};
+use git_batch::{StreamFault, read_into};
 use git_store::GitStore;
 use state_part::Part;
 use std::alloc::Global;
@@ -26,24 +26,11 @@ pub fn read_section(alloc: Global, bytes: &[u8]) -> Result<Option<GitSection>, N
     match read_into(alloc, &mut source, GitStore::new(alloc)) {
         Ok((store, came)) => {
             store.check();
-            let ids = commits_among(alloc, &came)?;
+            let ids = came.commit_ids(alloc)?;
             Ok(Some(GitSection { store, ids }))
         }
         Err(StreamFault::Refused(_)) => Ok(None),
         Err(StreamFault::Read) => unreachable!(),
         Err(StreamFault::Memory) => Err(NoMemory),
     }
-}
-
-/// The ids of the commits among objects that came, in their order.
-fn commits_among(alloc: Global, came: &ObjectArrivals) -> Result<IdList, NoMemory>
-    ensures { IfOk result (λ ids. ids ≡ listed_commits came.now) }
-{
-    let mut ids = IdList::new(alloc);
-    for item in came.as_slice() {
-        if item.kind == Kind::Commit {
-            ids.push(item.id)?;
-        }
-    }
-    Ok(ids)
 }

@@ -14,12 +14,12 @@ use Rattle.git_store.specs.Known.{content_of}
 use Rattle.git_store.specs.Ancestry as order
 use Rattle.git_store.specs.Ancestry.{ancestry_at, parents_in}
 use Rattle.git_store.proofs.FindLemmas.{find-passes, find-among}
-use Rattle.git_batch.specs.Arrivals.{kind_of, arrival_of}
+use Rattle.git_batch.specs.Arrivals.{kind_of, arrival_of, commits_among}
 use Rattle.bridge_text.specs.Kinds.{object_kind}
 use Rattle.tree_shape.specs.Laws.{IsKnown}
 use Rattle.tree_shape.proofs.Elements.{of-filter}
 use Rattle.history_model.specs.Pull.{is_commit, ancestry_of, ancestries, place_of}
-use Rattle.pull_stream.specs.Ready.{commits_among, place_among}
+use Rattle.pull_stream.specs.Ready.{place_among}
 
 -- ---- what is listed
 

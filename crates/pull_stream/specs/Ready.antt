@@ -1,5 +1,5 @@
 -- A state whose stores hold what a stream brought, and the order of its commits.
-use Rattle.std.specs.Prelude.{◌≡◌, ℕ, List, map, filter, Option, Some, option_map, bytes_eq, ⊤}
+use Rattle.std.specs.Prelude.{◌≡◌, ℕ, List, map, Option, Some, option_map, bytes_eq, ⊤}
 use Rattle.std.specs.List.{find}
 use Rattle.text_model.specs.Lists.{Each}
 use Rattle.text_model.specs.Id.{Id, commit}
@@ -8,7 +8,7 @@ use Rattle.text_model.specs.Fault as fault
 use Rattle.git_model.specs.Order.{IsOrder, IsStuckAt}
 use Rattle.git_model.specs.Stream.{Placed}
 use Rattle.git_batch.specs.declared.arrival.ObjectArrival.{ObjectArrival}
-use Rattle.git_batch.specs.Arrivals.{arrival_of, is_of}
+use Rattle.git_batch.specs.Arrivals.{arrival_of}
 use Rattle.tree_shape.specs.Laws.{IsKnown}
 use Rattle.git_store.specs.declared.order.fault.OrderFault.{OrderFault}
 use Rattle.git_store.specs.declared.order.fault.OrderFault.TheVariants as order
@@ -32,10 +32,6 @@ pub record IsReady (s : StateParts) (arrivals : List ObjectArrival) (m : model.S
 pub record IsInOrder (s : StateParts) (arrivals : List ObjectArrival) (ordered : List Id) (m : model.State) (came : List Placed) : Type 0 where
   pub ready : IsReady s arrivals m came
   pub order : IsOrder (ancestries came) (saved_ids m) ordered
-
--- the ids of the commits among the objects
-abbrev pub commits_among : List ObjectArrival → List Id
-commits_among arrivals = map (λ a. a.id) (filter (is_of commit) arrivals)
 
 -- the place at which an object came first
 abbrev pub place_among : List ObjectArrival → Id → Option ℕ

@@ -9,10 +9,10 @@ ghost use Rattle.git_store.specs.OrderFaults.{IsOrderFault};
 ghost use Rattle.history_model.specs.Pull as model;
 ghost use Rattle.pull_outcome.specs.Names.{IsOfPullGit};
 ghost use Rattle.pull_stream.specs.Faults.{IsJudgement};
-ghost use Rattle.pull_stream.specs.Ready.{IsReady, IsInOrder, LacksParent, HasPlace, IsOrderRefusal, commits_among};
+ghost use Rattle.pull_stream.specs.Ready.{IsReady, IsInOrder, LacksParent, HasPlace, IsOrderRefusal};
 
 use crate::place::first_place;
-use bridge_text::{Id, IdList, IdSet, Kind, NoMemory};
+use bridge_text::{Id, IdList, IdSet, NoMemory};
 use git_batch::ObjectArrivals;
 use git_store::{GitStore, OrderFault};
 use pair_state::StateParts;
@@ -29,7 +29,7 @@ pub fn order_commits(state: &StateParts, came: &ObjectArrivals) -> Result<IdList
     ensures names { IfErr result IsOfPullGit }
 {
     let alloc = state.alloc;
-    let commits = commit_ids(alloc, came)?;
+    let commits = came.commit_ids(alloc)?;
     match order_over(alloc, &state.known.git, &commits, &state.commits) {
         Ok(ordered) => Ok(ordered),
         Err(fault) => Err(refusal_of(came, fault)),
@@ -64,19 +64,6 @@ fn refusal_of(came: &ObjectArrivals, fault: OrderFault) -> PullFault
         }),
         OrderFault::Memory => PullFault::Memory,
     }
-}
-
-// The ids of the commits that came.
-fn commit_ids(alloc: Global, came: &ObjectArrivals) -> Result<IdList, NoMemory>
-    ensures { IfOk result (λ ids. ids ≡ commits_among came.now) }
-{
-    let mut ids = IdList::new(alloc);
-    for item in came.as_slice() {
-        if item.kind == Kind::Commit {
-            ids.push(item.id)?;
-        }
-    }
-    Ok(ids)
 }
 
 // The ids of a list as a set.

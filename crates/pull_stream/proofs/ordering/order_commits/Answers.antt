@@ -13,7 +13,8 @@ use Rattle.history_model.specs.Pull.{ancestries, saved_ids, place_of}
 use Rattle.pair_state.specs.declared.state_parts.StateParts.{StateParts}
 use Rattle.pull_outcome.specs.declared.refused.PullFault.{PullFault}
 use Rattle.pull_stream.specs.Faults.{IsJudgement}
-use Rattle.pull_stream.specs.Ready.{IsReady, LacksParent, HasPlace, IsOrderRefusal, commits_among, place_among}
+use Rattle.git_batch.specs.Arrivals.{commits_among}
+use Rattle.pull_stream.specs.Ready.{IsReady, LacksParent, HasPlace, IsOrderRefusal, place_among}
 use Rattle.pull_stream.proofs.Orders.{same-rows, same-place, commit-of, has-place}
 use Rattle.pull_stream.proofs.ordering.order_commits.Goals as goal
 
