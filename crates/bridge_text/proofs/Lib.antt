@@ -1,4 +1,5 @@
 pub mod DigitLemmas
+pub mod LineTurns
 pub mod PlaceLemmas
 pub mod UnescapeLemmas
 pub mod WordLemmas

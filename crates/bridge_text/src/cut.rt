@@ -1,5 +1,5 @@
-ghost use Rattle.std.specs.Prelude.{◌≡◌, ◌==◌, ◌<◌, ◌≤◌, length, option_map, position, IfSome};
-ghost use Rattle.text_model.specs.Text.{lf};
+ghost use Rattle.std.specs.Prelude.{◌≡◌, ◌==◌, ◌<◌, ◌≤◌, ◌++◌, ◌∷◌, length, option_map, position, IfSome};
+ghost use Rattle.text_model.specs.Text.{lf, whole_lines};
 ghost use Rattle.text_model.specs.Cuts.{cut_of, place_from};
 
 use bstr::ByteSlice;
@@ -11,6 +11,19 @@ pub fn cut_at(byte: u8, bytes: &[u8]) -> Option<(&[u8], &[u8])>
 {
     let place = place_of(byte, bytes)?;
     Some((&bytes[..place], &bytes[place + 1..]))
+}
+
+/// The first line of some bytes, with its LF if it has one, and what comes after it.
+pub fn first_line(bytes: &[u8]) -> (&[u8], &[u8])
+    requires { 0 < length bytes.now }
+    ensures lines { whole_lines bytes.now ≡ result.0.now ∷ whole_lines result.1.now }
+    ensures whole { bytes.now ≡ result.0.now ++ result.1.now }
+    ensures some { 0 < length result.0.now }
+{
+    match cut_at(b'\n', bytes) {
+        Some((front, _)) => bytes.split_at(front.len() + 1),
+        None => bytes.split_at(bytes.len()),
+    }
 }
 
 /// The offset of the first LF at or after the offset `from`, which is at most the length.

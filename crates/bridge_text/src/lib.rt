@@ -18,7 +18,7 @@ mod path;
 mod paths;
 
 pub use bytes::{Bytes, each_is_byte};
-pub use cut::{cut_at, line_end};
+pub use cut::{cut_at, first_line, line_end};
 pub use decimal::{decimal_into, decimal_of};
 pub use escape::{TextFault, escape_into, unescape_into};
 pub use fault::{Fault, Refusal};

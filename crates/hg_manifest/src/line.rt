@@ -1,5 +1,4 @@
-ghost use Rattle.std.specs.Prelude.{◌≡◌, ◌<◌, ◌++◌, ◌∷◌, length, option_map};
-ghost use Rattle.text_model.specs.Text.{whole_lines};
+ghost use Rattle.std.specs.Prelude.{◌≡◌, option_map};
 ghost use Rattle.hg_model.specs.Manifest.{flag_of, entry_of_line};
 ghost use Rattle.hg_manifest.specs.Values.{file_flag};
 ghost use Rattle.hg_manifest.specs.Reading.{entry_in};
@@ -13,19 +12,6 @@ pub struct Line<'a> {
     pub path: &'a [u8],
     pub node: Id,
     pub flag: Flag,
-}
-
-/// The first line of some bytes, with its LF if it has one, and what comes after it.
-pub fn first_line(bytes: &[u8]) -> (&[u8], &[u8])
-    requires { 0 < length bytes.now }
-    ensures lines { whole_lines bytes.now ≡ result.0.now ∷ whole_lines result.1.now }
-    ensures whole { bytes.now ≡ result.0.now ++ result.1.now }
-    ensures some { 0 < length result.0.now }
-{
-    match cut_at(b'\n', bytes) {
-        Some((front, _)) => bytes.split_at(front.len() + 1),
-        None => bytes.split_at(bytes.len()),
-    }
 }
 
 /// What a line with its LF says, if it has the form of one.

@@ -8,9 +8,9 @@ ghost use Rattle.hg_manifest.specs.Values.{manifest_entry, IsFault};
 
 use crate::entry::Entry;
 use crate::fault::ManifestFault;
-use crate::line::{first_line, read_line};
+use crate::line::read_line;
 use crate::lines::put_lines;
-use bridge_text::{Bytes, NoMemory, each_is_byte, fit_path};
+use bridge_text::{Bytes, NoMemory, each_is_byte, first_line, fit_path};
 use std::alloc::Global;
 use std::cmp::Ordering;
 use std::marker::Model;

@@ -1,6 +1,5 @@
 pub mod PieceLemmas
 pub mod PhaseLemmas
-pub mod LineTurns
 pub mod PartLemmas
 pub mod EntryLemmas
 pub mod TextLemmas

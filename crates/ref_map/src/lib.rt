@@ -21,6 +21,6 @@ pub use line::NameLine;
 pub use lookup::Lookup;
 pub use phase::Phase;
 pub use put::{put_line, put_ref};
-pub use read::{first_line, name_line, ref_line};
+pub use read::{name_line, ref_line};
 pub use row::{Row, Side, line_of, row_at};
 pub use rows::Rows;

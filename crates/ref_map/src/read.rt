@@ -1,25 +1,11 @@
 // Lines that are read.
-ghost use Rattle.std.specs.Prelude.{◌≡◌, ◌<◌, ◌++◌, ◌∷◌, length, option_map};
-ghost use Rattle.text_model.specs.Text.{whole_lines};
+ghost use Rattle.std.specs.Prelude.{◌≡◌, option_map};
 ghost use Rattle.name_model.specs.Line as model;
 ghost use Rattle.ref_map.specs.Values.{line_value};
 
 use crate::line::NameLine;
 use crate::phase::Phase;
 use bridge_text::{Id, cut_at};
-
-/// The first line of some bytes, with its LF if it has one, and what comes after it.
-pub fn first_line(bytes: &[u8]) -> (&[u8], &[u8])
-    requires { 0 < length bytes.now }
-    ensures lines { whole_lines bytes.now ≡ result.0.now ∷ whole_lines result.1.now }
-    ensures whole { bytes.now ≡ result.0.now ++ result.1.now }
-    ensures some { 0 < length result.0.now }
-{
-    match cut_at(b'\n', bytes) {
-        Some((front, _)) => bytes.split_at(front.len() + 1),
-        None => bytes.split_at(bytes.len()),
-    }
-}
 
 /// What a line of Git's side says, if it has the form of one: the digits of an id, a space, the name of a ref, LF.
 pub fn ref_line(text: &[u8]) -> Option<NameLine<'_>>

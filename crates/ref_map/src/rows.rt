@@ -13,9 +13,8 @@ ghost use Rattle.ref_map.specs.Rows.{reader, has_name, row_fault, IsRowFault, Is
 use crate::fault::{LineFault, NameFault};
 use crate::lookup::Lookup;
 use crate::put::{put_line, put_ref};
-use crate::read::first_line;
 use crate::row::{Row, Side, line_of, row_at};
-use bridge_text::{Id, NAME_LIMIT, NoMemory};
+use bridge_text::{Id, NAME_LIMIT, NoMemory, first_line};
 use indexmap::IndexMap;
 use std::alloc::Global;
 use std::marker::Model;

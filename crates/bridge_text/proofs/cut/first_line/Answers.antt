@@ -1,7 +1,7 @@
 use Rattle.std.proofs.Common.{◌∷◌, sym, ◌∙◌}
 use Rattle.text_model.specs.Text.{whole_lines}
-use Rattle.ref_map.proofs.LineTurns.{cut_line, last_line}
-use Rattle.ref_map.proofs.read.first_line.Goals as goal
+use Rattle.bridge_text.proofs.LineTurns.{cut_line, last_line}
+use Rattle.bridge_text.proofs.cut.first_line.Goals as goal
 
 pub split_at-requires : goal.split_at-requires
 split_at-requires c = (cut_line c.args.bytes.now c.in-Some.front.now c.in-Some.field-0-1.now c.in-Some.ensures).room
