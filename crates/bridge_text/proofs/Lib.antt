@@ -1,5 +1,6 @@
 pub mod DigitLemmas
 pub mod LineTurns
 pub mod PlaceLemmas
+pub mod Sets
 pub mod UnescapeLemmas
 pub mod WordLemmas

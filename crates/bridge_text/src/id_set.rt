@@ -1,5 +1,6 @@
 ghost use Rattle.std.specs.Prelude.{◌≡◌, ◌++◌, [], ◌∷◌, not, if◌then◌else◌, IfOk, OnErr};
 ghost use Rattle.text_model.specs.Id.{has_id};
+ghost use Rattle.text_model.specs.Id as text;
 
 use crate::id::Id;
 use crate::memory::NoMemory;
@@ -35,6 +36,17 @@ impl IdSet {
         IdSet {
             ids: IndexSet::new(alloc),
         }
+    }
+
+    /// The set of the ids of a list.
+    pub fn of(alloc: Global, ids: &[Id]) -> Result<IdSet, NoMemory>
+        ensures { IfOk result (λ set. (id : text.Id) → has_id set id ≡ has_id ids.now id) }
+    {
+        let mut set = IdSet::new(alloc);
+        for id in ids {
+            set.insert(*id)?;
+        }
+        Ok(set)
     }
 
     /// Puts an id in, and answers whether it is new. After want of memory the set is as it was.

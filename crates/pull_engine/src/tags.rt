@@ -7,7 +7,6 @@ ghost use Rattle.git_model.specs.Order.{has};
 ghost use Rattle.git_model.specs.Stream.{Placed};
 ghost use Rattle.pair_model.specs.Block.{Block};
 ghost use Rattle.saved_model.specs.Step.{lacks_target};
-ghost use Rattle.tag_rule.specs.Answers.{IsSetOf};
 ghost use Rattle.pull_engine.specs.Names.{IsTargetFault};
 ghost use Rattle.pull_engine.specs.Tags.{IsAsked, AreNewTags, IsLacking, HasTags, tag_refused};
 
@@ -15,7 +14,6 @@ use bridge_text::{IdList, IdSet, NoMemory};
 use git_batch::ObjectArrivals;
 use pair_state::State;
 use pull_outcome::PullFault;
-use std::alloc::Global;
 use tag_rule::{TagFault, new_tags};
 
 /// The tags that a state newly keeps, of the objects that came to it. ObjectUnknown comes exactly at the first of its tags whose target isn't there.
@@ -27,8 +25,8 @@ pub fn tags_among(state: &State, came: &ObjectArrivals) -> Result<IdList, PullFa
     ensures names { IfErr result IsTargetFault }
 {
     let alloc = state.alloc();
-    let commits = set_of(alloc, state.commits())?;
-    let kept = set_of(alloc, state.tags())?;
+    let commits = IdSet::of(alloc, state.commits().as_slice())?;
+    let kept = IdSet::of(alloc, state.tags().as_slice())?;
     match new_tags(alloc, &state.known().git, &commits, &kept, came) {
         Ok(ids) => Ok(ids),
         Err(fault) => Err(tag_fault(fault)),
@@ -62,15 +60,4 @@ fn put_behind(list: &mut IdList, more: &IdList) -> Result<(), NoMemory>
         list.push(*id)?;
     }
     Ok(())
-}
-
-// The ids of a list as a set.
-fn set_of(alloc: Global, ids: &IdList) -> Result<IdSet, NoMemory>
-    ensures { IfOk result (λ found. IsSetOf found ids.now) }
-{
-    let mut found = IdSet::new(alloc);
-    for id in ids.as_slice() {
-        found.insert(*id)?;
-    }
-    Ok(found)
 }

@@ -1,7 +1,5 @@
 // The order of the commits of a stream over a state.
-ghost use Rattle.std.specs.Prelude.{◌≡◌, List, IfOk, IfErr};
-ghost use Rattle.text_model.specs.Id.{has_id};
-ghost use Rattle.text_model.specs.Id as text;
+ghost use Rattle.std.specs.Prelude.{List, IfOk, IfErr};
 ghost use Rattle.git_model.specs.Stream.{Placed};
 ghost use Rattle.git_model.specs.Order.{IsOrder};
 ghost use Rattle.git_store.specs.Ancestry.{ancestries as rows};
@@ -12,7 +10,7 @@ ghost use Rattle.pull_stream.specs.Faults.{IsJudgement};
 ghost use Rattle.pull_stream.specs.Ready.{IsReady, IsInOrder, LacksParent, HasPlace, IsOrderRefusal};
 
 use crate::place::first_place;
-use bridge_text::{Id, IdList, IdSet, NoMemory};
+use bridge_text::{IdList, IdSet};
 use git_batch::ObjectArrivals;
 use git_store::{GitStore, OrderFault};
 use pair_state::StateParts;
@@ -46,7 +44,7 @@ fn order_over(
     ensures order { IfOk result (IsOrder (rows store.now commits.now) ids.now) }
     ensures fault { IfErr result (IsOrderFault (rows store.now commits.now) ids.now) }
 {
-    let saved = set_of(alloc, ids)?;
+    let saved = IdSet::of(alloc, ids.as_slice())?;
     store.order(commits, &saved)
 }
 
@@ -64,15 +62,4 @@ fn refusal_of(came: &ObjectArrivals, fault: OrderFault) -> PullFault
         }),
         OrderFault::Memory => PullFault::Memory,
     }
-}
-
-// The ids of a list as a set.
-fn set_of(alloc: Global, ids: &IdList) -> Result<IdSet, NoMemory>
-    ensures { IfOk result (λ found. (id : text.Id) → has_id found id ≡ has_id ids.now id) }
-{
-    let mut found = IdSet::new(alloc);
-    for id in ids.as_slice() {
-        found.insert(*id)?;
-    }
-    Ok(found)
 }

@@ -1,4 +1,3 @@
-pub mod Sets
 pub mod Whole
 pub mod Rule
 pub mod Known

@@ -4,7 +4,7 @@ ghost use Rattle.git_model.specs.Stream.{Placed};
 ghost use Rattle.history_model.specs.Pull.{objects_among};
 ghost use Rattle.view_model.specs.View.{CommitView, commit_id};
 ghost use Rattle.state_model.specs.Kept.{ids_of};
-ghost use Rattle.tag_rule.specs.Answers.{HaveCome, IsSetOf};
+ghost use Rattle.tag_rule.specs.Answers.{HaveCome};
 ghost use Rattle.tag_section.specs.Tags.{AreKept};
 
 use bridge_text::{Id, IdList, IdSet, NoMemory};
@@ -24,7 +24,7 @@ pub fn kept_tags(
     ensures { IfOk result (λ found. (cs : List CommitView) (placed : List Placed) → commits.now ≡ map commit_id cs → HaveCome store.now came.now placed
         → MatchOption found (¬ (AreKept cs (objects_among placed))) (λ ids. AreKept cs (objects_among placed) × (ids ≡ ids_of (objects_among placed)))) }
 {
-    let saved = set_of(alloc, commits)?;
+    let saved = IdSet::of(alloc, commits)?;
     let none = IdSet::new(alloc);
     match new_tags(alloc, store, &saved, &none, came) {
         Ok(ids) => Ok(if ids.len() == came.len() {
@@ -35,15 +35,4 @@ pub fn kept_tags(
         Err(TagFault::Refused(_)) => Ok(None),
         Err(TagFault::Memory) => Err(NoMemory),
     }
-}
-
-// The set of the ids of a list.
-fn set_of(alloc: Global, ids: &[Id]) -> Result<IdSet, NoMemory>
-    ensures { IfOk result (λ set. IsSetOf set ids.now) }
-{
-    let mut set = IdSet::new(alloc);
-    for id in ids {
-        set.insert(*id)?;
-    }
-    Ok(set)
 }

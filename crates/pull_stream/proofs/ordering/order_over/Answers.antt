@@ -1,4 +1,4 @@
-use Rattle.std.proofs.Common.{◌≡◌, List, Result, Ok, Err, IfOk, IfErr}
+use Rattle.std.proofs.Common.{◌≡◌, List, Result, Ok, Err, IfOk, IfErr, ap, ◌∙◌}
 use Rattle.text_model.specs.Id.{Id, has_id}
 use Rattle.git_model.specs.Order.{Ancestry, IsOrder}
 use Rattle.git_store.specs.declared.order.fault.OrderFault.{OrderFault}
@@ -20,7 +20,8 @@ module _ (rows : List Ancestry) (a b : List Id) (same : (id : Id) → has_id a i
 
 pub returns : goal.returns
 returns c =
-    let rows = ancestries c.args.store.now c.args.commits.now in record {
-      order = ordered rows c.in_ok-saved.saved c.args.ids.now c.in_ok-saved.ensures c.order.result c.order.ensures.order;
-      fault = refused rows c.in_ok-saved.saved c.args.ids.now c.in_ok-saved.ensures c.order.result c.order.ensures.fault;
+    let rows = ancestries c.args.store.now c.args.commits.now in
+    let same : (id : Id) → has_id c.in_ok-saved.saved id ≡ has_id c.args.ids.now id = λ id. c.in_ok-saved.ensures id ∙ ap (λ (l : List Id). has_id l id) c.as_slice.ensures in record {
+      order = ordered rows c.in_ok-saved.saved c.args.ids.now same c.order.result c.order.ensures.order;
+      fault = refused rows c.in_ok-saved.saved c.args.ids.now same c.order.result c.order.ensures.fault;
     }

@@ -1,6 +1,6 @@
 use Rattle.std.proofs.Common.{◌<◌, length, arith}
-use Rattle.tag_section.proofs.Sets.{one-more}
-use Rattle.tag_section.proofs.kept.set_of.Goals as goal
+use Rattle.bridge_text.proofs.Sets.{one-more}
+use Rattle.bridge_text.proofs.id_set.IdSet.of.Goals as goal
 
 pub loop-id-preserved : goal.loop-id-preserved
 loop-id-preserved c =
