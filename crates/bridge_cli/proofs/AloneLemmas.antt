@@ -7,7 +7,7 @@ use Rattle.text_model.specs.Text.{Bytes}
 use Rattle.hg_model.specs.Bundle.{ListsBundle}
 use Rattle.state_model.specs.Kept.{State, empty_state}
 use Rattle.state_model.specs.Saved.{SlotHolds}
-use Rattle.command_model.specs.Command.{Command, Written, Refused, reads_input, reads_slot, ComesTo, BeginsWith}
+use Rattle.command_model.specs.Command.{Command, Written, Refused, reads_input, reads_slot, ComesTo}
 use Rattle.bridge_text.specs.Refusals.{refusal_value}
 use Rattle.bridge_cli.specs.Over.{ToldOf, HeldBy, Over}
 use Rattle.bridge_cli.specs.Makes.{IsTextOf, IsEndAlone, MakesAlone, IsEndOf, Makes, ListsTheBundle, WorksTheListing}
@@ -55,7 +55,7 @@ module _ (command : Command) (reads : reads_input command ≡ true) (uses : read
 
   -- of a run without work
   pub alone-ends : (report : Report) → IsEndAlone command input report → IsEndOf command input slot report
-  alone-ends (code.Refused why) end = over-alone (λ s bytes. ComesTo command s bytes (Refused (refusal_value why))) end
+  alone-ends (code.Refused why) end = (end.0, over-alone (λ s bytes. ComesTo command s bytes (Refused (refusal_value why))) end.1)
   alone-ends code.ReadFault end = begins-by command (reads_slot command) slot uses
   alone-ends code.Memory end = tt
   alone-ends code.Done end = absurd end

@@ -1,8 +1,7 @@
 -- A run without faults of the outside, whose command is not refused, is done, or tells a mismatch, or has no memory.
-use Rattle.std.proofs.Common.{◌≡◌, ◌⊎◌, ℕ, Bool, true, false, [], Option, None, Some, inl, inr, refl, sym, subst, ◌∙◌}
+use Rattle.std.proofs.Common.{◌≡◌, ℕ, Bool, true, false, [], Option, None, Some, inl, inr, refl, sym, subst, ◌∙◌}
 use Rattle.std.specs.Prelude.{MatchBool}
 use Rattle.text_model.specs.Text.{Bytes}
-use Rattle.text_model.specs.Fault.{Refusal}
 use Rattle.text_model.proofs.Options.{none_some}
 use Rattle.state_model.specs.Kept.{State, empty_state}
 use Rattle.state_model.specs.Saved.{SlotHolds}
@@ -61,7 +60,7 @@ module _ (command : Command) (input rest old new : Option Bytes) (slot kept : Op
         absurd (done-apart commit right command s bytes x.0 x.1 x.2 comes);
   }
   complete-holds (IsRefused why) ends read wrote saved none_read none_wrote none_saved = λ bytes held s input_tells slot_tells begins.
-      let due = over-one command input slot bytes held s (λ t b. ComesTo command t b (Refused why)) input_tells slot_tells begins ends in
+      let due = over-one command input slot bytes held s (λ t b. ComesTo command t b (Refused why)) input_tells slot_tells begins ends.1 in
       record {
         done = λ never never_mismatched. absurd (never why due);
         mismatch = λ commit right comes. absurd (refused-apart commit right command s bytes why due comes);

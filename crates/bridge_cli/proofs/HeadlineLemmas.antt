@@ -5,7 +5,7 @@ use Rattle.text_model.specs.Text.{Bytes}
 use Rattle.text_model.specs.Fault.{Refusal}
 use Rattle.state_model.specs.Kept.{State, Kept, kept_of, with_kept}
 use Rattle.state_model.specs.Saved.{SlotHolds}
-use Rattle.saved_model.specs.Step.{Pull, OfBundle, OfStream, Steps, Refuses}
+use Rattle.saved_model.specs.Step.{Pull, OfBundle, OfStream, Steps}
 use Rattle.command_model.specs.Run.{Report, Done, IsRefused, Usage, ReadFault, WriteFault, SlotFault, StateBad, Memory, Mismatch}
 use Rattle.command_model.specs.Command.{Command, ListHg, CheckHg, ListGit, CheckGit, PullHg, PullGit, DumpHg, DumpGit, Map, SetNamesHg, SetNamesGit, NamesHg, NamesGit, Verify, Make, IsKept}
 use Rattle.saved_model.specs.Theorem.{IsSaved, GoesOn}
@@ -46,7 +46,7 @@ headline-holds PullHg (Some x) rest old new (Some held) None report ends same = 
 headline-holds PullHg (Some x) rest old new (Some held) (Some after) Done (_, (s, begins, (output, Some next, (k, steps, is), appends, keeps))) same =
     pulls-on (OfBundle x) held after s next k output begins steps is keeps
 headline-holds PullHg (Some x) rest old new (Some held) (Some after) Done (_, (s, begins, (output, None, never, appends, keeps))) same = absurd never
-headline-holds PullHg (Some x) rest old new (Some held) (Some after) (IsRefused why) (s, begins, due) same =
+headline-holds PullHg (Some x) rest old new (Some held) (Some after) (IsRefused why) (_, (s, begins, due)) same =
     stopped (OfBundle x) held after s why begins due (some-is (same why refl))
 headline-holds PullHg (Some x) rest old new (Some held) (Some after) Usage ends same = tt
 headline-holds PullHg (Some x) rest old new (Some held) (Some after) ReadFault ends same = tt
@@ -61,7 +61,7 @@ headline-holds PullGit (Some x) rest old new (Some held) None report ends same =
 headline-holds PullGit (Some x) rest old new (Some held) (Some after) Done (_, (s, begins, (output, Some next, (k, steps, is), appends, keeps))) same =
     pulls-on (OfStream x) held after s next k output begins steps is keeps
 headline-holds PullGit (Some x) rest old new (Some held) (Some after) Done (_, (s, begins, (output, None, never, appends, keeps))) same = absurd never
-headline-holds PullGit (Some x) rest old new (Some held) (Some after) (IsRefused why) (s, begins, due) same =
+headline-holds PullGit (Some x) rest old new (Some held) (Some after) (IsRefused why) (_, (s, begins, due)) same =
     stopped (OfStream x) held after s why begins due (some-is (same why refl))
 headline-holds PullGit (Some x) rest old new (Some held) (Some after) Usage ends same = tt
 headline-holds PullGit (Some x) rest old new (Some held) (Some after) ReadFault ends same = tt

@@ -2,6 +2,7 @@ mod CountLemmas
 pub mod OverLemmas
 pub mod EndLemmas
 pub mod AloneLemmas
+pub mod RefusedLemmas
 pub mod EmptyText
 pub mod FetchLemmas
 pub mod SavedLemmas

@@ -4,6 +4,7 @@ use Rattle.std.specs.Global.{Vec}
 use Rattle.text_model.specs.Text.{Bytes}
 use Rattle.state_model.specs.Kept.{empty_state}
 use Rattle.make_engine.specs.Faults.{IsRefusedFor}
+use Rattle.make_engine.specs.Names.{IsOfCounts}
 use Rattle.make_engine.specs.declared.fault.CountsFault.{CountsFault}
 use Rattle.make_engine.specs.declared.fault.CountsFault.TheVariants as counts
 use Rattle.command_model.specs.Made.{MakesCounts, RefusesMake}
@@ -20,9 +21,9 @@ module _ (n seed : ℕ) where
       (tt, (empty_state, refl, (None, subst (λ (v : Vec ℕ). MakesCounts n seed v.items) (sym same) counts, subst (IsTextOf None) (sym none) tt)))
 
   -- why there are none
-  pub made-refuses : (e : CountsFault) → IsRefusedFor (RefusesMake n seed) e → (input : Option Bytes) (slot : Option (Option Bytes)) → IsEndOf (Make n seed) input slot (counts_report e)
-  made-refuses (counts.Refused why) due input slot = (empty_state, refl, due)
-  made-refuses counts.Memory due input slot = tt
+  pub made-refuses : (e : CountsFault) → IsOfCounts e → IsRefusedFor (RefusesMake n seed) e → (input : Option Bytes) (slot : Option (Option Bytes)) → IsEndOf (Make n seed) input slot (counts_report e)
+  made-refuses (counts.Refused why) named due input slot = ((why.fault, refl, named), (empty_state, refl, due))
+  made-refuses counts.Memory named due input slot = tt
 
 -- nothing outside has failed
 pub made-cause : (e : CountsFault) (faults : ℕ) → EndCause faults faults (counts_report e)

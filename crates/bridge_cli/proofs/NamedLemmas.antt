@@ -19,6 +19,7 @@ use Rattle.pull_engine.specs.Read.{IsReadState}
 use Rattle.name_engine.specs.declared.fault.SetFault.{SetFault}
 use Rattle.name_engine.specs.declared.fault.SetFault.TheVariants as set
 use Rattle.name_engine.specs.Faults as cause
+use Rattle.name_engine.specs.Names.{IsOfNames}
 use Rattle.name_engine.specs.Set.{IsSaved, names_of, text_of, IsSet, IsRefused}
 use Rattle.state_law.proofs.Set.{set-left}
 use Rattle.bridge_cli.specs.Over.{Over}
@@ -101,19 +102,19 @@ names-unfetched Hg input slot report end = unfetched NamesHg refl input slot rep
 names-unfetched Git input slot report end = unfetched NamesGit refl input slot report end
 
 -- why none is set
-pub set-refuses : (side : Side) (input : Option Bytes) (slot : Option (Option Bytes)) (s : State) (e : SetFault) → IsFetched slot s
+pub set-refuses : (side : Side) (input : Option Bytes) (slot : Option (Option Bytes)) (s : State) (e : SetFault) → IsFetched slot s → IsOfNames side e
     → IfSome input (λ bytes. (m : model.State) → IsSaved s m → IsRefused side m bytes e) → IsEndOf (set_command side) input slot (set_report e)
-set-refuses Hg None slot s (set.Refused why) fetched told = tt
-set-refuses Hg (Some bytes) None s (set.Refused why) fetched told = tt
-set-refuses Hg (Some bytes) (Some held) s (set.Refused why) (m, read, are, holds) told = (m, holds, ap (named_by m) (told m (saved-of s m read)))
-set-refuses Git None slot s (set.Refused why) fetched told = tt
-set-refuses Git (Some bytes) None s (set.Refused why) fetched told = tt
-set-refuses Git (Some bytes) (Some held) s (set.Refused why) (m, read, are, holds) told = (m, holds, ap (named_by m) (told m (saved-of s m read)))
-set-refuses Hg input None s set.Read fetched told = tt
-set-refuses Hg input (Some held) s set.Read (m, read, are, holds) told = (m, holds)
-set-refuses Git input None s set.Read fetched told = tt
-set-refuses Git input (Some held) s set.Read (m, read, are, holds) told = (m, holds)
-set-refuses side input slot s set.Memory fetched told = tt
+set-refuses Hg None slot s (set.Refused why) fetched named told = ((why.fault, refl, named), tt)
+set-refuses Hg (Some bytes) None s (set.Refused why) fetched named told = ((why.fault, refl, named), tt)
+set-refuses Hg (Some bytes) (Some held) s (set.Refused why) (m, read, are, holds) named told = ((why.fault, refl, named), (m, holds, ap (named_by m) (told m (saved-of s m read))))
+set-refuses Git None slot s (set.Refused why) fetched named told = ((why.fault, refl, named), tt)
+set-refuses Git (Some bytes) None s (set.Refused why) fetched named told = ((why.fault, refl, named), tt)
+set-refuses Git (Some bytes) (Some held) s (set.Refused why) (m, read, are, holds) named told = ((why.fault, refl, named), (m, holds, ap (named_by m) (told m (saved-of s m read))))
+set-refuses Hg input None s set.Read fetched named told = tt
+set-refuses Hg input (Some held) s set.Read (m, read, are, holds) named told = (m, holds)
+set-refuses Git input None s set.Read fetched named told = tt
+set-refuses Git input (Some held) s set.Read (m, read, are, holds) named told = (m, holds)
+set-refuses side input slot s set.Memory fetched named told = tt
 
 pub set-cause : (before now : ℕ) (e : SetFault) → cause.FaultCause before now e → EndCause before now (set_report e)
 set-cause before now (set.Refused why) h = h

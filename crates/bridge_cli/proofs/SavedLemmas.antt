@@ -1,5 +1,5 @@
 -- What a command makes over a saved state.
-use Rattle.std.proofs.Common.{◌≡◌, ◌≤◌, ◌+◌, ◌*◌, ℕ, suc, true, false, List, [], ◌++◌, length, Option, None, Some, Ok, inl, inr, refl, sym, ap, subst, ◌∙◌, arith, append-nil}
+use Rattle.std.proofs.Common.{◌≡◌, ◌≤◌, ◌+◌, ◌*◌, ℕ, suc, List, [], ◌++◌, length, Option, None, Some, Ok, inl, inr, refl, sym, ap, subst, ◌∙◌, arith, append-nil}
 use Rattle.std.specs.Prelude.{IfSome}
 use Rattle.std.proofs.lemmas.List.{length-map, length-append}
 use Rattle.std.specs.Global.{Vec}
@@ -9,7 +9,7 @@ use Rattle.pair_model.specs.Block.{Block, changesets_in, commits_in}
 use Rattle.history_model.specs.Pull.{changesets_among}
 use Rattle.state_model.specs.Kept as model
 use Rattle.state_model.specs.Kept.{kept_of, with_kept, hg_dump, git_dump}
-use Rattle.state_model.specs.Saved.{IsState, IsStateText, SlotHolds}
+use Rattle.state_model.specs.Saved.{SlotHolds}
 use Rattle.saved_model.specs.Step.{OfBundle, OfStream, Steps, Refuses, known_of}
 use Rattle.saved_model.specs.Written.{map_text}
 use Rattle.command_model.specs.Command.{PullHg, PullGit, DumpHg, DumpGit, Map, Written, ComesTo}
@@ -21,15 +21,14 @@ use Rattle.pull_outcome.specs.Refused.{IsRefusedBy, FaultCause}
 use Rattle.pull_outcome.specs.Steps.{StepsHg, StepsGit}
 use Rattle.state_text.specs.Stands.{Stands}
 use Rattle.pull_engine.specs.Read.{IsReadState, IsPulled}
+use Rattle.pull_engine.specs.Names.{IsOfPullHg, IsOfPullGit}
 use Rattle.state_law.specs.Left.{StateIsLeft}
 use Rattle.pull_engine.specs.declared.pulled.Pulled.{Pulled}
 use Rattle.bridge_cli.specs.Over.{Over}
-use Rattle.bridge_cli.specs.Fetched.{IsFetched, IsNotFetched}
+use Rattle.bridge_cli.specs.Fetched.{IsFetched}
 use Rattle.bridge_cli.specs.Makes.{IsTextOf, IsNextText, IsEndOf, Makes, EndCause, FetchEndCause}
 use Rattle.bridge_cli.specs.Report.{pull_report}
 use Rattle.bridge_cli.specs.Steps.{StepsOf}
-use Rattle.bridge_cli.specs.declared.report.Report.{Report}
-use Rattle.bridge_cli.specs.declared.report.Report.TheVariants as code
 use Rattle.bridge_cli.specs.declared.work.Work.{Work}
 
 -- ---- pulls
@@ -56,23 +55,23 @@ git-makes law (Some bytes) (Some held) s p (Some text) output e (m, read, old-ar
     let state = law m (OfStream bytes) x.0 p.made read.saved old-are are x.1 in
     (m, holds, (Some (with_kept m x.0), (x.0, subst (λ (o : Bytes). Steps (kept_of m) (OfStream bytes) x.0 o) (sym e) x.1, refl), is (with_kept m x.0) x.2 state))
 
-pub hg-refuses : (input : Option Bytes) (slot : Option (Option Bytes)) (s : State) (e : PullFault) → IsFetched slot s
+pub hg-refuses : (input : Option Bytes) (slot : Option (Option Bytes)) (s : State) (e : PullFault) → IsFetched slot s → IsOfPullHg e
     → IfSome input (λ bytes. (m : model.State) → IsReadState s m → IsRefusedBy (Refuses (kept_of m) (OfBundle bytes)) e) → IsEndOf PullHg input slot (pull_report e)
-hg-refuses None slot s (pull.Refused why) fetched told = tt
-hg-refuses (Some bytes) None s (pull.Refused why) fetched told = tt
-hg-refuses (Some bytes) (Some held) s (pull.Refused why) (m, read, are, holds) told = (m, holds, told m read)
-hg-refuses input None s pull.Read fetched told = tt
-hg-refuses input (Some held) s pull.Read (m, read, are, holds) told = (m, holds)
-hg-refuses input slot s pull.Memory fetched told = tt
+hg-refuses None slot s (pull.Refused why) fetched named told = ((why.fault, refl, named), tt)
+hg-refuses (Some bytes) None s (pull.Refused why) fetched named told = ((why.fault, refl, named), tt)
+hg-refuses (Some bytes) (Some held) s (pull.Refused why) (m, read, are, holds) named told = ((why.fault, refl, named), (m, holds, told m read))
+hg-refuses input None s pull.Read fetched named told = tt
+hg-refuses input (Some held) s pull.Read (m, read, are, holds) named told = (m, holds)
+hg-refuses input slot s pull.Memory fetched named told = tt
 
-pub git-refuses : (input : Option Bytes) (slot : Option (Option Bytes)) (s : State) (e : PullFault) → IsFetched slot s
+pub git-refuses : (input : Option Bytes) (slot : Option (Option Bytes)) (s : State) (e : PullFault) → IsFetched slot s → IsOfPullGit e
     → IfSome input (λ bytes. (m : model.State) → IsReadState s m → IsRefusedBy (Refuses (kept_of m) (OfStream bytes)) e) → IsEndOf PullGit input slot (pull_report e)
-git-refuses None slot s (pull.Refused why) fetched told = tt
-git-refuses (Some bytes) None s (pull.Refused why) fetched told = tt
-git-refuses (Some bytes) (Some held) s (pull.Refused why) (m, read, are, holds) told = (m, holds, told m read)
-git-refuses input None s pull.Read fetched told = tt
-git-refuses input (Some held) s pull.Read (m, read, are, holds) told = (m, holds)
-git-refuses input slot s pull.Memory fetched told = tt
+git-refuses None slot s (pull.Refused why) fetched named told = ((why.fault, refl, named), tt)
+git-refuses (Some bytes) None s (pull.Refused why) fetched named told = ((why.fault, refl, named), tt)
+git-refuses (Some bytes) (Some held) s (pull.Refused why) (m, read, are, holds) named told = ((why.fault, refl, named), (m, holds, told m read))
+git-refuses input None s pull.Read fetched named told = tt
+git-refuses input (Some held) s pull.Read (m, read, are, holds) named told = (m, holds)
+git-refuses input slot s pull.Memory fetched named told = tt
 
 -- ---- how often a pull unmarks a member
 

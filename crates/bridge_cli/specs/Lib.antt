@@ -1,4 +1,5 @@
 pub mod Counts
+pub mod Names
 pub mod Over
 pub mod Ends
 pub mod Makes

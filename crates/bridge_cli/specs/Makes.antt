@@ -12,7 +12,8 @@ use Rattle.state_model.specs.Saved.{IsState, IsStateText}
 use Rattle.pair_state.specs.declared.state.State as pair
 use Rattle.state_text.specs.Stands.{Stands}
 use Rattle.command_model.specs.Command.{Command, Verify, Written, Refused, Mismatched, reads_input, reads_slot, ComesTo, BeginsWith, IsBadSlot}
-use Rattle.bridge_text.specs.Refusals.{refusal_value}
+use Rattle.bridge_text.specs.Refusals.{fault_name, refusal_value}
+use Rattle.bridge_cli.specs.Names.{MayRefuse}
 use Rattle.bridge_cli.specs.Over.{HeldBy, Over}
 use Rattle.bridge_cli.specs.Report.{bad_value}
 use Rattle.bridge_cli.specs.declared.report.Report.{Report}
@@ -21,9 +22,9 @@ use Rattle.bridge_cli.specs.declared.work.Work.{Work}
 
 -- ---- an input alone
 
--- how a run ends of which nothing is written, where the input tells its bytes
+-- how a run ends of which nothing is written: of a refusal the name whatever the input tells, and the whole where it tells its bytes
 abbrev pub IsEndAlone : Command → Option Bytes → Report → Type 0
-IsEndAlone command input (code.Refused why) = IfSome input (λ bytes. ComesTo command empty_state bytes (Refused (refusal_value why)))
+IsEndAlone command input (code.Refused why) = MayRefuse command (fault_name why.fault) × IfSome input (λ bytes. ComesTo command empty_state bytes (Refused (refusal_value why)))
 IsEndAlone command input code.ReadFault = ⊤
 IsEndAlone command input code.Memory = ⊤
 IsEndAlone command input report = ⊥
@@ -47,9 +48,9 @@ abbrev pub IsNextText : pair.State → Option (Vec ℕ) → Type 0
 IsNextText s None = ⊥
 IsNextText s (Some text) = (m : State) → Stands s m → IsState m → IsStateText text.items m
 
--- how a run ends of which nothing is written
+-- how a run ends of which nothing is written: of a refusal the name whatever input and slot tell, and the whole where they tell what they have
 abbrev pub IsEndOf : Command → Option Bytes → Option (Option Bytes) → Report → Type 0
-IsEndOf command input slot (code.Refused why) = Over command input slot (λ s bytes. ComesTo command s bytes (Refused (refusal_value why)))
+IsEndOf command input slot (code.Refused why) = MayRefuse command (fault_name why.fault) × Over command input slot (λ s bytes. ComesTo command s bytes (Refused (refusal_value why)))
 IsEndOf command input slot code.ReadFault = HeldBy (reads_slot command) slot (λ held. (s : State) × BeginsWith command held s)
 IsEndOf command input slot code.SlotFault = ⊤
 IsEndOf command input slot (code.StateBad why) = HeldBy (reads_slot command) slot (λ held. IsBadSlot held (bad_value why))

@@ -61,7 +61,7 @@ pub fn run<I: Source, O: Sink, E: Sink, K: Slot, L: Ledger>(
     ensures untouched { result ≡ Status.Usage → (input.new ≡ input.old) × (output.new ≡ output.old) × (slot.new ≡ slot.old) }
 
     // What the command comes to over the saved state and the input decides how the run ends, what the output takes, what the slot holds then and
-    // what is printed.
+    // what is printed. Whatever input and slot tell, a refusal has one of the names that the command may answer.
     ensures report { (report : run.Report) × (result ≡ status_of report)
         × Ends words.now (I.left input.old) (I.left input.new) (O.taken output.old) (O.taken output.new) (K.held slot.old) (K.held slot.new) report
         × TakesOrFails (E.taken errors.old) (E.taken errors.new) (E.faults errors.old) (E.faults errors.new) (run.report_line report) }

@@ -1,4 +1,5 @@
-pub mod MarkedLemmas
-pub mod LineLemmas
-pub mod TakenLemmas
 pub mod CountLemmas
+pub mod LineLemmas
+pub mod MarkedLemmas
+pub mod NameLemmas
+pub mod TakenLemmas

@@ -2,6 +2,7 @@
 ghost use Rattle.std.specs.Prelude.{◌≤◌, IfOk, IfErr};
 ghost use Rattle.command_model.specs.Made.{MakesCounts, RefusesMake};
 ghost use Rattle.make_engine.specs.Faults.{IsRefusedFor};
+ghost use Rattle.make_engine.specs.Names.{IsOfCounts};
 ghost use Rattle.make_engine.specs.Taken.{CountsSteps, IsStreamOfMade};
 
 use crate::fault::CountsFault;
@@ -27,6 +28,7 @@ pub fn make_counts<L: Ledger>(
 ) -> Result<Vec<u8>, CountsFault>
     ensures counts { IfOk result (λ lines. MakesCounts n seed lines.items) }
     ensures refused { IfErr result (IsRefusedFor (RefusesMake n seed)) }
+    ensures names { IfErr result IsOfCounts }
     ensures least { steps.old ≤ steps.new }
     ensures steps { IfOk result (λ lines. CountsSteps n seed lines.items steps.old steps.new) }
 {
@@ -44,6 +46,7 @@ fn stream_of_made<L: Ledger>(
 ) -> Result<Vec<u8>, CountsFault>
     ensures stream { IfOk result (λ stream. IsStreamOfMade n seed steps.old steps.new stream.items) }
     ensures refused { IfErr result (IsRefusedFor (RefusesMake n seed)) }
+    ensures names { IfErr result IsOfCounts }
     ensures least { steps.old ≤ steps.new }
 {
     let bundle = make_bundle(alloc, n, seed)?;

@@ -2,6 +2,7 @@
 ghost use Rattle.std.specs.Prelude.{◌≤◌, IfOk, IfErr};
 ghost use Rattle.saved_model.specs.Step.{OfBundle, OfStream};
 ghost use Rattle.make_engine.specs.Faults.{IsRefusedFor};
+ghost use Rattle.make_engine.specs.Names.{IsOfCounts};
 ghost use Rattle.make_engine.specs.Taken.{IsTaken, RefusesAlone};
 
 use crate::fault::{CountsFault, of_pull};
@@ -20,6 +21,7 @@ pub fn state_of_bundle<L: Ledger>(
 ) -> Result<State, CountsFault>
     ensures taken { IfOk result (IsTaken (OfBundle bundle.now) steps.old steps.new) }
     ensures refused { IfErr result (IsRefusedFor (RefusesAlone (OfBundle bundle.now))) }
+    ensures names { IfErr result IsOfCounts }
     ensures least { steps.old ≤ steps.new }
 {
     empty_is_read();
@@ -37,6 +39,7 @@ pub fn state_of_stream<L: Ledger>(
 ) -> Result<State, CountsFault>
     ensures taken { IfOk result (IsTaken (OfStream stream.now) steps.old steps.new) }
     ensures refused { IfErr result (IsRefusedFor (RefusesAlone (OfStream stream.now))) }
+    ensures names { IfErr result IsOfCounts }
     ensures least { steps.old ≤ steps.new }
 {
     empty_is_read();

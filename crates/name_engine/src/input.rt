@@ -3,6 +3,7 @@ ghost use Rattle.std.specs.Prelude.{◌≡◌, ◌≤◌, length, IfOk, IfErr, I
 ghost use Rattle.std.specs.Io.KnownBytes.{IsAtEnd};
 ghost use Rattle.text_model.specs.Fault.{input_limit};
 ghost use Rattle.name_engine.specs.Faults.{AnswerCause, IsTooLong};
+ghost use Rattle.name_engine.specs.Names.{IsOfInput};
 
 use crate::fault::{SetFault, refused};
 use bridge_io::{Source, fill_vec};
@@ -15,6 +16,7 @@ pub fn read_whole<S: Source>(alloc: Global, src: &mut S) -> Result<Vec<u8>, SetF
     ensures bytes { IfOk result (λ text. IfSome (S.left src.old) (λ bytes. text.items ≡ bytes)) }
     ensures short { IfOk result (λ text. length text.items ≤ input_limit) }
     ensures long { IfErr result (λ fault. IfSome (S.left src.old) (λ bytes. IsTooLong bytes fault)) }
+    ensures names { IfErr result IsOfInput }
     ensures end { OnOk result (IsAtEnd (S.left src.new)) }
     ensures cause { AnswerCause (S.faults src.old) (S.faults src.new) result }
 {

@@ -7,7 +7,8 @@ ghost use Rattle.command_model.specs.Names.{targets_saved};
 ghost use Rattle.name_model.specs.Reading.{set_of};
 ghost use Rattle.ref_map.specs.Faults.{IsNameFault};
 ghost use Rattle.ref_map.specs.Rows.{reader};
-ghost use Rattle.name_engine.specs.Faults.{AnswerCause};
+ghost use Rattle.name_engine.specs.Faults.{AnswerCause, name_fault};
+ghost use Rattle.name_engine.specs.Names.{IsOfNames};
 ghost use Rattle.name_engine.specs.Set.{IsSaved, IsSet, IsRefused};
 
 use crate::fault::SetFault;
@@ -23,9 +24,11 @@ use state_text::{Nameable, id_set};
 ///
 /// The text is refused exactly at its first fault: `InputLimit` where it has more than 2^29 bytes, and else that of its first bad line, with the
 /// line's number, as `ref_map::read_refs` and `ref_map::read_names` say. `Read` comes exactly where the source's count of faults rose.
+/// TagUnknown comes for Mercurial's side alone.
 pub fn set_names<S: Source>(state: State, side: Side, src: &mut S) -> Result<State, SetFault>
     ensures set { IfOk result (λ next. IfSome (S.left src.old) (λ text. (m : model.State) → IsSaved state m → IsSet side m text next)) }
     ensures refused { IfErr result (λ fault. IfSome (S.left src.old) (λ text. (m : model.State) → IsSaved state m → IsRefused side m text fault)) }
+    ensures names { IfErr result (IsOfNames side) }
     ensures next { IfOk result (λ next. (m : model.State) → IsSaved state m → (n : model.State) × Stands next n) }
     ensures end { OnOk result (IsAtEnd (S.left src.new)) }
     ensures cause { AnswerCause (S.faults src.old) (S.faults src.new) result }
@@ -39,6 +42,7 @@ pub fn set_names<S: Source>(state: State, side: Side, src: &mut S) -> Result<Sta
 fn names_in(state: &State, side: Side, text: &[u8]) -> Result<Rows, NameFault>
     ensures names { IfOk result (λ names. (m : model.State) → IsSaved state.now m → set_of (reader side (targets_saved m)) text.now ≡ Ok names) }
     ensures fault { IfErr result (λ fault. (m : model.State) → IsSaved state.now m → IsNameFault (set_of (reader side (targets_saved m)) text.now) fault) }
+    ensures fault_names { IfErr result (λ fault. IsOfNames side (name_fault fault)) }
 {
     let tags = id_set(state.alloc(), state.tags().as_slice())?;
     let known = Nameable {

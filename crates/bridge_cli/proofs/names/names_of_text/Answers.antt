@@ -12,7 +12,7 @@ pub returns-in_err-next-clause-makes : goal.returns-in_err-next-clause-makes
 returns-in_err-next-clause-makes g c =
     let p = err_from_is_err_and c.from_residual-in_err-next.result c.from_residual-in_err-next.ensures.1 in
     rw (p.1, p.2)
-    (set-refuses c.args.side (g.I.Source.left c.args.input.now) (g.K.Slot.held c.args.slot.now) c.in_ok-state.state c.in_err-next.field-0.0 c.in_ok-state.ensures.state c.in_err-next.ensures.refused)
+    (set-refuses c.args.side (g.I.Source.left c.args.input.now) (g.K.Slot.held c.args.slot.now) c.in_ok-state.state c.in_err-next.field-0.0 c.in_ok-state.ensures.state c.in_err-next.ensures.names c.in_err-next.ensures.refused)
 
 pub returns-in_err-next-clause-input : goal.returns-in_err-next-clause-input
 returns-in_err-next-clause-input g c =

@@ -1,6 +1,11 @@
 use Rattle.bridge_cli.proofs.CountLemmas.{stream_told}
+use Rattle.bridge_cli.proofs.RefusedLemmas.{check-git-refused}
 use Rattle.bridge_cli.proofs.output.stream_counts.Goals as goal
 
 pub returns-in-Ok-clause-makes : goal.returns-in-Ok-clause-makes
 returns-in-Ok-clause-makes g c =
     (c.in-Ok.ensures.end, stream_told _ _ _ _ c.new.ensures c.in-Ok.ensures.reads c.in_ok-object_counts-in-Ok.ensures)
+
+pub returns-clause-makes : goal.returns-clause-makes
+returns-clause-makes g c =
+    rw c.from.ensures (check-git-refused (g.I.Source.left c.args.input.now) _ c.in-Err.fault c.new.ensures c.in-Err.ensures.names c.in-Err.ensures.reads)

@@ -11,7 +11,7 @@ saved_work-requires g c =
 pub returns-in_err-pulled-clause-makes : goal.returns-in_err-pulled-clause-makes
 returns-in_err-pulled-clause-makes g c =
     let p = err_from_is_err_and c.from_residual-in_err-pulled.result c.from_residual-in_err-pulled.ensures.1 in
-    rw (p.1, p.2) (git-refuses (g.I.Source.left c.args.input.now) (g.K.Slot.held c.args.slot.now) c.in_ok-state.state c.in_err-pulled.field-0.0 c.in_ok-state.ensures.state c.in_err-pulled.ensures.refused)
+    rw (p.1, p.2) (git-refuses (g.I.Source.left c.args.input.now) (g.K.Slot.held c.args.slot.now) c.in_ok-state.state c.in_err-pulled.field-0.0 c.in_ok-state.ensures.state c.in_err-pulled.ensures.names c.in_err-pulled.ensures.refused)
 
 pub returns-in_err-pulled-clause-input : goal.returns-in_err-pulled-clause-input
 returns-in_err-pulled-clause-input g c =

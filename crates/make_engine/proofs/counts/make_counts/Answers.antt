@@ -36,3 +36,18 @@ pub returns-in_err-lines_of-clause-refused : goal.returns-in_err-lines_of-clause
 returns-in_err-lines_of-clause-refused g c =
     let p = err_from_is_err_and c.from_residual-in_err-lines_of.result c.from_residual-in_err-lines_of.ensures.1 in
     rw (p.1, p.2) tt
+
+pub returns-in_err-stream-clause-names : goal.returns-in_err-stream-clause-names
+returns-in_err-stream-clause-names g c =
+    let p = err_from_is_err_and c.from_residual.result c.from_residual.ensures.1 in
+    rw (p.1, p.2) c.in_err-stream.ensures.names
+
+pub returns-in_err-second-clause-names : goal.returns-in_err-second-clause-names
+returns-in_err-second-clause-names g c =
+    let p = err_from_is_err_and c.from_residual-in_err-second.result c.from_residual-in_err-second.ensures.1 in
+    rw (p.1, p.2) c.in_err-second.ensures.names
+
+pub returns-in_err-lines_of-clause-names : goal.returns-in_err-lines_of-clause-names
+returns-in_err-lines_of-clause-names g c =
+    let p = err_from_is_err_and c.from_residual-in_err-lines_of.result c.from_residual-in_err-lines_of.ensures.1 in
+    rw (p.1, p.2) tt

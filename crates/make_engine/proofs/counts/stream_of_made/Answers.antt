@@ -6,6 +6,7 @@ use Rattle.saved_model.specs.Step.{OfBundle}
 use Rattle.make_engine.specs.Faults.{IsRefusedFor}
 use Rattle.make_engine.specs.Taken.{RefusesAlone}
 use Rattle.make_engine.proofs.CountLemmas.{not-made, bundle-refused, made-stream}
+use Rattle.make_engine.proofs.NameLemmas.{make-named}
 use Rattle.make_engine.proofs.counts.stream_of_made.Goals as goal
 
 pub returns-in_err-bundle-clause-refused : goal.returns-in_err-bundle-clause-refused
@@ -32,5 +33,20 @@ returns-clause-stream g c =
 
 pub returns-in_err-dump_git-clause-refused : goal.returns-in_err-dump_git-clause-refused
 returns-in_err-dump_git-clause-refused g c =
+    let p = err_from_is_err_and c.from_residual-in_err-dump_git.result c.from_residual-in_err-dump_git.ensures.1 in
+    rw (p.1, p.2) tt
+
+pub returns-in_err-bundle-clause-names : goal.returns-in_err-bundle-clause-names
+returns-in_err-bundle-clause-names g c =
+    let p = err_from_is_err_and c.from_residual.result c.from_residual.ensures.1 in
+    rw (p.1, p.2) (make-named c.in_err-bundle.field-0.0)
+
+pub returns-in_err-first-clause-names : goal.returns-in_err-first-clause-names
+returns-in_err-first-clause-names g c =
+    let p = err_from_is_err_and c.from_residual-in_err-first.result c.from_residual-in_err-first.ensures.1 in
+    rw (p.1, p.2) c.in_err-first.ensures.names
+
+pub returns-in_err-dump_git-clause-names : goal.returns-in_err-dump_git-clause-names
+returns-in_err-dump_git-clause-names g c =
     let p = err_from_is_err_and c.from_residual-in_err-dump_git.result c.from_residual-in_err-dump_git.ensures.1 in
     rw (p.1, p.2) tt

@@ -5,6 +5,7 @@ use Rattle.saved_model.specs.Step.{OfStream, Refuses}
 use Rattle.pull_outcome.specs.Refused.{IsRefusedBy}
 use Rattle.pull_engine.specs.Read.{IsPulled}
 use Rattle.make_engine.specs.Taken.{RefusesAlone}
+use Rattle.make_engine.proofs.NameLemmas.{git-named}
 use Rattle.make_engine.proofs.TakenLemmas.{taken, no-read, refused-alone}
 use Rattle.make_engine.proofs.taken.state_of_stream.Goals as goal
 
@@ -22,3 +23,6 @@ returns-in-Err-clause-refused g c =
     let read = c.empty_is_read.ensures c.empty.result c.empty.ensures.state c.empty.ensures.revisions c.empty.ensures.objects c.empty.ensures.tags c.empty.ensures.names in
     let due = subst (λ (b : Bytes). IsRefusedBy (Refuses (kept_of empty_state) (OfStream b)) c.in-Err.fault) c.new.ensures (c.in-Err.ensures.refused empty_state read) in
     rw c.of_pull.ensures (refused-alone (RefusesAlone (OfStream c.args.stream.now)) c.in-Err.fault due)
+
+pub returns-in-Err-clause-names : goal.returns-in-Err-clause-names
+returns-in-Err-clause-names g c = rw c.of_pull.ensures (git-named c.in-Err.fault c.in-Err.ensures.names)

@@ -1,0 +1,5 @@
+use Rattle.bridge_cli.proofs.RefusedLemmas.{list-hg-refused}
+use Rattle.bridge_cli.proofs.output.bundle_lines.Goals as goal
+
+pub returns-in-Err-clause-makes : goal.returns-in-Err-clause-makes
+returns-in-Err-clause-makes g c = rw c.from.ensures (list-hg-refused (g.I.Source.left c.args.input.now) c.in-Err.fault c.in-Err.ensures.names c.in-Err.ensures.lists)
