@@ -1,5 +1,5 @@
 -- What a run leaves of the names, from what its command comes to.
-use Rattle.std.proofs.Common.{◌≡◌, List, [], Option, None, Some, Result, Ok, Err, refl, sym, subst, arith}
+use Rattle.std.proofs.Common.{◌≡◌, List, Option, None, Some, Result, Ok, Err, refl, sym, subst, arith}
 use Rattle.text_model.specs.Text.{Bytes}
 use Rattle.text_model.specs.Fault.{Refusal}
 use Rattle.state_model.specs.Kept.{State, Kept, NameRow, kept_of, with_kept}
@@ -15,7 +15,6 @@ use Rattle.state_law.proofs.Back.{come-back}
 use Rattle.state_law.proofs.Printed.{same-names}
 use Rattle.bridge_cli.specs.Ends.{EndsBy}
 use Rattle.bridge_cli.specs.Status.{status_of}
-use Rattle.bridge_cli.specs.declared.status.Status.{Status}
 use Rattle.bridge_cli.specs.declared.status.Status.TheVariants as status
 
 -- one report has the status of a run that is done

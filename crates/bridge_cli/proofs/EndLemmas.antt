@@ -1,10 +1,9 @@
 -- How a run ends whose work is done, or comes to none.
-use Rattle.std.proofs.Common.{◌≡◌, ◌⊎◌, ℕ, [], Option, None, Some, inl, inr, refl}
-use Rattle.std.specs.Prelude.{IfSome, MatchBool, ⊤}
+use Rattle.std.proofs.Common.{ℕ, Option, None, Some, inl, inr, refl}
+use Rattle.std.specs.Prelude.{MatchBool, ⊤}
 use Rattle.std.specs.Global.{Vec}
-use Rattle.std.specs.Io.KnownBytes.{Appends, IsAtEnd}
+use Rattle.std.specs.Io.KnownBytes.{IsAtEnd}
 use Rattle.text_model.specs.Text.{Bytes}
-use Rattle.bridge_io.specs.Sink.{AppendsPrefix}
 use Rattle.state_model.specs.Kept.{State}
 use Rattle.command_model.specs.Command.{Command, Written, reads_input, ComesTo}
 use Rattle.bridge_cli.specs.Over.{Over}

@@ -6,7 +6,6 @@ use Rattle.state_model.specs.Kept as model
 use Rattle.state_model.specs.Saved.{SlotHolds, IsStateText}
 use Rattle.command_model.specs.Command.{IsBadSlot}
 use Rattle.bridge_io.specs.Slot.{FetchGives}
-use Rattle.bridge_io.specs.declared.slot.SlotFault.{SlotFault}
 use Rattle.pair_state.specs.declared.state.State.{State}
 use Rattle.pair_state.specs.AllBlocks.{HasAllBlocks}
 use Rattle.pull_engine.proofs.Empty.{empty-is-read}

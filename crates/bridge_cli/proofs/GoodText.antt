@@ -1,12 +1,11 @@
 -- The text of a state is never refused as the text of none.
-use Rattle.std.proofs.Common.{◌≡◌, ◌<◌, ◌≤◌, ℕ, zero, suc, [], ◌∷◌, ◌++◌, length, codes, Option, Some, None, refl, sym, ap, ◌∙◌, arith, append_assoc, append-nil}
+use Rattle.std.proofs.Common.{◌≡◌, ◌<◌, ◌≤◌, ℕ, zero, suc, [], ◌∷◌, ◌++◌, length, codes, Some, refl, sym, ap, ◌∙◌, arith, append_assoc, append-nil}
 use Rattle.std.proofs.lemmas.List.{append_cancel_left}
 use Rattle.text_model.specs.Text.{Bytes, lf, first_line, spaced}
 use Rattle.text_model.proofs.LackLemmas.{Lacks-by_test}
 use Rattle.text_model.proofs.LineLemmas.{first_line-at}
 use Rattle.text_model.proofs.Options.{some_is}
 use Rattle.state_model.specs.Kept.{State}
-use Rattle.state_model.specs.Limits.{slot_limit}
 use Rattle.state_model.specs.Text.{Sections, sections_of, section_text, text_up_to, state_text, version_word, version}
 use Rattle.state_model.specs.Saved.{IsStateText, IsVersionFault, SectionsHold, SectionsFit}
 use Rattle.command_model.specs.Run.{BadState, TooLong, OtherVersion, BadShape}

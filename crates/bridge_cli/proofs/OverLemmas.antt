@@ -1,6 +1,6 @@
 -- What is said of a run over what its input and its slot tell.
 use Rattle.std.proofs.Common.{◌≡◌, Bool, true, false, [], Option, None, Some, ap}
-use Rattle.std.specs.Prelude.{unwrap_or, IfSome}
+use Rattle.std.specs.Prelude.{unwrap_or}
 use Rattle.text_model.specs.Text.{Bytes}
 use Rattle.state_model.specs.Kept.{State}
 use Rattle.command_model.specs.Command.{Command, reads_input, reads_slot}

@@ -1,5 +1,5 @@
 -- The state that a slot gives.
-use Rattle.std.specs.Prelude.{◌≡◌, Option, Some, IfSome, Result, MatchResult, ⊤}
+use Rattle.std.specs.Prelude.{Option, Some, IfSome, Result, MatchResult, ⊤}
 use Rattle.text_model.specs.Text.{Bytes, IsBytes}
 use Rattle.state_model.specs.Kept as model
 use Rattle.state_model.specs.Text.{state_text}

@@ -1,5 +1,5 @@
 -- What is said of a run by what its input and its slot tell.
-use Rattle.std.specs.Prelude.{◌≡◌, Bool, [], Option, None, IfSome, MatchBool}
+use Rattle.std.specs.Prelude.{Bool, [], Option, None, IfSome, MatchBool}
 use Rattle.text_model.specs.Text.{Bytes}
 use Rattle.state_model.specs.Kept.{State}
 use Rattle.command_model.specs.Command.{Command, reads_input, reads_slot, BeginsWith}

@@ -1,4 +1,4 @@
-use Rattle.std.proofs.Common.{◌≡◌, ◌≢◌, ℕ, Option, sym, ap, subst, ◌∙◌}
+use Rattle.std.proofs.Common.{◌≡◌, ◌≢◌, Option, sym, ap, subst, ◌∙◌}
 use Rattle.text_model.specs.Text.{Bytes}
 use Rattle.command_model.specs.Command as model
 use Rattle.command_model.specs.Run as run
