@@ -1,4 +1,4 @@
-ghost use Rattle.std.specs.Prelude.{◌≡◌, ◌++◌, ◌^◌, nat_lt, if◌then◌else◌, Some, None, decimal, IsTrue, OnOk, OnErr};
+ghost use Rattle.std.specs.Prelude.{◌≡◌, ◌++◌, ◌^◌, bytes_eq, nat_lt, if◌then◌else◌, Some, None, decimal, IsTrue, OnOk, OnErr};
 ghost use Rattle.std.specs.List.{list_all};
 ghost use Rattle.text_model.specs.Text.{is_digit, is_decimal, number_of, decimal_below};
 
@@ -15,6 +15,13 @@ pub fn decimal_of(text: &[u8]) -> Option<u64>
     } else {
         None
     }
+}
+
+/// Whether the text is the decimal of a number.
+pub fn is_decimal_of(text: &[u8], number: u64) -> bool
+    ensures { result ≡ bytes_eq text.now (decimal number) }
+{
+    decimal_of(text) == Some(number)
 }
 
 /// Appends the decimal of a number. After want of memory `out` is as it was.

@@ -21,6 +21,15 @@ pub const PARENT_LIMIT: usize = 64;
 /// The bytes of a path.
 pub const PATH_LIMIT: usize = 4096;
 
+/// The bytes of a bundle's chunk that is an entry of a group, those of its length field among them: 128 MiB.
+pub const ENTRY_LIMIT: u32 = 1 << 27;
+
+/// The bytes of a bundle's chunk that is a path, those of its length field among them.
+pub const PATH_CHUNK_LIMIT: u32 = 4100;
+
+/// The bytes of an object's line in a stream, its LF among them.
+pub const LINE_LIMIT: usize = 4096;
+
 /// The components of a path.
 pub const COMPONENT_LIMIT: usize = 256;
 
@@ -41,3 +50,9 @@ pub const REF_LIMIT: usize = 4096;
 
 /// The names of a saved state.
 pub const NAME_LIMIT: usize = 100_000;
+
+/// So many unmarkings below a member are too many.
+pub const DEPTH_LIMIT: u8 = 16;
+
+/// The changesets of a made history.
+pub const MADE_LIMIT: u64 = 20_000;

@@ -15,7 +15,7 @@ use Rattle.pair_model.specs.Block.{Parents}
 use Rattle.pair_model.specs.Rule.{ruled_manifest, ruled_files}
 use Rattle.pair_model.specs.MarkList.{Manifest, Files}
 use Rattle.pair_known.specs.declared.hg_draft.HgDraft.{HgDraft}
-use Rattle.mark_code.specs.Values.{manifest_value}
+use Rattle.hg_manifest.specs.Values.{manifest_value}
 use Rattle.manifest_rule.specs.Listed.{AreListed, AreParentEntries}
 use Rattle.manifest_rule.specs.Over.{AreRowsOver}
 use Rattle.manifest_rule.proofs.FilesLemmas.{paths-are}

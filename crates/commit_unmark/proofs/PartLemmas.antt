@@ -15,9 +15,9 @@ use Rattle.text_model.proofs.CutLemmas.{cut_of-none, cut_of-takes}
 use Rattle.view_model.specs.View.{Row, rows_text, manifest_node}
 use Rattle.pair_model.specs.MarkList.{Mark}
 use Rattle.partner_model.specs.Filled.{manifest_mark, first_mark}
-use Rattle.mark_code.specs.Values.{manifest_value}
-use Rattle.mark_code.specs.declared.mark.ManifestRev.{ManifestRev}
-use Rattle.mark_code.specs.declared.mark.ManifestRev.TheVariants as rev
+use Rattle.hg_manifest.specs.Values.{manifest_value}
+use Rattle.hg_manifest.specs.declared.rev.ManifestRev.{ManifestRev}
+use Rattle.hg_manifest.specs.declared.rev.ManifestRev.TheVariants as rev
 use Rattle.manifest_rule.specs.declared.manifest.RuledManifest.{RuledManifest}
 use Rattle.hg_model.specs.Manifest.{manifest_text}
 use Rattle.pair_model.specs.Block.{Parents}

@@ -11,7 +11,7 @@ use Rattle.pair_model.specs.User.{user_of_line, description_of}
 use Rattle.pair_model.specs.Rule.{ruled_manifest, ruled_files}
 use Rattle.pair_model.specs.MarkList.{Mark}
 use Rattle.partner_model.specs.Filled.{manifest_mark, files_mark, user_mark, extra_mark, date_mark, first_mark}
-use Rattle.mark_code.specs.Values.{manifest_value}
+use Rattle.hg_manifest.specs.Values.{manifest_value}
 use Rattle.manifest_rule.specs.declared.manifest.RuledManifest.{RuledManifest}
 use Rattle.commit_unmark.specs.declared.marks.Kind.{Kind}
 use Rattle.commit_unmark.specs.declared.marks.Kind.TheVariants as kind

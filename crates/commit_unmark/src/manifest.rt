@@ -3,7 +3,8 @@ ghost use Rattle.std.specs.Prelude.{◌≡◌, ◌↔◌, List, [], map, IfOk, I
 ghost use Rattle.view_model.specs.View.{Row, AreManifestParents};
 ghost use Rattle.pair_model.specs.Block.{Parents};
 ghost use Rattle.partner_model.specs.Filled.{manifest_mark, files_mark, first_mark};
-ghost use Rattle.mark_code.specs.Values.{manifest_value, mark_value};
+ghost use Rattle.hg_manifest.specs.Values.{manifest_value};
+ghost use Rattle.mark_code.specs.Values.{mark_value};
 ghost use Rattle.pair_known.specs.Rows.{row_value};
 ghost use Rattle.manifest_rule.specs.Listed.{AreListedOver};
 ghost use Rattle.manifest_rule.specs.Over.{AreRowsOver};
@@ -13,9 +14,10 @@ use crate::marks::{Kind, first_of};
 use bridge_text::{Bytes, Id, NoMemory, Paths, node_id};
 use file_rule::Parent;
 use hg_filelog::canonical_pair;
+use hg_manifest::ManifestRev;
 use hg_store::HgStore;
 use manifest_rule::{RuledManifest, files_over, lines_of, make_manifest};
-use mark_code::{CommitMarks, ManifestRev, Mark};
+use mark_code::{CommitMarks, Mark};
 use pair_known::HgRows;
 use std::alloc::Global;
 

@@ -1,5 +1,6 @@
 -- What the line of an object says, as the code has it.
-use Rattle.std.specs.Prelude.{◌≡◌, ℕ, ◌+◌, ◌≤◌, ◌^◌, List, [], ◌∷◌, Option, Some, None, Result, MatchResult, decimal, length}
+use Rattle.std.specs.Prelude.{◌≡◌, ℕ, ◌+◌, ◌≤◌, List, [], ◌∷◌, Option, Some, None, Result, MatchResult, decimal, length}
+use Rattle.text_model.specs.Limits.{input_limit}
 use Rattle.text_model.specs.Text.{Bytes, spaced}
 use Rattle.text_model.specs.Id.{hex, kind_word}
 use Rattle.text_model.specs.Fault.{Refusal}
@@ -40,7 +41,7 @@ ReadsLine reading result = MatchResult result (λ h. reading ≡ line_value h) (
 pub record IsLineOf (at : ℕ) (text : Bytes) (h : code.Header) : Type 0 where
   pub is : text ≡ header_text h
   pub limit : h.size ≤ size_limit (object_kind h.kind)
-  pub fits : at + length text + 1 ≤ 2 ^ 29
+  pub fits : at + length text + 1 ≤ input_limit
 
 -- a line that ended there has this header; one that the end of the input left without bytes has none
 abbrev pub IsTextOf : ℕ → LineEnd → Bytes → Option code.Header → Type 0

@@ -1,6 +1,7 @@
 // The content of an object and the LF behind it.
-ghost use Rattle.std.specs.Prelude.{◌≡◌, ◌+◌, ◌≤◌, ◌^◌, [], length, OnOk, IfErr, IfSome};
+ghost use Rattle.std.specs.Prelude.{◌≡◌, ◌+◌, ◌≤◌, [], length, OnOk, IfErr, IfSome};
 ghost use Rattle.std.specs.Io.KnownBytes.{Consumes};
+ghost use Rattle.text_model.specs.Limits.{input_limit, text_limit};
 ghost use Rattle.text_model.specs.Text.{line};
 ghost use Rattle.git_model.specs.Stream.{body_fault};
 ghost use Rattle.git_batch.specs.Faults.{AnswerCause, IsFraming, Judges};
@@ -18,11 +19,11 @@ pub fn read_content<S: Source>(
     into: &mut Vec<u8>,
 ) -> Result<(), BatchFault>
     requires empty { into.old.items ≡ [] }
-    requires at { at ≤ 2 ^ 29 }
-    requires size { size ≤ 2 ^ 26 }
+    requires at { at ≤ input_limit }
+    requires size { size ≤ text_limit }
     ensures bytes { OnOk result (Consumes (S.left src.old) (S.left src.new) (line into.new.items)) }
     ensures len { OnOk result (length into.new.items ≡ size) }
-    ensures fits { OnOk result (at + size + 1 ≤ 2 ^ 29) }
+    ensures fits { OnOk result (at + size + 1 ≤ input_limit) }
     ensures judged { IfSome (S.left src.old) (λ bytes. Judges (body_fault at size bytes) result) }
     ensures names { IfErr result IsFraming }
     ensures cause { AnswerCause (S.faults src.old) (S.faults src.new) result }

@@ -1,5 +1,6 @@
 // The line of an object, up to where it is cut off.
-ghost use Rattle.std.specs.Prelude.{◌≡◌, ◌≤◌, ◌^◌, ℕ, [], length, IfOk, IfErr, IfSome};
+ghost use Rattle.std.specs.Prelude.{◌≡◌, ◌≤◌, ℕ, [], length, IfOk, IfErr, IfSome};
+ghost use Rattle.text_model.specs.Limits.{input_limit, line_limit};
 ghost use Rattle.git_model.specs.Stream.{line_reading};
 ghost use Rattle.git_batch.specs.Faults.{AnswerCause, IsDevice, IsFraming};
 ghost use Rattle.git_batch.specs.Line.{HasLine, piece_reading};
@@ -10,9 +11,7 @@ use crate::byte::{next_byte, push};
 use crate::header::{Header, header_of};
 use crate::input::{input_ends, within_limit};
 use bridge_io::Source;
-
-/// How many bytes the line of an object has at most, with its LF.
-const LINE_LIMIT: usize = 4096;
+use bridge_text::LINE_LIMIT;
 
 /// How the line of a missing object ends.
 const MISSING: &[u8; 8] = b" missing";
@@ -35,7 +34,7 @@ pub fn read_header<S: Source>(
     line: &mut Vec<u8>,
 ) -> Result<Option<Header>, BatchFault>
     requires empty { line.old.items ≡ [] }
-    requires at { at ≤ 2 ^ 29 }
+    requires at { at ≤ input_limit }
     ensures reads { IfSome (S.left src.old) (λ bytes. ReadsLine (line_reading at bytes) result) }
     ensures header { IfOk result (HasHeader (S.left src.old) (S.left src.new) at line.new.items) }
     ensures names { IfErr result IsFraming }
@@ -67,8 +66,8 @@ fn read_line<S: Source>(src: &mut S, line: &mut Vec<u8>) -> Result<LineEnd, Batc
 
 // Judges a line at an offset by what it ended at and its bytes before that.
 fn judge_line(at: u64, end: LineEnd, text: &[u8]) -> Result<Option<Header>, BatchFault>
-    requires at { at ≤ 2 ^ 29 }
-    requires text { length text.now ≤ 4096 }
+    requires at { at ≤ input_limit }
+    requires text { length text.now ≤ line_limit }
     ensures reads { ReadsLine (piece_reading at end text.now) result }
     ensures header { IfOk result (IsTextOf at end text.now) }
     ensures names { IfErr result IsFraming }

@@ -1,5 +1,5 @@
 // A reader of objects, which knows how far it is.
-ghost use Rattle.std.specs.Prelude.{◌≡◌, ◌+◌, ◌≤◌, ◌^◌, ℕ, [], length, IfOk, IfErr, OnOk, OnErr, IfSome};
+ghost use Rattle.std.specs.Prelude.{◌≡◌, ◌+◌, ◌≤◌, ℕ, [], length, IfOk, IfErr, OnOk, OnErr, IfSome};
 ghost use Rattle.std.specs.Io.KnownBytes.{Consumes};
 ghost use Rattle.text_model.specs.Fault.{input_limit};
 ghost use Rattle.git_model.specs.Stream.{object_reading, checked_at};
@@ -42,7 +42,7 @@ impl Model for BatchReader {
 
     ghost view = { λ r. r.offset };
 
-    ghost invariant = { λ r. r.offset ≤ 2 ^ 29 };
+    ghost invariant = { λ r. r.offset ≤ input_limit };
 }
 
 impl BatchReader {

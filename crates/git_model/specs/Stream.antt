@@ -1,7 +1,7 @@
 -- The output of `git cat-file --batch`: objects one after another, each with a line of its own, as that command's manual has it.
 use Rattle.std.specs.Prelude.{◌≡◌, ℕ, zero, suc, ◌+◌, ◌≤◌, Bool, not, ◌&&◌, ◌==◌, nat_le, nat_lt, if◌then◌else◌, List, [], ◌∷◌, ◌++◌, length, map, take, drop, slice_index, Option, Some, None, option_map, Result, Ok, Err, codes, decimal, bytes_eq, count_by}
 use Rattle.std.specs.List.{flat_map, list_all, slice_split, ends_with}
-use Rattle.text_model.specs.Limits.{commit_limit, text_limit}
+use Rattle.text_model.specs.Limits.{commit_limit, text_limit, line_limit}
 use Rattle.text_model.specs.Lists.{Each}
 use Rattle.text_model.specs.Text.{Bytes, lf, sp, line, spaced, first_line, is_decimal, number_of}
 use Rattle.text_model.specs.Id.{Id, IsId, hex, is_hex_id, bytes_of_digits, ObjectKind, blob, tree, commit, tag, kind_word, same_kind, object_id}
@@ -35,11 +35,11 @@ pub record StreamFraming : Type 0 where
 -- the size of a line whose first 4,096 bytes are cut so at an LF, among so many bytes
 abbrev pub size_by : ℕ → Option (Bytes × Bytes) → ℕ
 size_by total (Some p) = length p.0 + 1
-size_by total None = if nat_lt 4096 total then 4096 else total + 1
+size_by total None = if nat_lt line_limit total then line_limit else total + 1
 
 -- how many bytes the line takes: with its first LF, or 4,096 where these have none; one more than there are where it is cut
 abbrev pub line_size : Bytes → ℕ
-line_size bytes = size_by (length bytes) (first_line (take 4096 bytes))
+line_size bytes = size_by (length bytes) (first_line (take line_limit bytes))
 
 abbrev pub is_kind_word : Bytes → Bool
 is_kind_word word = not (length word == 0) && list_all (λ b. nat_le 97 b && nat_le b 122) word
@@ -90,7 +90,7 @@ unfoldable pub line_reading : ℕ → Bytes → LineReading
 line_reading at [] = NoLine
 line_reading at (b ∷ bytes) =
     unless_bad (reach (at + length (b ∷ bytes)) (at + line_size (b ∷ bytes)))
-    (line_by at (take 4096 (b ∷ bytes)) (first_line (take 4096 (b ∷ bytes))))
+    (line_by at (take line_limit (b ∷ bytes)) (first_line (take line_limit (b ∷ bytes))))
 
 abbrev pub or_line : ℕ → Bool → Option Refusal → Option Refusal
 or_line at is_lf None = if is_lf then None else Some (refusal_at fault.Line at)

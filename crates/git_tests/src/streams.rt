@@ -1,6 +1,6 @@
 // Streams that are read into a store.
 use bridge_io::MemSource;
-use bridge_text::{Fault, Id, Kind, Refusal};
+use bridge_text::{Fault, Id, IdList, Kind, Refusal};
 use git_batch::{ObjectArrivals, StreamFault, read_into};
 use git_store::GitStore;
 use std::alloc::Global;
@@ -64,11 +64,22 @@ fn are_all(arrivals: &ObjectArrivals) -> bool {
         && arrivals.at(4).kind == Kind::Commit
 }
 
+// Whether the id is the last of these.
+fn is_last(ids: &IdList, id: &Id) -> bool {
+    match ids.as_slice().last() {
+        Some(last) => last == id,
+        None => false,
+    }
+}
+
 // Whether the stream is read in pieces of at most `cut` bytes, and brings this commit.
 fn is_read(alloc: Global, cut: usize, commit: &Id) -> Result<bool, Fail> {
     let mut src = source(alloc, STREAM, cut, &[])?;
     match read_into(alloc, &mut src, GitStore::new(alloc)) {
-        Ok((store, arrivals)) => Ok(are_all(&arrivals) && store.commit(commit).is_some()),
+        Ok((store, arrivals)) => {
+            let commits = arrivals.commit_ids(alloc)?;
+            Ok(are_all(&arrivals) && store.commit(commit).is_some() && is_last(&commits, commit))
+        }
         Err(_) => Ok(false),
     }
 }

@@ -6,7 +6,7 @@ use git_store::GitStore;
 use std::alloc::Global;
 use std::test::Fail;
 use tree_rebuild::{rebuild, rebuild_over};
-use tree_residue::{carry, residue_at, residue_of};
+use tree_residue::{carry, is_same_residue, residue_at, residue_of};
 use tree_shape::{BuildFault, FileRow, Files, TreeFault, TreeItem, build, flatten};
 
 /// A row: its path, its mode, and the byte that stands 20 times in its id.
@@ -265,7 +265,8 @@ fn have_items(
 ) -> Result<bool, Fail> {
     let of_files = residue_of(alloc, files)?;
     let of_tree = residue_at(alloc, store, root)?;
-    Ok(are_items(&of_files, items) && are_items(&of_tree, items))
+    let are_there = are_items(&of_files, items) && are_items(&of_tree, items);
+    Ok(are_there && is_same_residue(&of_files, &of_tree))
 }
 
 // Whether the trees of these files have this root, from which the files come back with these items beside them.

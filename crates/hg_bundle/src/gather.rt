@@ -3,7 +3,7 @@ ghost use Rattle.std.specs.Prelude.{◌≡◌, ◌≤◌, ◌<◌, ◌^◌, [], 
 ghost use Rattle.std.specs.Option.{option_copied};
 ghost use Rattle.text_model.specs.Text.{IsBytes};
 ghost use Rattle.text_model.specs.Path.{is_fit_path};
-ghost use Rattle.text_model.specs.Fault.{refusal_at};
+ghost use Rattle.text_model.specs.Fault.{refusal_at, input_limit};
 ghost use Rattle.text_model.specs.Fault as fault;
 ghost use Rattle.hg_model.specs.Revision.{FilesAt};
 ghost use Rattle.hg_model.specs.Reading.{hunk_place, sum_limit};
@@ -67,7 +67,7 @@ impl Gathered {
         payload: &[u8],
     ) -> Result<Option<Place>, BundleFault>
         requires sum { self.old.sum ≤ sum_limit }
-        requires at { at ≤ 2 ^ 29 }
+        requires at { at ≤ input_limit }
         requires small { length payload.now < 2 ^ 31 }
         requires fit { HasFitPlace (Some (place_value place)) }
         requires last { HasLastAt self.old.store self.old.last (Some (place_value place)) }
@@ -108,7 +108,7 @@ impl Gathered {
         entry: &Entry<'_>,
     ) -> Result<(), BundleFault>
         requires sum { self.old.sum ≤ sum_limit }
-        requires at { at ≤ 2 ^ 29 }
+        requires at { at ≤ input_limit }
         requires small { length entry.now.delta.now < 2 ^ 31 }
         requires fit { HasFitPath (group_value group.now) }
         requires last { HasLast self.old.store (group_value group.now) self.old.last }
@@ -146,7 +146,7 @@ impl Gathered {
         entry: &Entry<'_>,
     ) -> Result<Vec<u8>, BundleFault>
         requires sum { self.now.sum ≤ sum_limit }
-        requires at { at ≤ 2 ^ 29 }
+        requires at { at ≤ input_limit }
         requires small { length entry.now.delta.now < 2 ^ 31 }
         requires last { HasLast self.now.store (group_value group.now) self.now.last }
         ensures text { IfOk result (λ text. HasText self.now.store self.now.sum (group_value group.now) self.now.last (entry_value entry.now) text.items) }
@@ -174,7 +174,7 @@ impl Gathered {
         entry: &Entry<'_>,
     ) -> Result<Patched, BundleFault>
         requires sum { self.now.sum ≤ sum_limit }
-        requires at { at ≤ 2 ^ 29 }
+        requires at { at ≤ input_limit }
         requires small { length entry.now.delta.now < 2 ^ 31 }
         requires last { HasLast self.now.store (group_value group.now) self.now.last }
         ensures refused { IfOk result IsReadPatch }
@@ -234,7 +234,7 @@ fn file_group(alloc: Global, at: u64, path: &[u8]) -> Result<Group, BundleFault>
 
 // The offset in the input of a hunk at a place of a delta, whose entry stands at an offset.
 fn hunk_place(at: u64, place: usize) -> u64
-    requires at { at ≤ 2 ^ 29 }
+    requires at { at ≤ input_limit }
     requires place { place < 2 ^ 31 }
     ensures { result ≡ hunk_place at place }
 {

@@ -2,7 +2,7 @@
 ghost use Rattle.std.specs.Prelude.{◌≡◌, Some, None, List, ℕ, option_map};
 
 use crate::arrival::RevKind;
-use bridge_text::{Bytes, COMMIT_LIMIT, NoMemory, TEXT_LIMIT};
+use bridge_text::{Bytes, COMMIT_LIMIT, ENTRY_LIMIT, NoMemory, PATH_CHUNK_LIMIT, TEXT_LIMIT};
 use std::alloc::Global;
 
 /// What a group of a bundle holds.
@@ -82,8 +82,8 @@ impl Place {
         ensures { result ≡ length_limit (place_value self.now) }
     {
         match self {
-            Place::In(_) => 1 << 27,
-            Place::AtPath => 4100,
+            Place::In(_) => ENTRY_LIMIT,
+            Place::AtPath => PATH_CHUNK_LIMIT,
         }
     }
 

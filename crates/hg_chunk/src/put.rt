@@ -1,5 +1,6 @@
 // Chunks that are written.
-ghost use Rattle.std.specs.Prelude.{◌≡◌, ◌≤◌, ◌^◌, ◌++◌, [], length, OnOk, OnErr};
+ghost use Rattle.std.specs.Prelude.{◌≡◌, ◌≤◌, ◌++◌, [], length, OnOk, OnErr};
+ghost use Rattle.hg_model.specs.Bundle.{delta_limit};
 ghost use Rattle.hg_model.specs.Chunk.{chunk_text};
 
 use bridge_text::NoMemory;
@@ -8,7 +9,7 @@ use byteorder::{BigEndian, ByteOrder};
 /// Appends the chunk of a payload.
 pub fn put_chunk(out: &mut Vec<u8>, payload: &[u8]) -> Result<(), NoMemory>
     requires some { 1 ≤ length payload.now }
-    requires limit { length payload.now ≤ 2 ^ 27 }
+    requires limit { length payload.now ≤ delta_limit }
     ensures ok { OnOk result (out.new.items ≡ out.old.items ++ chunk_text payload.now) }
     ensures err { OnErr result (out.new.items ≡ out.old.items) }
 {

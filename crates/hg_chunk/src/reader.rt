@@ -4,6 +4,7 @@ ghost use Rattle.std.specs.Io.KnownBytes.{Consumes, IsAtEnd};
 ghost use Rattle.text_model.specs.Fault.{refusal_at, reach, input_limit};
 ghost use Rattle.text_model.specs.Fault as fault;
 ghost use Rattle.byteorder.specs.Endian.{big_bytes};
+ghost use Rattle.hg_model.specs.Bundle.{delta_limit};
 ghost use Rattle.hg_model.specs.Chunk.{field_of, chunk_text, magic_text, chunk_fault, magic_fault, other_magic, trailing_fault, or_else};
 ghost use Rattle.hg_chunk.specs.Faults.{Judges, IsFault, IsMagicFault, IsEndFault, IsItemFault, IsChunkFault};
 ghost use Rattle.hg_chunk.specs.Reader.{AnswerCause, FaultCause};
@@ -37,7 +38,7 @@ impl Model for ChunkReader {
 
     ghost view = { λ r. r.offset };
 
-    ghost invariant = { λ r. r.offset ≤ 2 ^ 29 };
+    ghost invariant = { λ r. r.offset ≤ input_limit };
 }
 
 impl ChunkReader {
@@ -53,7 +54,7 @@ impl ChunkReader {
     /// How many bytes it has read.
     pub fn offset(&self) -> u64
         ensures value { result ≡ self.now }
-        ensures limit { result ≤ 2 ^ 29 }
+        ensures limit { result ≤ input_limit }
     {
         self.offset
     }
@@ -99,7 +100,7 @@ impl ChunkReader {
         most: u32,
         into: &mut Vec<u8>,
     ) -> Result<Piece, ChunkFault>
-        requires { most ≤ 2 ^ 27 }
+        requires { most ≤ delta_limit }
         ensures piece { IfOk result (IsPieceOf self.old into.new.items) }
         ensures bytes { OnOk result (Consumes (S.left src.old) (S.left src.new) (chunk_text into.new.items)) }
         ensures field { OnOk result (field_of into.new.items ≤ most) }
@@ -132,9 +133,9 @@ impl ChunkReader {
 
 // Reads the length field at an offset.
 fn read_field<S: Source>(src: &mut S, at: u64) -> Result<u32, ChunkFault>
-    requires { at ≤ 2 ^ 29 }
+    requires { at ≤ input_limit }
     ensures bytes { IfOk result (λ n. Consumes (S.left src.old) (S.left src.new) (big_bytes 4 n)) }
-    ensures fits { OnOk result (at + 4 ≤ 2 ^ 29) }
+    ensures fits { OnOk result (at + 4 ≤ input_limit) }
     ensures judged { IfErr result (λ e. IfSome (S.left src.old) (λ bytes. IsFault (reach (at + length bytes) (at + 4)) e)) }
     ensures names { IfErr result IsItemFault }
     ensures cause { AnswerCause (S.faults src.old) (S.faults src.new) result }
@@ -153,11 +154,11 @@ fn read_payload<S: Source>(
     into: &mut Vec<u8>,
 ) -> Result<(), ChunkFault>
     requires size { (5 ≤ size) × (size < 2 ^ 31) }
-    requires at { at + 4 ≤ 2 ^ 29 }
+    requires at { at + 4 ≤ input_limit }
     requires empty { into.old.items ≡ [] }
     ensures bytes { OnOk result (Consumes (S.left src.old) (S.left src.new) into.new.items) }
     ensures len { OnOk result (length into.new.items ≡ size - 4) }
-    ensures fits { OnOk result (at + size ≤ 2 ^ 29) }
+    ensures fits { OnOk result (at + size ≤ input_limit) }
     ensures judged { IfSome (S.left src.old) (λ rest. Judges (reach (at + (4 + length rest)) (at + size)) result) }
     ensures names { IfErr result IsItemFault }
     ensures err { OnErr result (into.new.items ≡ []) }
@@ -174,7 +175,7 @@ fn read_payload<S: Source>(
 // The fault of a chunk whose length is over its limit, behind its length field.
 fn over_limit<S: Source>(src: &mut S, at: u64, size: u32) -> ChunkFault
     requires size { (5 ≤ size) × (size < 2 ^ 31) }
-    requires at { at + 4 ≤ 2 ^ 29 }
+    requires at { at + 4 ≤ input_limit }
     ensures judged { IfSome (S.left src.old) (λ rest.
         IsFault (or_else (reach (at + (4 + length rest)) (at + size)) (Some (refusal_at fault.Limit at))) result) }
     ensures names { IsChunkFault result }

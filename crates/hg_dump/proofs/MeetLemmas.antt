@@ -1,5 +1,5 @@
 -- One mark more.
-use Rattle.std.proofs.Common.{◌≡◌, ◌&&◌, ◌||◌, Bool, true, false, true≢false, not, List, [], ◌∷◌, ◌++◌, map, refl, sym, ap, subst, ◌∙◌, append-nil, append_assoc}
+use Rattle.std.proofs.Common.{◌≡◌, ◌&&◌, ◌||◌, Bool, true, false, not, List, [], ◌∷◌, ◌++◌, map, refl, sym, ap, subst, ◌∙◌, inl, inr, append-nil, append_assoc}
 use Rattle.std.specs.Prelude.{bytes_eq, filter, if◌then◌else◌}
 use Rattle.std.specs.List.{list_any}
 use Rattle.std.specs.Bool.{OnTrue}
@@ -16,11 +16,12 @@ use Rattle.text_model.proofs.Options.{or_false}
 use Rattle.text_model.proofs.Elements.{map_append}
 use Rattle.hg_model.proofs.RevisionLemmas.{same_group-is, same_group-sym}
 use Rattle.hg_model.specs.Revision.{Group, Changesets, Manifests, FilesAt, same_group}
+use Rattle.hg_manifest.specs.Lines.{HasLine}
 use Rattle.hg_dump.specs.declared.references.Reference.{Reference}
 use Rattle.hg_dump.specs.declared.brought.Brought.{Brought}
 use Rattle.hg_dump.specs.Referred.{Referred, referred, nothing}
 use Rattle.hg_dump.specs.Marks.{Mark, same_mark, reference_of, references_at, Met, IsMet, meet, meets, none, own_mark, manifest_marks, file_mark, view_marks}
-use Rattle.hg_dump.specs.State.{files_at, referred_in, Steps, StepsAfter, IsLineMet, HasLine}
+use Rattle.hg_dump.specs.State.{files_at, referred_in, Steps, StepsAfter, IsLineMet}
 
 absorbed : (a b : Bool) → (b ≡ true → a ≡ true) → (a || b) ≡ a
 absorbed true b f = refl
@@ -198,15 +199,10 @@ lines-more is_new s ms (e ∷ es) h =
     (ap (list_any (same_mark (file_mark null e))) (all-meets is_new s ms) ∙ list_any-append (same_mark (file_mark null e)) s.all ms ∙ or_left _ _ h.0, lines-more is_new s ms es h.1)
 
 -- the line was met where one with the same path and node was
-pub line-met : (s : Met) (entries : List ManifestEntry) (e : ManifestEntry) → HasLine entries e → Each (IsLineMet s) entries → IsLineMet s e
-line-met s [] e h met = absurd (true≢false (sym h))
-line-met s (o ∷ os) e h met = by (bytes_eq e.path o.path && bytes_eq e.node o.node) refl (line-met s os e)
-  where
-    by : (b : Bool) → (bytes_eq e.path o.path && bytes_eq e.node o.node) ≡ b → (HasLine os e → Each (IsLineMet s) os → IsLineMet s e) → IsLineMet s e
-    by true t rest =
-        let is = both (bytes_eq e.path o.path) (bytes_eq e.node o.node) t in
-        (λ i. list_any (λ (x : Mark). same_group (FilesAt ((bytes_eq-Decides e.path o.path).0 is.0 i)) x.group && bytes_eq ((bytes_eq-Decides e.node o.node).0 is.1 i) x.node) s.all) ∙ met.0
-    by false t rest = rest (sym (rw t refl) ∙ h) met.1
+pub line-met : (s : Met) (entries : List ManifestEntry) (e : ManifestEntry) → HasLine e.path e.node entries → Each (IsLineMet s) entries → IsLineMet s e
+line-met s [] e h met = absurd h
+line-met s (o ∷ os) e (inl is) met = (λ i. list_any (λ (x : Mark). same_group (FilesAt (sym is.0 i)) x.group && bytes_eq (sym is.1 i) x.node) s.all) ∙ met.0
+line-met s (o ∷ os) e (inr h) met = line-met s os e h met.1
 
 each-any-more : (m : Mark) (ms : List Mark) (es : List ManifestEntry) → Each (λ e. list_any (same_mark (file_mark null e)) ms ≡ true) es → Each (λ e. list_any (same_mark (file_mark null e)) (m ∷ ms) ≡ true) es
 each-any-more m ms [] h = tt
@@ -235,6 +231,6 @@ pub after-append : (before : List ManifestEntry) (is_new : Bool) (xs ys : List M
 after-append before is_new xs ys a b c f g s is met =
     subst (λ (t : Met). IsMet t (referred_in c)) (sym (meets-append is_new s xs ys)) (g (meets is_new s xs) (f s is met) (lines-more is_new s xs before met))
 
-pub met-line : (s : Met) (entries : List ManifestEntry) (e : ManifestEntry) (b : Bool) → OnTrue b (HasLine entries e) → Each (IsLineMet s) entries → OnTrue b (IsLineMet s e)
+pub met-line : (s : Met) (entries : List ManifestEntry) (e : ManifestEntry) (b : Bool) → OnTrue b (HasLine e.path e.node entries) → Each (IsLineMet s) entries → OnTrue b (IsLineMet s e)
 met-line s entries e true h met = line-met s entries e h met
 met-line s entries e false h met = tt

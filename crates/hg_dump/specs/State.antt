@@ -1,5 +1,5 @@
 -- The references to the revisions of all groups.
-use Rattle.std.specs.Prelude.{◌≡◌, ◌&&◌, bytes_eq, Bool, true, false, List, ℕ, map}
+use Rattle.std.specs.Prelude.{◌≡◌, Bool, true, false, List, ℕ, map}
 use Rattle.std.specs.Global.{Vec}
 use Rattle.std.specs.Ordering.{nat_cmp}
 use Rattle.std.specs.Cmp.Lexicographic.{slice_cmp}
@@ -34,10 +34,6 @@ Steps is_new ms old new = (s : Met) → IsMet s (referred_in old) → IsMet (mee
 -- the file revision that a line of a manifest names was met
 abbrev pub IsLineMet : Met → ManifestEntry → Type 0
 IsLineMet s e = list_any (same_mark (file_mark null e)) s.all ≡ true
-
--- a line with the same path and node stands in the manifest
-abbrev pub HasLine : List ManifestEntry → ManifestEntry → Type 0
-HasLine entries e = list_any (λ other. bytes_eq e.path other.path && bytes_eq e.node other.node) entries ≡ true
 
 -- the same where the lines of a manifest were met before
 abbrev pub StepsAfter : List ManifestEntry → Bool → List Mark → Brought → Brought → Type 0

@@ -9,7 +9,7 @@ ghost use Rattle.hg_manifest.specs.Values.{manifest_entry};
 ghost use Rattle.view_model.specs.Held.{IsChangesetHeld, AreChangesetsHeld};
 ghost use Rattle.hg_dump.specs.Referred.{referred, nothing};
 ghost use Rattle.hg_dump.specs.Marks.{file_mark, manifest_marks, view_marks, marks_of, marks_in, IsMet, Met, meet};
-ghost use Rattle.hg_dump.specs.State.{files_at, referred_in, met_of, Steps, StepsAfter, IsLineMet, HasLine};
+ghost use Rattle.hg_dump.specs.State.{files_at, referred_in, met_of, Steps, StepsAfter, IsLineMet};
 
 use crate::references::{Reference, References};
 use bridge_text::{Id, NoMemory};
@@ -144,7 +144,7 @@ impl Brought {
         let mut before = Cursor::new(previous);
         for line in 0..manifest.len() {
             let entry = manifest.at(line);
-            let is_met = has_line(&mut before, entry);
+            let is_met = before.has_line(entry.path.as_slice(), &entry.node);
             self.refer_line(entry, is_met, link, is_new)?;
         }
         Ok(())
@@ -207,17 +207,6 @@ fn manifest_of<'a>(store: &'a HgStore, node: &Id) -> (Id, &'a Manifest)
     match store.manifest_of_changeset(node) {
         Some(found) => found,
         None => unreachable!(),
-    }
-}
-
-// Whether a line with the path and the node of this one stands in a manifest.
-fn has_line(manifest: &mut Cursor<'_>, entry: &Entry) -> bool
-    ensures found { OnTrue result (HasLine manifest.old (manifest_entry entry.now)) }
-    ensures same { manifest.new ≡ manifest.old }
-{
-    match manifest.get(entry.path.as_slice()) {
-        Some(other) => other.node == entry.node,
-        None => false,
     }
 }
 

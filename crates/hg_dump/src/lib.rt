@@ -14,4 +14,4 @@ mod strip;
 
 pub use bundle::{append, is_dump, write, written_len};
 pub use held::are_held;
-pub use refers::Refers;
+pub use refers::{Refers, lines_of};

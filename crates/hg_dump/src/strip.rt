@@ -6,7 +6,7 @@ ghost use Rattle.text_model.specs.Id.{IsId};
 ghost use Rattle.hg_model.specs.Revision.{FilesAt, Revision};
 ghost use Rattle.hg_model.specs.Chunk.{chunk_text};
 ghost use Rattle.hg_model.specs.Delta.{hunk_text, whole_delta};
-ghost use Rattle.hg_model.specs.Bundle.{bundle_text, group_text};
+ghost use Rattle.hg_model.specs.Bundle.{bundle_text, group_text, delta_limit};
 ghost use Rattle.hg_store.specs.Groups.{group_value};
 ghost use Rattle.view_model.specs.Dump.{written_bundle, written_group};
 ghost use Rattle.hg_dump.specs.Begins.{LacksFront, HasFront, IsBehind};
@@ -179,7 +179,7 @@ fn strip_hunk<'a>(bytes: &'a [u8], base_len: u32, text: &[u8]) -> Option<&'a [u8
 // What follows the chunk of a payload.
 fn strip_chunk<'a>(bytes: &'a [u8], payload: &[u8]) -> Option<&'a [u8]>
     requires some { 1 ≤ length payload.now }
-    requires limit { length payload.now ≤ 2 ^ 27 }
+    requires limit { length payload.now ≤ delta_limit }
     ensures { IsBehind bytes.entry.now (chunk_text payload.now) result }
 {
     let behind = strip_number(bytes, (payload.len() + 4) as u32)?;

@@ -1,8 +1,11 @@
 ghost use Rattle.std.specs.Prelude.{◌≡◌, Some, IfSome, find, option_map, bytes_eq};
+ghost use Rattle.std.specs.Bool.{OnTrue};
 ghost use Rattle.hg_manifest.specs.Values.{manifest_entry};
+ghost use Rattle.hg_manifest.specs.Lines.{HasLine, has_line};
 
 use crate::entry::Entry;
 use crate::list::Manifest;
+use bridge_text::Id;
 use std::marker::Model;
 
 /// Looks up paths in a manifest. Where they come in rising order, as those of a changeset's files do, all of them together take one walk
@@ -47,6 +50,18 @@ impl<'a> Cursor<'a> {
                 Some(entry)
             }
             None => self.manifest.get(path),
+        }
+    }
+
+    /// Whether an entry has this path and this node.
+    pub fn has_line(&mut self, path: &[u8], node: &Id) -> bool
+        ensures there { result ≡ has_line path.now node.now self.old }
+        ensures found { OnTrue result (HasLine path.now node.now self.old) }
+        ensures same { self.new ≡ self.old }
+    {
+        match self.get(path) {
+            Some(entry) => entry.node == *node,
+            None => false,
         }
     }
 }

@@ -8,6 +8,7 @@ mod law;
 mod line;
 mod lines;
 mod list;
+mod rev;
 
 pub use cursor::Cursor;
 pub use entry::{Entry, Flag};
@@ -15,3 +16,4 @@ pub use fault::ManifestFault;
 pub use law::reads_exactly;
 pub use lines::{line_len, put_line};
 pub use list::Manifest;
+pub use rev::ManifestRev;

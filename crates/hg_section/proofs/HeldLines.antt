@@ -1,34 +1,30 @@
 -- Lines of manifests whose file revisions are known.
-use Rattle.std.proofs.Common.{◌≡◌, Bool, true, List, [], ◌∷◌, map, sym, ap, subst, ◌∙◌}
-use Rattle.std.specs.Prelude.{bytes_eq, is_some}
+use Rattle.std.proofs.Common.{◌≡◌, Bool, true, List, [], ◌∷◌, map, sym, ap, subst, ◌∙◌, inl, inr}
+use Rattle.std.specs.Prelude.{is_some}
 use Rattle.std.specs.Bool.{OnTrue}
-use Rattle.std.proofs.lemmas.Slice.Eq.{bytes_eq-Decides}
 use Rattle.text_model.specs.Id.{Id}
 use Rattle.text_model.specs.Lists.{Each}
-use Rattle.text_model.proofs.Elements.{each_in}
 use Rattle.hg_model.specs.Manifest.{ManifestEntry}
 use Rattle.hg_model.specs.Revision.{Revision, FilesAt, knows}
 use Rattle.view_model.specs.View.{Row, entry_of_row}
 use Rattle.view_model.specs.Held.{IsFileHeld}
 use Rattle.hg_changeset.specs.Values.{changeset_value}
+use Rattle.hg_manifest.specs.Lines.{HasLine}
 use Rattle.hg_store.specs.Known.{AreAdded}
 use Rattle.hg_store.specs.Views.{IsView, IsManifestOf}
 use Rattle.hg_store.specs.declared.view.View.{View}
 use Rattle.hg_view.proofs.Held.{view-is_held}
 use Rattle.hg_dump.proofs.HeldLemmas.{held-entries}
-use Rattle.dump_law.proofs.Trees.{found_is}
-use Rattle.hg_section.specs.Held.{IsLineKnown, AreLinesKnown, HasLine}
+use Rattle.hg_section.specs.Held.{IsLineKnown, AreLinesKnown}
 
 pub of-true : {X : Type 0} (b : Bool) → b ≡ true → OnTrue b X → X
 of-true {X} b is h = rw is at h
 
 -- a line that stands among lines that are known
-pub line-known : (known : List Revision) (entries : List ManifestEntry) (e : ManifestEntry) → AreLinesKnown known entries → HasLine entries e → IsLineKnown known e
-line-known known entries e are (o, at, node) =
-    let f = found_is (λ (x : ManifestEntry). bytes_eq x.path e.path) o entries at in
-    let path = (bytes_eq-Decides o.path e.path).0 f.1 in
-    let same = (bytes_eq-Decides o.node e.node).0 node in
-    (λ i. knows known (FilesAt (sym path i)) (sym same i)) ∙ each_in (IsLineKnown known) entries o are f.0
+pub line-known : (known : List Revision) (entries : List ManifestEntry) (e : ManifestEntry) → AreLinesKnown known entries → HasLine e.path e.node entries → IsLineKnown known e
+line-known known [] e are h = absurd h
+line-known known (o ∷ os) e are (inl is) = (λ i. knows known (FilesAt (sym is.0 i)) (sym is.1 i)) ∙ are.0
+line-known known (o ∷ os) e are (inr h) = line-known known os e are.1 h
 
 -- the lines of rows that are held
 pub rows-known : (known : List Revision) (rows : List Row) → Each (IsFileHeld known) rows → AreLinesKnown known (map entry_of_row rows)

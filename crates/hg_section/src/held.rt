@@ -4,10 +4,9 @@ ghost use Rattle.std.specs.Bool.{OnTrue};
 ghost use Rattle.hg_model.specs.Revision.{FilesAt, knows};
 ghost use Rattle.view_model.specs.View.{ChangesetView};
 ghost use Rattle.view_model.specs.Held.{AreChangesetsHeld};
-ghost use Rattle.hg_manifest.specs.Values.{manifest_entry};
 ghost use Rattle.hg_store.specs.Known.{AreAdded};
 ghost use Rattle.hg_store.specs.Views.{IsView, IsViewFault, first_unknown};
-ghost use Rattle.hg_section.specs.Held.{AreLinesKnown, HasLine};
+ghost use Rattle.hg_section.specs.Held.{AreLinesKnown};
 
 use bridge_text::{Id, IdList};
 use hg_manifest::{Cursor, Entry, Manifest};
@@ -83,20 +82,9 @@ fn is_known(store: &HgStore, near: &mut Cursor<'_>, entry: &Entry) -> bool
     ensures known { result ≡ knows store.now (FilesAt entry.now.path) entry.now.node }
     ensures same { near.new ≡ near.old }
 {
-    if has_line(near, entry) {
+    if near.has_line(entry.path.as_slice(), &entry.node) {
         return true;
     }
     let text = store.revision_text(Group::FilesAt(entry.path.as_slice()), &entry.node);
     text.is_some()
-}
-
-// Whether a line with the path and the node of this one stands in a manifest.
-fn has_line(manifest: &mut Cursor<'_>, entry: &Entry) -> bool
-    ensures found { OnTrue result (HasLine manifest.old (manifest_entry entry.now)) }
-    ensures same { manifest.new ≡ manifest.old }
-{
-    match manifest.get(entry.path.as_slice()) {
-        Some(other) => other.node == entry.node,
-        None => false,
-    }
 }

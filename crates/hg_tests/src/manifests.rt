@@ -1,6 +1,6 @@
 // Texts of manifests.
 use bridge_text::{Bytes, Id, fit_path};
-use hg_manifest::{Entry, Flag, Manifest, ManifestFault};
+use hg_manifest::{Cursor, Entry, Flag, Manifest, ManifestFault};
 use std::alloc::Global;
 use std::process::Abort;
 use std::test::Fail;
@@ -193,5 +193,24 @@ fn an_entry_is_pushed(rt: HostRuntime) -> Result<(), Fail> {
     let line = b"a\00000000000000000000000000000000000000000x\n";
     let is_appended = is_appended(rt.alloc(), &manifest, line)?;
     assert!(rt; is_appended);
+    Ok(())
+}
+
+/// Paths and nodes, and whether a line of the manifest of three has both.
+const LINES: [(&[u8], Id, bool); 5] = [
+    (b"a", Id::new([0x11; 20]), true),
+    (b"b", Id::new([0x11; 20]), true),
+    (b"a/b", Id::new([0x11; 20]), true),
+    (b"b", Id::NULL, false),
+    (b"c", Id::new([0x11; 20]), false),
+];
+
+#[test]
+fn lines_by_a_cursor(rt: HostRuntime) -> Result<(), Fail> {
+    let manifest = Manifest::read(rt.alloc(), THREE).map_err(|_| "a manifest")?;
+    let mut cursor = Cursor::new(&manifest);
+    for (path, node, want) in LINES {
+        assert!(rt; cursor.has_line(path, &node) == want);
+    }
     Ok(())
 }

@@ -1,4 +1,4 @@
-ghost use Rattle.std.specs.Prelude.{◌≡◌, ◌+◌, ◌&&◌, nat_le, pos, bytes_eq, decimal};
+ghost use Rattle.std.specs.Prelude.{◌≡◌, ◌+◌, ◌&&◌, nat_le, pos};
 ghost use Rattle.hg_model.specs.Changeset.{Plain};
 ghost use Rattle.text_model.specs.Text.{is_decimal, number_of};
 ghost use Rattle.hg_changeset.specs.Values.{changeset_value, date_value};
@@ -7,7 +7,7 @@ ghost use Rattle.partner_model.specs.Filled as filled;
 ghost use Rattle.link_rule.specs.Form.{parts_of};
 
 use crate::parts::three_parts;
-use bridge_text::{Id, decimal_of};
+use bridge_text::{Id, decimal_of, is_decimal_of};
 use hg_changeset::{Changeset, DateLine, Extras};
 
 /// The user of a link.
@@ -107,14 +107,8 @@ fn has_numbers(value: &[u8], number: u8, count: u8) -> bool
     ensures { result ≡ filled.has_numbers number count (parts_of value.now) }
 {
     match three_parts(value) {
-        Some((_, k, n)) => is_decimal_of(k, number) && is_decimal_of(n, count),
+        Some((_, k, n)) => is_decimal_of(k, u64::from(number))
+            && is_decimal_of(n, u64::from(count)),
         None => false,
     }
-}
-
-// Whether a text is the decimal of a number.
-fn is_decimal_of(text: &[u8], number: u8) -> bool
-    ensures { result ≡ bytes_eq text.now (decimal number) }
-{
-    decimal_of(text) == Some(u64::from(number))
 }

@@ -1,5 +1,6 @@
 // The changesets of a history, one after the other.
 ghost use Rattle.std.specs.Prelude.{◌≡◌, ◌≤◌, ◌<◌, ◌+◌, ℕ, IfOk, IfErr, OnOk};
+ghost use Rattle.make_model.specs.Dump.{most_changesets};
 ghost use Rattle.make_model.specs.Numbers.{numbers_of};
 ghost use Rattle.make_model.specs.History as model;
 ghost use Rattle.make_history.specs.Made.{numbers_value, IsMakeFault};
@@ -24,7 +25,7 @@ pub struct History {
 
 /// The history of so many changesets from a seed, of which there are at most 20,000.
 pub fn make_history(alloc: Global, n: u64, seed: u64) -> Result<History, MakeFault>
-    requires few { n ≤ 20000 }
+    requires few { n ≤ most_changesets }
     ensures ok { IfOk result (λ history. IsMade history (model.made_history seed n)) }
     ensures fault { IfErr result (IsMakeFault n seed) }
 {
@@ -48,7 +49,7 @@ fn add_next(
     numbers: &Numbers,
     number: u64,
 ) -> Result<(), MakeFault>
-    requires few { number < 20000 }
+    requires few { number < most_changesets }
     requires made { (seed : ℕ) × IsMade history.old (model.made_history seed number) × (numbers_value numbers.now ≡ numbers_of seed number) }
     ensures ok { OnOk result ((seed : ℕ) → IsMade history.old (model.made_history seed number) → numbers_value numbers.now ≡ numbers_of seed number
         → IsMade history.new (model.made_history seed (number + 1))) }

@@ -4,11 +4,9 @@ ghost use Rattle.make_history.specs.Made.{IsMakeFault};
 
 use crate::add::make_history;
 use crate::fault::MakeFault;
+use bridge_text::MADE_LIMIT;
 use hg_dump::write;
 use std::alloc::Global;
-
-/// The most changesets of a history that is made.
-const MOST_CHANGESETS: u64 = 20000;
 
 /// The bundle of the history of `n` changesets that is made from a seed. The same numbers give the same bytes each time.
 ///
@@ -22,7 +20,7 @@ pub fn make_bundle(alloc: Global, n: u64, seed: u64) -> Result<Vec<u8>, MakeFaul
     ensures apart { OnOk result (made_collides n seed ≡ false) }
     ensures fault { IfErr result (IsMakeFault n seed) }
 {
-    if n > MOST_CHANGESETS {
+    if n > MADE_LIMIT {
         return Err(MakeFault::CountLimit);
     }
     let history = make_history(alloc, n, seed)?;

@@ -1,5 +1,6 @@
 // A changeset with all that it stands for.
 ghost use Rattle.std.specs.Prelude.{◌≡◌, ◌≤◌, false, IfOk, IfSome};
+ghost use Rattle.make_model.specs.Dump.{most_changesets};
 ghost use Rattle.text_model.specs.Lists.{Each};
 ghost use Rattle.hg_store.specs.Known.{knows_same};
 ghost use Rattle.view_model.specs.View.{rows_text};
@@ -36,7 +37,7 @@ pub fn make_draft(
     numbers: &Numbers,
     number: u64,
 ) -> Result<Next, NoMemory>
-    requires few { number ≤ 20000 }
+    requires few { number ≤ most_changesets }
     requires over { (ps : Parents) × IsOver store.now p1 p2 ps }
     ensures draft { IfOk result (λ next. (ps : Parents) → IsOver store.now p1 p2 ps → IsHgDraft store.now next.draft (next_view ps (numbers_value numbers.now) number)) }
     ensures fresh { IfOk result (λ next. (ps : Parents) → IsOver store.now p1 p2 ps → AreFreshOf next.draft.fresh (next_rows ps (numbers_value numbers.now) number)) }

@@ -1,5 +1,6 @@
 // The fields of a changeset.
 ghost use Rattle.std.specs.Prelude.{◌≡◌, ◌*◌, ◌++◌, ◌<◌, ◌≤◌, IfOk, pos, codes, decimal};
+ghost use Rattle.make_model.specs.Dump.{most_changesets};
 ghost use Rattle.hg_model.specs.Changeset.{Plain, changeset_text};
 ghost use Rattle.hg_changeset.specs.Values.{changeset_value};
 ghost use Rattle.make_model.specs.History.{made_user, made_zone, made_extras};
@@ -19,7 +20,7 @@ pub fn make_fields(
     manifest: Id,
     files: Paths,
 ) -> Result<Changeset, NoMemory>
-    requires { number ≤ 20000 }
+    requires { number ≤ most_changesets }
     ensures { IfOk result (λ x. changeset_value x ≡ record {
       manifest = manifest;
       user = made_user numbers.now.user;

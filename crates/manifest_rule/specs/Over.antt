@@ -5,7 +5,7 @@ use Rattle.view_model.specs.View.{Row, rows_text, manifest_node}
 use Rattle.pair_model.specs.Block.{Parents}
 use Rattle.pair_model.specs.Rule.{ruled_manifest}
 use Rattle.pair_known.specs.Rows.{RowValue, row_value}
-use Rattle.mark_code.specs.Values.{manifest_value}
+use Rattle.hg_manifest.specs.Values.{manifest_value}
 use Rattle.file_rule.specs.Parents.{IsParent}
 use Rattle.file_rule.specs.declared.parents.Parent.{Parent}
 use Rattle.manifest_rule.specs.declared.manifest.RuledManifest.{RuledManifest}

@@ -5,15 +5,14 @@ ghost use Rattle.hg_store.specs.Known.{AreAdded, manifest_text_of};
 ghost use Rattle.view_model.specs.View.{Row, text_limit, entry_of_row};
 ghost use Rattle.pair_model.specs.Block.{Parents};
 ghost use Rattle.pair_model.specs.Rule.{ruled_manifest};
-ghost use Rattle.mark_code.specs.Values.{manifest_value};
+ghost use Rattle.hg_manifest.specs.Values.{manifest_value};
 ghost use Rattle.manifest_rule.specs.Listed.{entry_of_value};
 ghost use Rattle.manifest_rule.specs.Over.{AreRowsOver, IsMadeManifest};
 
 use bridge_text::{Bytes, Id, NoMemory, TEXT_LIMIT, node_id};
 use file_rule::{Parent, parents_over};
-use hg_manifest::{Entry, Manifest, line_len, put_line};
+use hg_manifest::{Entry, Manifest, ManifestRev, line_len, put_line};
 use hg_store::HgStore;
-use mark_code::ManifestRev;
 use pair_known::{HgRow, HgRows, manifest_of_node};
 use std::alloc::Global;
 

@@ -1,16 +1,11 @@
 -- The paths of a list, word by word.
-use Rattle.std.proofs.Common.{◌≡◌, ◌<◌, ◌==◌, ◌^◌, ℕ, Bool, true, false, List, [], ◌∷◌, ◌++◌, length, Option, Some, None, option_map, refl, sym, ap, ◌∙◌, append_assoc, length-append, arith, eqb}
+use Rattle.std.proofs.Common.{◌≡◌, ◌<◌, ◌==◌, List, [], ◌∷◌, ◌++◌, length, Option, Some, None, option_map, refl, sym, ap, ◌∙◌, append_assoc, length-append, arith}
 use Rattle.std.specs.Option.{option_and_then}
-use Rattle.std.specs.Prelude.{decimal, bytes_eq}
 use Rattle.std.specs.List.{slice_split}
-use Rattle.std.specs.Option.{option_eq}
-use Rattle.std.proofs.lemmas.Bool.{eq-eqb, true≢false}
-use Rattle.std.proofs.lemmas.Slice.Eq.{bytes_eq-Decides}
-use Rattle.text_model.specs.Text.{Bytes, sp, decimal_below}
+use Rattle.text_model.specs.Text.{Bytes, sp}
 use Rattle.text_model.specs.Cuts.{Lacks, cut_of}
 use Rattle.text_model.proofs.TestLemmas.{differs}
 use Rattle.text_model.proofs.CutLemmas.{cut_of-takes, cut_of-none}
-use Rattle.text_model.proofs.DecimalLemmas.{decimal_below-decimal, decimal_below-takes}
 use Rattle.mark_code.specs.Reading.{raw_of, raws_of}
 
 -- ---- the texts between the spaces
@@ -82,24 +77,3 @@ module _ (text : Bytes) (done : List Bytes) (rest : Bytes) (so_far : PathsTo tex
 
     pub paths-last_bad : None ≡ raw_of rest → None ≡ raws_of (slice_split (λ b. b == sp) text)
     paths-last_bad e = whole None e
-
--- ---- the number of paths
-
-none_some : {X : Type 0} (x : X) → None ≡ Some x → ⊥
-none_some x h = cc
-
-some_is : {X : Type 0} (x y : X) → Some x ≡ Some y → x ≡ y
-some_is x y h = cc
-
--- a text reads as a number exactly where it is the decimal of it
-pub decimal_test : (text : Bytes) (n : ℕ) → n < 2 ^ 64 → option_eq eqb (decimal_below (2 ^ 64) text) (Some n) ≡ bytes_eq text (decimal n)
-decimal_test text n lt = by (decimal_below (2 ^ 64) text) refl (bytes_eq text (decimal n)) refl
-  where
-    reads : bytes_eq text (decimal n) ≡ true → decimal_below (2 ^ 64) text ≡ Some n
-    reads e = ap (decimal_below (2 ^ 64)) ((bytes_eq-Decides text (decimal n)).0 e) ∙ decimal_below-decimal (2 ^ 64) n lt lt
-
-    by : (r : Option ℕ) → decimal_below (2 ^ 64) text ≡ r → (t : Bool) → bytes_eq text (decimal n) ≡ t → option_eq eqb r (Some n) ≡ t
-    by None r true t = absurd (none_some n (sym r ∙ reads t))
-    by None r false t = refl
-    by (Some m) r true t = eq-eqb m n (some_is m n (sym r ∙ reads t))
-    by (Some m) r false t = differs m n (λ same. true≢false (sym ((bytes_eq-Decides text (decimal n)).1 ((decimal_below-takes (2 ^ 64) text m (omega arith) r).0 ∙ ap decimal same)) ∙ t))

@@ -1,16 +1,9 @@
 -- What this crate's marks are in the words of the pairing.
 use Rattle.pair_model.specs.MarkList as model
-use Rattle.view_model.specs.View as view
 use Rattle.mark_code.specs.declared.mark.Mark.{Mark}
 use Rattle.mark_code.specs.declared.mark.Mark.TheVariants as mark
-use Rattle.mark_code.specs.declared.mark.ManifestRev.{ManifestRev}
-use Rattle.mark_code.specs.declared.mark.ManifestRev.TheVariants as manifest
+use Rattle.hg_manifest.specs.Values.{manifest_value}
 use Rattle.mark_code.specs.declared.changeset_marks.ChangesetMarks.{ChangesetMarks}
-
--- the manifest that a value of the enum stands for
-abbrev pub manifest_value : ManifestRev → view.ManifestParents
-manifest_value manifest.Null = view.NoManifest
-manifest_value (manifest.Over p q) = view.Over p q
 
 -- the mark that a value of the enum stands for
 abbrev pub mark_value : Mark → model.Mark

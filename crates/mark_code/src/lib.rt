@@ -17,4 +17,4 @@ mod writing;
 pub use changeset_marks::ChangesetMarks;
 pub use law::reads_exactly;
 pub use list::CommitMarks;
-pub use mark::{ManifestRev, Mark};
+pub use mark::Mark;

@@ -1,4 +1,5 @@
 use bridge_text::{Bytes, Id, Paths};
+use hg_manifest::ManifestRev;
 
 /// A part of a changeset that the rule would not give back from the commit: a line of the commit's
 /// headers. Texts are escaped, and one space stands between each two words.
@@ -43,19 +44,5 @@ pub enum Mark {
         key: Bytes,
         /// The value.
         value: Bytes,
-    },
-}
-
-/// The manifest of a changeset, but for its entries.
-#[derive(Clone, Copy, Debug, PartialEq, Eq)]
-pub enum ManifestRev {
-    /// No manifest, whose node is the null id.
-    Null,
-    /// One with these parents.
-    Over {
-        /// The first parent; the null id where there is none.
-        p: Id,
-        /// The second parent; the null id where there is none.
-        q: Id,
     },
 }

@@ -1,6 +1,6 @@
 // Marks read from the lines of a commit's headers. Each word is cut off at its space and
 // unescaped once.
-ghost use Rattle.std.specs.Prelude.{◌≡◌, ◌==◌, decimal, bytes_eq, option_map, IfOk};
+ghost use Rattle.std.specs.Prelude.{◌≡◌, ◌==◌, decimal, option_map, IfOk};
 ghost use Rattle.std.specs.List.{slice_split};
 ghost use Rattle.text_model.specs.Text.{sp};
 ghost use Rattle.hg_model.specs.Changeset.{Plain, date_of};
@@ -9,9 +9,10 @@ ghost use Rattle.mark_code.specs.Reading.{rename_of, meta_of, file_of, parents_o
 
 use crate::escape::unescaped;
 use crate::kind;
-use crate::mark::{ManifestRev, Mark};
-use bridge_text::{Bytes, Id, NoMemory, Paths, cut_at, decimal_of};
+use crate::mark::Mark;
+use bridge_text::{Bytes, Id, NoMemory, Paths, cut_at, is_decimal_of};
 use hg_changeset::{DateLine, Extras};
+use hg_manifest::ManifestRev;
 use std::alloc::Global;
 
 /// The mark that a line is, without its LF; `None` where it is none.
@@ -148,17 +149,11 @@ fn read_files(alloc: Global, words: &[u8]) -> Result<Option<Mark>, NoMemory>
 fn counted(count: &[u8], paths: Paths) -> Option<Mark>
     ensures { option_map mark_value result ≡ counted count.now paths }
 {
-    if is_decimal_of(count, paths.len()) {
+    if is_decimal_of(count, paths.len() as u64) {
         Some(Mark::Files(paths))
     } else {
         None
     }
-}
-
-fn is_decimal_of(text: &[u8], number: usize) -> bool
-    ensures { result ≡ bytes_eq text.now (decimal number) }
-{
-    decimal_of(text) == Some(number as u64)
 }
 
 // Paths with one space between each two.

@@ -7,11 +7,13 @@ ghost use Rattle.text_model.specs.Id.{hex};
 ghost use Rattle.text_model.specs.Escape.{escape};
 ghost use Rattle.pair_model.specs.MarkList as model;
 ghost use Rattle.pair_model.specs.MarkList.{mark_words, manifest_words, meta_word, marks_text};
-ghost use Rattle.mark_code.specs.Values.{mark_value, manifest_value};
+ghost use Rattle.hg_manifest.specs.Values.{manifest_value};
+ghost use Rattle.mark_code.specs.Values.{mark_value};
 
 use crate::kind;
-use crate::mark::{ManifestRev, Mark};
+use crate::mark::Mark;
 use bridge_text::{Bytes, Id, NoMemory, Paths, decimal_into, escape_into};
+use hg_manifest::ManifestRev;
 
 /// Appends a line for each mark, of which want of memory may leave a part.
 #[tactic(auto, unfolding(pair_model::specs::MarkList::marks_text))]

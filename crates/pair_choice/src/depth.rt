@@ -13,13 +13,10 @@ ghost use Rattle.pair_choice.specs.Parts.{IsUnmarkedChangeset};
 use crate::draft::Draft;
 use crate::unmark::{Unmarking, changeset_below, commit_below, unmark};
 use bridge_io::Steps;
-use bridge_text::NoMemory;
+use bridge_text::{DEPTH_LIMIT, NoMemory};
 use pair_known::{GitDraft, HgDraft, Known};
 use std::alloc::Global;
 use std::sync::ledger::Ledger;
-
-/// So many unmarkings below a member are too many.
-const DEPTH_LIMIT: u8 = 16;
 
 /// How deep a member is.
 #[derive(Clone, Copy)]

@@ -12,7 +12,7 @@ use Rattle.view_model.specs.View.{ChangesetView, Row, rows_text}
 use Rattle.view_model.specs.Dump.{file_revision}
 use Rattle.view_model.specs.Held.{IsFileHeld}
 use Rattle.pair_known.specs.Rows.{row_value}
-use Rattle.mark_code.specs.Values.{manifest_value}
+use Rattle.hg_manifest.specs.Values.{manifest_value}
 use Rattle.pair_known.specs.declared.draft_texts.DraftTexts.{DraftTexts}
 use Rattle.pair_known.specs.declared.hg_draft.HgDraft.{HgDraft}
 use Rattle.pair_known.specs.declared.draft_fault.DraftFault.{DraftFault}

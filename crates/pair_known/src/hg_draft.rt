@@ -8,7 +8,7 @@ ghost use Rattle.hg_store.specs.Views.{IsChangesetOf, first_unknown};
 ghost use Rattle.view_model.specs.View.{ChangesetView, ManifestParents, Row, entry_of_row};
 ghost use Rattle.view_model.specs.Held.{IsChangesetHeld, IsManifestHeld, IsFileHeld};
 ghost use Rattle.pair_known.specs.Rows.{row_value};
-ghost use Rattle.mark_code.specs.Values.{manifest_value};
+ghost use Rattle.hg_manifest.specs.Values.{manifest_value};
 ghost use Rattle.pair_known.specs.Drafts.{HasView, IsHgDraft, IsDraftFault, IsLineFault};
 
 use crate::draft_fault::DraftFault;
@@ -18,9 +18,8 @@ use crate::hg_row::{HgRow, HgRows};
 use crate::known::Known;
 use bridge_text::{Bytes, Id, NoMemory};
 use hg_changeset::{Changeset, ChangesetFault};
-use hg_manifest::{Entry, Manifest};
+use hg_manifest::{Entry, Manifest, ManifestRev};
 use hg_store::{HgStore, ViewFault};
-use mark_code::ManifestRev;
 use std::alloc::Global;
 
 /// A changeset with all that it stands for.

@@ -10,8 +10,8 @@ use Rattle.hg_model.specs.Revision.{Revision, Manifests, ancestry_fault, manifes
 use Rattle.hg_model.proofs.ManifestLemmas.{manifest_fault-text}
 use Rattle.view_model.specs.View.{Row, ChangesetView, IsRevision, Over, entry_of_row, rows_text, paths_of, manifest_node}
 use Rattle.view_model.specs.Dump.{manifest_revision}
-use Rattle.mark_code.specs.Values.{manifest_value}
-use Rattle.mark_code.specs.declared.mark.ManifestRev.TheVariants as rev
+use Rattle.hg_manifest.specs.Values.{manifest_value}
+use Rattle.hg_manifest.specs.declared.rev.ManifestRev.TheVariants as rev
 use Rattle.pair_known.specs.Ruled.{IsLooseView, HasManifestParents}
 use Rattle.pair_known.specs.declared.hg_draft.HgDraft.{HgDraft}
 use Rattle.pair_state.specs.Came.{IsReady, IsAskedOver}

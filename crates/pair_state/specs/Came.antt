@@ -1,5 +1,6 @@
 -- Revisions that come to a store, one after the other.
-use Rattle.std.specs.Prelude.{◌≡◌, ◌≤◌, ◌^◌, Bool, true, false, ◌||◌, ⊤, List, [], ◌∷◌, ◌++◌, length, None, Some, is_some, IsTrue, ◌⊎◌}
+use Rattle.std.specs.Prelude.{◌≡◌, ◌≤◌, Bool, true, false, ◌||◌, ⊤, List, [], ◌∷◌, ◌++◌, length, None, Some, is_some, IsTrue, ◌⊎◌}
+use Rattle.text_model.specs.Limits.{text_limit}
 use Rattle.text_model.specs.Path.{is_fit_path}
 use Rattle.hg_model.specs.FileText.{file_text, IsFile}
 use Rattle.std.specs.List.{list_any}
@@ -61,7 +62,7 @@ pub record IsFileAsked (known fresh : List Revision) (v : RowValue) (link : Id) 
   pub held : IsFileHeld (fresh ++ known) x
   pub parents : HasFileParents known x
   pub link_known : knows known Changesets link ≡ true
-  pub short : length (file_text (x.revision).meta (x.revision).body) ≤ 2 ^ 26
+  pub short : length (file_text (x.revision).meta (x.revision).body) ≤ text_limit
   pub fit : IsTrue (is_fit_path x.path)
   pub spells : IsFile (x.revision).meta (x.revision).body
 

@@ -13,9 +13,8 @@ ghost use Rattle.pair_state.specs.declared.fault.PushFault.TheVariants.{Collisio
 use crate::fault::PushFault;
 use crate::files::add_files;
 use bridge_text::{Bytes, Id, NoMemory};
-use hg_manifest::{line_len, put_line};
+use hg_manifest::{ManifestRev, line_len, put_line};
 use hg_store::{AddFault, Addition, Group, HgStore};
-use mark_code::ManifestRev;
 use pair_known::{HgDraft, HgRow, HgRows};
 use std::alloc::Global;
 

@@ -2,8 +2,8 @@
 use crate::sides::{PLAIN, PLAIN_COMMIT, id, with_changeset, with_commit};
 use bridge_text::Id;
 use git_view::commits_are_held;
+use hg_manifest::ManifestRev;
 use hg_store::ViewFault;
-use mark_code::ManifestRev;
 use pair_known::{
     DraftFault, GitDraft, HgDraft, Known, draft_of_changeset, draft_of_commit, manifest_of_node,
     read_changeset_draft, read_commit_draft,

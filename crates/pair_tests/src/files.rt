@@ -1,7 +1,7 @@
 // Whether a file of a changeset is the one that the rule gives.
 use crate::sides::{NULL, Revision, id, store_of};
 use bridge_text::{Bytes, Id};
-use file_rule::{is_ruled, parents_over};
+use file_rule::{is_plain, is_ruled, parents_over};
 use hg_manifest::{Flag, Manifest};
 use hg_store::{Group, HgStore};
 use pair_known::HgRow;
@@ -116,4 +116,20 @@ fn parents_of_revisions(rt: HostRuntime) {
         let parents = parents_over(Id::new([*first; 20]), Id::new([*second; 20]));
         assert!(rt; parents == (Id::new([*p; 20]), Id::new([*q; 20])));
     }
+}
+
+/// Metadata and bodies, and whether the rule gives the one to the other.
+const METADATA: [(Option<&[u8]>, &[u8], bool); 4] = [
+    (None, b"x", true),
+    (Some(b""), b"\x01\nx", true),
+    (Some(b""), b"x", false),
+    (Some(b"copy: b\n"), b"x", false),
+];
+
+#[test]
+fn plain_metadata(rt: HostRuntime) -> Result<(), Fail> {
+    for (meta, body, want) in METADATA {
+        assert!(rt; is_plain(meta, body) == want);
+    }
+    Ok(())
 }

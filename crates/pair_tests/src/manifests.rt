@@ -2,10 +2,9 @@
 use crate::sides::{NULL, Revision, id, store_of};
 use bridge_text::{Bytes, Id, Paths};
 use file_rule::Parent;
-use hg_manifest::{Entry, Manifest};
+use hg_manifest::{Entry, Manifest, ManifestRev};
 use hg_store::{Group, HgStore};
-use manifest_rule::{is_ruled_manifest, lines_fit, make_manifest, ruled_files};
-use mark_code::ManifestRev;
+use manifest_rule::{are_same_paths, is_ruled_manifest, lines_fit, make_manifest, ruled_files};
 use pair_known::{HgRow, HgRows};
 use std::alloc::Global;
 use std::test::Fail;
@@ -128,7 +127,13 @@ fn are_listed(alloc: Global, case: &Case) -> Result<bool, Fail> {
     let first = there(case.first, &first);
     let second = there(case.second, &second);
     let paths = ruled_files(alloc, &rows, first, second)?;
-    Ok(are_paths(&paths, case.listed))
+    let none = Paths::new(alloc);
+    let is_none = are_same_paths(&paths, &none);
+    Ok(
+        are_paths(&paths, case.listed)
+            && are_same_paths(&paths, &paths)
+            && is_none == case.listed.is_empty(),
+    )
 }
 
 fn are_paths(paths: &Paths, want: &[&[u8]]) -> bool {

@@ -1,7 +1,8 @@
 // Marks, as headers of commits and as extras of changesets.
 use bridge_text::Id;
 use hg_changeset::{DateLine, ExtraItem, Extras};
-use mark_code::{ChangesetMarks, CommitMarks, ManifestRev, Mark};
+use hg_manifest::ManifestRev;
+use mark_code::{ChangesetMarks, CommitMarks, Mark};
 use std::alloc::Global;
 use std::test::Fail;
 

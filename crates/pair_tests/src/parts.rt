@@ -1,8 +1,7 @@
 // Partners, and the parts of drafts.
 use bridge_text::{Bytes, Id, Paths};
 use hg_changeset::{Changeset, DateLine, Extras};
-use hg_manifest::Flag;
-use mark_code::ManifestRev;
+use hg_manifest::{Flag, ManifestRev};
 use pair_known::{
     DraftTexts, FreshBlob, FreshBlobs, FreshFile, FreshFiles, HgDraft, HgDrafts, HgRow, HgRows,
     Partners,

@@ -1,7 +1,7 @@
 -- File revisions whose parents stand in changesets of the blocks.
 use Rattle.std.proofs.Common.{◌≡◌, ◌<◌, ◌≤◌, ◌+◌, ◌||◌, ℕ, zero, suc, Bool, true, false, List, [], ◌∷◌, length, map, get_or, take, arith, Some, refl, sym, ap, subst, ◌∙◌, inl, inr}
-use Rattle.std.specs.Prelude.{bytes_eq, is_some, slice_get}
-use Rattle.std.specs.List.{find, list_any}
+use Rattle.std.specs.Prelude.{is_some, slice_get}
+use Rattle.std.specs.List.{list_any}
 use Rattle.std.proofs.lemmas.List.{length-map}
 use Rattle.std.proofs.lemmas.List.Folds.{list_any-append}
 use Rattle.std.proofs.lemmas.Option.{slice_get-get_or}
@@ -10,11 +10,12 @@ use Rattle.text_model.specs.Text.{Bytes}
 use Rattle.text_model.specs.Id.{Id}
 use Rattle.text_model.proofs.Elements.{each_in, each_at, get_unmap, take_push, take_whole}
 use Rattle.text_model.proofs.Options.{none_some, some_is, or_parts, or_neither}
-use Rattle.text_model.proofs.TestLemmas.{bytes_eq-is, or_true}
+use Rattle.text_model.proofs.TestLemmas.{or_true}
 use Rattle.hg_model.specs.FileText.{file_text, file_order}
 use Rattle.hg_model.specs.Manifest.{ManifestEntry}
 use Rattle.hg_model.specs.Revision.{Revision}
 use Rattle.hg_filelog.proofs.MarkLemmas.{one_pair}
+use Rattle.hg_manifest.specs.Lines.{HasLine}
 use Rattle.hg_store.specs.Known.{AreFileParents}
 use Rattle.view_model.specs.View.{ChangesetView, Row, entry_of_row, file_node, changeset_node}
 use Rattle.view_model.specs.Held.{IsFileHeld, IsChangesetHeld, AreChangesetsHeld}
@@ -26,7 +27,7 @@ use Rattle.pair_known.proofs.PartnerLemmas.{block-there}
 use Rattle.link_rule.proofs.PartnerViews.{changeset-in}
 use Rattle.pair_state.proofs.BlockLemmas.{git-some}
 use Rattle.pull_bundle.specs.declared.taking.Taking.{Taking}
-use Rattle.pull_bundle.specs.Late.{are_late, is_late_row, HasLine, IsLineInTime}
+use Rattle.pull_bundle.specs.Late.{are_late, is_late_row, IsLineInTime}
 use Rattle.pull_bundle.specs.Takes.{IsTaking}
 
 -- ---- the parents of a file revision that is held
@@ -109,18 +110,6 @@ module _ (known : List Revision) (blocks : List Block) (files : List Row) (rows 
   none-late i end none =
       let n : length files ≤ i = omega (arith, end, ap length are, length-map files row_value) in
       ap (list_any (is_late_row blocks)) (sym (take_whole files i n)) ∙ none
-
--- ---- a line with the path and the node
-
-pub line-found : (lines : List ManifestEntry) (path : Bytes) (node : Id) (o : ManifestEntry) → Some o ≡ find (λ e. bytes_eq e.path path) lines → bytes_eq o.node node ≡ true → HasLine path node lines
-line-found [] path node o at same = absurd (none_some (sym at))
-line-found (e ∷ lines) path node o at same = by (bytes_eq e.path path) refl (line-found lines path node o)
-  where
-    by : (t : Bool) → bytes_eq e.path path ≡ t → (Some o ≡ find (λ x. bytes_eq x.path path) lines → bytes_eq o.node node ≡ true → HasLine path node lines) → HasLine path node (e ∷ lines)
-    by true t later =
-        let is : o ≡ e = some_is (at ∙ rw t refl) in
-        inl (bytes_eq-is e.path path t, bytes_eq-is e.node node (ap (λ (x : ManifestEntry). bytes_eq x.node node) (sym is) ∙ same))
-    by false t later = inr (later (at ∙ rw t refl) same)
 
 -- ---- the changeset of a block
 

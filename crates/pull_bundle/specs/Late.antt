@@ -1,6 +1,5 @@
 -- File revisions whose parents stand in changesets of the blocks.
 use Rattle.std.specs.Prelude.{◌≡◌, Bool, false, ◌||◌, List, map}
-use Rattle.text_model.specs.Lists.{SomeOf}
 use Rattle.text_model.specs.Text.{Bytes}
 use Rattle.text_model.specs.Id.{Id}
 use Rattle.hg_model.specs.Manifest.{ManifestEntry}
@@ -24,10 +23,6 @@ are_late blocks path p q = is_late_file blocks path p || is_late_file blocks pat
 
 abbrev pub is_late_row : List Block → Row → Bool
 is_late_row blocks row = are_late blocks row.path (row.revision).p (row.revision).q
-
--- a line has this path and this node
-abbrev pub HasLine : Bytes → Id → List ManifestEntry → Type 0
-HasLine path node lines = SomeOf lines (λ e. (e.path ≡ path) × (e.node ≡ node))
 
 -- the parents of the file revision that a line names stand in changesets of the blocks
 abbrev pub IsLineInTime : List Revision → List Block → ManifestEntry → Type 0

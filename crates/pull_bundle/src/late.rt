@@ -1,30 +1,28 @@
 // Parents of file revisions and of a manifest that stand in no changeset of the blocks before.
 ghost use Rattle.std.specs.Prelude.{◌≡◌, false, [], List, map, is_some, IfSome, OnOk, IfErr, IsTrue};
-ghost use Rattle.std.specs.Bool.{OnTrue};
 ghost use Rattle.text_model.specs.Lists.{Each};
 ghost use Rattle.hg_model.specs.Revision.{Revision};
 ghost use Rattle.hg_manifest.specs.Values.{manifest_entry};
-ghost use Rattle.view_model.specs.View.{ChangesetView, Row, entry_of_row};
-ghost use Rattle.view_model.specs.Held.{IsFileHeld, IsChangesetHeld};
+ghost use Rattle.view_model.specs.View.{ChangesetView, Row};
+ghost use Rattle.view_model.specs.Held.{IsFileHeld};
 ghost use Rattle.view_model.specs.Dump.{revisions_in};
 ghost use Rattle.pair_model.specs.Block.{Block, changesets_in};
 ghost use Rattle.partner_model.specs.Given.{has_late_file, has_late_manifest, is_late_file, is_late_manifest};
-ghost use Rattle.mark_code.specs.Values.{manifest_value};
+ghost use Rattle.hg_manifest.specs.Values.{manifest_value};
 ghost use Rattle.pair_known.specs.Drafts.{IsHgDraft};
 ghost use Rattle.pair_known.specs.Partners.{git_at};
 ghost use Rattle.pair_known.specs.Rows.{row_value};
 ghost use Rattle.hg_dump.specs.Refers.{RefersTo};
 ghost use Rattle.pull_outcome.specs.Takes.{IsTakeFault};
 ghost use Rattle.pull_bundle.specs.Faults.{IsOfChangeset, IsLate};
-ghost use Rattle.pull_bundle.specs.Late.{RefersIn, HasLine, is_late_row, IsLineInTime};
+ghost use Rattle.pull_bundle.specs.Late.{RefersIn, is_late_row, IsLineInTime};
 ghost use Rattle.pull_bundle.specs.Takes.{IsTaking};
 
 use crate::taking::Taking;
 use bridge_text::Id;
-use hg_dump::Refers;
-use hg_manifest::{Cursor, Manifest};
-use hg_store::{Group, HgStore};
-use mark_code::ManifestRev;
+use hg_dump::{Refers, lines_of};
+use hg_manifest::{Cursor, Manifest, ManifestRev};
+use hg_store::Group;
 use pair_known::{HgDraft, HgRow, Known};
 use pull_outcome::{Fault, TakeFault};
 use std::alloc::Global;
@@ -73,17 +71,6 @@ fn lines_near<'a>(taking: &'a Taking, h: &HgDraft, empty: &'a Manifest) -> &'a M
     }
 }
 
-// The lines of the manifest of a changeset that is held.
-fn lines_of<'a>(store: &'a HgStore, node: &Id) -> &'a Manifest
-    requires held { (h : ChangesetView) × IsChangesetHeld store.now node.now h }
-    ensures { (h : ChangesetView) → IsChangesetHeld store.now node.now h → map entry_of_row h.rows ≡ result.now }
-{
-    match store.manifest_of_changeset(node) {
-        Some((_, manifest)) => manifest,
-        None => unreachable!(),
-    }
-}
-
 // Whether a parent of a file revision comes too late, where each of the lines that are near is in time.
 fn has_late_row(taking: &Taking, rows: &[HgRow], near: &Manifest) -> bool
     ensures { (blocks : List Block) (files : List Row) → IsTaking taking.now blocks → rows.now ≡ map row_value files → Each (IsFileHeld (taking.now.state).known.hg) files
@@ -104,7 +91,7 @@ fn is_row_late(taking: &Taking, row: &HgRow, lines: &mut Cursor<'_>) -> bool
         → Each (IsLineInTime (taking.now.state).known.hg blocks) lines.old → result ≡ is_late_row blocks file }
     ensures same { lines.new ≡ lines.old }
 {
-    if has_line(lines, row) {
+    if lines.has_line(row.path.as_slice(), &row.node) {
         return false;
     }
     match taking
@@ -117,17 +104,6 @@ fn is_row_late(taking: &Taking, row: &HgRow, lines: &mut Cursor<'_>) -> bool
             let path = row.path.as_slice();
             is_file_late(&taking.referred, path, &p) || is_file_late(&taking.referred, path, &q)
         }
-        None => false,
-    }
-}
-
-// Whether a line with the path and the node of a row stands in a manifest.
-fn has_line(lines: &mut Cursor<'_>, row: &HgRow) -> bool
-    ensures found { OnTrue result (HasLine row.now.path row.now.node lines.old) }
-    ensures same { lines.new ≡ lines.old }
-{
-    match lines.get(row.path.as_slice()) {
-        Some(entry) => entry.node == row.node,
         None => false,
     }
 }

@@ -2,7 +2,7 @@
 ghost use Rattle.std.specs.Prelude.{◌≡◌, ◌↔◌, ◌&&◌, IsTrue, OnOk, IfErr};
 ghost use Rattle.hg_model.specs.Revision.{FilesAt, Manifests, is_known_parent};
 ghost use Rattle.hg_store.specs.Known.{AreAdded};
-ghost use Rattle.mark_code.specs.Values.{manifest_value};
+ghost use Rattle.hg_manifest.specs.Values.{manifest_value};
 ghost use Rattle.view_model.specs.View.{ChangesetView};
 ghost use Rattle.pair_known.specs.Ruled.{IsMadeChangeset, HasManifestParents};
 ghost use Rattle.pull_outcome.specs.Takes.{IsTakeFault};
@@ -10,8 +10,8 @@ ghost use Rattle.pull_stream.specs.Faults.{IsOfCommit};
 ghost use Rattle.pull_stream.specs.Late.{AreFilesInTime, IsLate};
 
 use bridge_text::Id;
+use hg_manifest::ManifestRev;
 use hg_store::HgStore;
-use mark_code::ManifestRev;
 use pair_known::{FreshFile, HgDraft};
 use pull_outcome::{Fault, TakeFault};
 

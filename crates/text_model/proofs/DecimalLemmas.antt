@@ -1,8 +1,10 @@
 -- Decimals: what is written reads as the number, and what reads as a number is what is written of it.
-use Rattle.std.proofs.Common.{◌≡◌, ◌≢◌, ◌<◌, ◌≤◌, ◌+◌, ◌-◌, ◌*◌, ◌^◌, ◌&&◌, ◌==◌, ℕ, zero, suc, Bool, true, false, not, [], ◌∷◌, length, take, drop, get_or, Some, fold, decimal, refl, sym, ap, ◌∙◌, arith, leb, leb-true, eqb, lt-ltb, ltb-true, eq-eqb, true≢false, take-append-drop}
+use Rattle.std.proofs.Common.{◌≡◌, ◌≢◌, ◌<◌, ◌≤◌, ◌+◌, ◌-◌, ◌*◌, ◌^◌, ◌&&◌, ◌==◌, ℕ, zero, suc, Bool, true, false, not, [], ◌∷◌, length, take, drop, get_or, Some, fold, decimal, Option, None, bytes_eq, refl, sym, ap, ◌∙◌, arith, leb, leb-true, eqb, lt-ltb, ltb-true, eq-eqb, true≢false, take-append-drop}
 use Rattle.std.specs.Prelude.{nat_lt}
 use Rattle.std.specs.List.{list_all}
+use Rattle.std.specs.Option.{option_eq}
 use Rattle.std.proofs.lemmas.Bool.Decides.{nat_tests}
+use Rattle.std.proofs.lemmas.Slice.Eq.{bytes_eq-Decides}
 use Rattle.std.proofs.lemmas.List.Sums.{fold-append, fold_more}
 use Rattle.std.proofs.lemmas.Str.Parse.{IsNumeralModel, numerals_by_fold}
 use Rattle.std.proofs.lemmas.Fmt.{digits_decimal, digits_value-decimal, decimal-digits_value, decimal_nonempty, decimal_digit, first_decimal}
@@ -103,3 +105,16 @@ decimal_below-takes limit text n small e = by (is_decimal text && nat_lt (number
         let lt = ltb-true (number_of text) limit p.1 in
         (sym (decimal-number_of text p.0 (omega (arith, lt, small))) ∙ ap decimal is, omega (arith, lt, is))
     by false t = absurd (none_some (sym (rw t refl) ∙ e))
+
+-- a text reads as a number exactly where it is the decimal of it
+pub decimal_test : (text : Bytes) (n : ℕ) → n < 2 ^ 64 → option_eq eqb (decimal_below (2 ^ 64) text) (Some n) ≡ bytes_eq text (decimal n)
+decimal_test text n lt = by (decimal_below (2 ^ 64) text) refl (bytes_eq text (decimal n)) refl
+  where
+    reads : bytes_eq text (decimal n) ≡ true → decimal_below (2 ^ 64) text ≡ Some n
+    reads e = ap (decimal_below (2 ^ 64)) ((bytes_eq-Decides text (decimal n)).0 e) ∙ decimal_below-decimal (2 ^ 64) n lt lt
+
+    by : (r : Option ℕ) → decimal_below (2 ^ 64) text ≡ r → (t : Bool) → bytes_eq text (decimal n) ≡ t → option_eq eqb r (Some n) ≡ t
+    by None r true t = absurd (none_some (sym r ∙ reads t))
+    by None r false t = refl
+    by (Some m) r true t = eq-eqb m n (some_is (sym r ∙ reads t))
+    by (Some m) r false t = differs m n (λ same. true≢false (sym ((bytes_eq-Decides text (decimal n)).1 ((decimal_below-takes (2 ^ 64) text m (omega arith) r).0 ∙ ap decimal same)) ∙ t))

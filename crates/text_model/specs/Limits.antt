@@ -32,3 +32,7 @@ path_limit = 4096
 -- the components of a path
 abbrev pub component_limit : ℕ
 component_limit = 256
+
+-- the bytes of an object's line in a stream, its LF among them
+abbrev pub line_limit : ℕ
+line_limit = 4096

@@ -1,6 +1,7 @@
 use bridge_text::{
     Bytes, Id, IdList, IdSet, Kind, Paths, TextFault, cut_at, decimal_into, decimal_of,
-    escape_into, fit_name, fit_path, line_end, node_id, object_id, unescape_into,
+    escape_into, first_line, fit_name, fit_path, is_decimal_of, line_end, node_id, object_id,
+    unescape_into,
 };
 use std::alloc::Global;
 use std::test::Fail;
@@ -149,6 +150,7 @@ fn decimals(rt: HostRuntime) -> Result<(), Fail> {
     ];
     for (n, text) in both {
         assert!(rt; decimal_of(text) == Some(n));
+        assert!(rt; is_decimal_of(text, n) && !is_decimal_of(text, 8));
         let mut out = Vec::new(rt.alloc());
         decimal_into(&mut out, n)?;
         assert!(rt; out.as_slice() == text);
@@ -165,6 +167,7 @@ fn decimals(rt: HostRuntime) -> Result<(), Fail> {
     ];
     for text in bad {
         assert!(rt; decimal_of(text).is_none());
+        assert!(rt; !is_decimal_of(text, 7) && !is_decimal_of(text, 0));
     }
     Ok(())
 }
@@ -236,6 +239,9 @@ fn lines(rt: HostRuntime) -> Result<(), Fail> {
     }
     assert!(rt; cut_at(b'b', text) == Some((b"\na".as_slice(), b"\n\nc".as_slice())));
     assert!(rt; cut_at(b'x', text).is_none());
+    assert!(rt; first_line(text) == (b"\n".as_slice(), b"ab\n\nc".as_slice()));
+    assert!(rt; first_line(b"ab\n") == (b"ab\n".as_slice(), b"".as_slice()));
+    assert!(rt; first_line(b"c") == (b"c".as_slice(), b"".as_slice()));
     Ok(())
 }
 
@@ -276,5 +282,7 @@ fn sets_of_ids(rt: HostRuntime) -> Result<(), Fail> {
         assert!(rt; is_new == want);
     }
     assert!(rt; set.contains(&Id::new([1; 20])) && !set.contains(&Id::new([2; 20])));
+    let listed = IdSet::of(rt.alloc(), &[Id::new([2; 20]), Id::new([2; 20])])?;
+    assert!(rt; listed.contains(&Id::new([2; 20])) && !listed.contains(&Id::new([1; 20])));
     Ok(())
 }

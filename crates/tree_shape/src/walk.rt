@@ -1,5 +1,6 @@
 // The walk through a tree, depth first, an entry before what lies below it.
 ghost use Rattle.std.specs.Prelude.{◌≡◌, ◌≤◌, ◌+◌, ◌&&◌, ◌||◌, not, [], ◌∷◌, Some, true, false, nat_lt, nat_le, length, OnOk, IfOk, IfErr, MatchOption};
+ghost use Rattle.text_model.specs.Limits.{path_limit};
 ghost use Rattle.text_model.specs.Id.{blob};
 ghost use Rattle.text_model.specs.Path.{is_fit_path};
 ghost use Rattle.git_model.specs.Tree.{is_directory, is_blob_mode};
@@ -167,7 +168,7 @@ fn grown(size: usize, path_len: usize) -> Option<usize>
 
 /// Whether a path is fit, whose names are, where so many of them may stand at its end.
 fn is_short(levels: usize, path: &[u8]) -> bool
-    ensures { result ≡ (nat_lt 0 levels && nat_le (length path.now) 4096) }
+    ensures { result ≡ (nat_lt 0 levels && nat_le (length path.now) path_limit) }
 {
     levels > 0 && path.len() <= PATH_LIMIT
 }

@@ -1,7 +1,7 @@
 use Rattle.std.proofs.Common.{Bool, [], ◌∷◌, sym, ap, ◌∙◌}
 use Rattle.std.specs.Prelude.{if◌then◌else◌}
 use Rattle.pair_model.specs.MarkList.{Manifest}
-use Rattle.mark_code.specs.Values.{manifest_value}
+use Rattle.hg_manifest.specs.Values.{manifest_value}
 use Rattle.commit_mark.proofs.FieldMarks.{is-manifest, rows-over, manifest-mark}
 use Rattle.commit_mark.proofs.fields.manifest_mark.Goals as goal
 

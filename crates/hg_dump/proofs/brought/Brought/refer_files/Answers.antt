@@ -17,7 +17,7 @@ loop-line-preserved c =
     let a = c.args.self.now in
     let b = c.loop-line.self in
     let d = c.refer_line.new.self in
-    let one : StepsAfter before is_new (file_mark link e ∷ []) b d = λ s is met. c.in_ok-refer_line.ensures s is (met-line s before e c.has_line-is_met.result (rw c.loop-line.invariant.same at c.has_line-is_met.ensures.found) met) in
+    let one : StepsAfter before is_new (file_mark link e ∷ []) b d = λ s is met. c.in_ok-refer_line.ensures s is (met-line s before e c.has_line-is_met.result (rw (c.loop-line.invariant.same, c.as_slice.ensures) at c.has_line-is_met.ensures.found) met) in
     record {
       steps =
           subst (λ (ms : List Mark). StepsAfter before is_new ms a d) (sym (map_take_push (file_mark link) entries i e c.at-entry.ensures))
