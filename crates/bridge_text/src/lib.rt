@@ -8,14 +8,13 @@ mod escape;
 mod fault;
 mod hash;
 mod id;
-mod id_list;
 mod id_set;
 mod kind;
 mod laws;
 mod limits;
+mod list;
 mod memory;
 mod path;
-mod paths;
 
 pub use bytes::{Bytes, each_is_byte};
 pub use cut::{cut_at, first_line, line_end};
@@ -24,7 +23,6 @@ pub use escape::{TextFault, escape_into, unescape_into};
 pub use fault::{Fault, Refusal};
 pub use hash::{node_id, object_id};
 pub use id::Id;
-pub use id_list::IdList;
 pub use id_set::IdSet;
 pub use kind::{Added, Kind};
 pub use laws::{decimal_laws, escape_laws, hex_laws, node_laws};
@@ -33,6 +31,6 @@ pub use limits::{
     INPUT_LIMIT, LINE_LIMIT, LINK_LIMIT, MADE_LIMIT, NAME_LIMIT, PARENT_LIMIT, PATH_CHUNK_LIMIT,
     PATH_LIMIT, REF_LIMIT, ROWS_LIMIT, SLOT_LIMIT, SUM_LIMIT, TEXT_LIMIT,
 };
+pub use list::{IdList, List, Paths};
 pub use memory::NoMemory;
 pub use path::{fit_name, fit_path};
-pub use paths::Paths;

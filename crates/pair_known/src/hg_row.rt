@@ -1,8 +1,5 @@
-ghost use Rattle.std.specs.Prelude.{◌≡◌, ◌==◌, ◌<◌, ◌++◌, [], ◌∷◌, length, slice_get, Some, OnOk, OnErr};
-
-use bridge_text::{Bytes, Id, NoMemory};
+use bridge_text::{Bytes, Id, List};
 use hg_manifest::Flag;
-use std::alloc::Global;
 use std::marker::Model;
 
 /// A file of a changeset, by its revision's node and by the id of its body as a Git blob.
@@ -28,64 +25,4 @@ impl Model for HgRow {
 }
 
 /// A list of a changeset's files.
-#[derive(Debug, Drop)]
-pub struct HgRows {
-    rows: Vec<HgRow>,
-}
-
-impl Model for HgRows {
-    ghost use Rattle.std.specs.Prelude.{List};
-    ghost use Rattle.pair_known.specs.Rows.{RowValue};
-
-    ghost Value = { List RowValue };
-
-    ghost view = { λ r. r.rows.items };
-}
-
-impl HgRows {
-    /// No files.
-    pub fn new(alloc: Global) -> HgRows
-        ensures { result ≡ [] }
-    {
-        HgRows {
-            rows: Vec::new(alloc),
-        }
-    }
-
-    /// Puts a row at the end. After want of memory the list is as it was.
-    pub fn push(&mut self, row: HgRow) -> Result<(), NoMemory>
-        ensures ok { OnOk result (self.new ≡ self.old ++ row ∷ []) }
-        ensures err { OnErr result (self.new ≡ self.old) }
-    {
-        Ok(self.rows.push(row)?)
-    }
-
-    /// How many rows there are.
-    pub fn len(&self) -> usize
-        ensures { result ≡ length self.now }
-    {
-        self.rows.len()
-    }
-
-    /// Whether there are no rows.
-    pub fn is_empty(&self) -> bool
-        ensures { result ≡ (length self.now == 0) }
-    {
-        self.rows.is_empty()
-    }
-
-    /// The row at place `i`, which is below the length.
-    pub fn at(&self, i: usize) -> &HgRow
-        requires { i < length self.now }
-        ensures { slice_get self.now i ≡ Some result.now }
-    {
-        &self.rows[i]
-    }
-
-    /// The rows.
-    pub fn as_slice(&self) -> &[HgRow]
-        ensures { result.now ≡ self.now }
-    {
-        self.rows.as_slice()
-    }
-}
+pub type HgRows = List<HgRow>;

@@ -5,7 +5,7 @@ ghost use Rattle.std.specs.List.{flat_map};
 ghost use Rattle.state_part.specs.Pairs.{IsPair, pair_line, NoPair, map_section, sorted_lines, HasMap, NoMap};
 
 use crate::count::{append_count, read_count};
-use crate::pairs::{IdPair, IdPairs};
+use crate::pairs::{IdPair, IdPairs, sorted_by_node};
 use bridge_text::{Id, NoMemory, cut_at};
 use std::alloc::Global;
 
@@ -86,13 +86,13 @@ fn append_lines(out: &mut Vec<u8>, pairs: &[IdPair]) -> Result<(), NoMemory>
 }
 
 /// Appends the lines of pairs, without how many there are, in rising order of the nodes. After want of memory `out` is as it was.
-pub fn put_sorted_map(out: &mut Vec<u8>, mut pairs: IdPairs) -> Result<(), NoMemory>
+pub fn put_sorted_map(out: &mut Vec<u8>, pairs: IdPairs) -> Result<(), NoMemory>
     ensures ok { OnOk result (out.new.items ≡ out.old.items ++ sorted_lines pairs) }
     ensures err { OnErr result (out.new.items ≡ out.old.items) }
 {
-    pairs.sort_by_node()?;
+    let sorted = sorted_by_node(pairs)?;
     let start = out.len();
-    let put = append_lines(out, pairs.as_slice());
+    let put = append_lines(out, sorted.as_slice());
     if put.is_err() {
         out.truncate(start);
     }

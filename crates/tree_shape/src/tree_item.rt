@@ -1,7 +1,6 @@
-ghost use Rattle.std.specs.Prelude.{◌≡◌, ◌==◌, ◌<◌, ◌++◌, [], ◌∷◌, length, slice_get, Some, OnOk, OnErr};
+ghost use Rattle.std.specs.Prelude.{◌≡◌};
 
-use bridge_text::{Bytes, Id, NoMemory};
-use std::alloc::Global;
+use bridge_text::{Bytes, Id, List};
 use std::marker::Model;
 
 /// A tree object that was made. Contracts see the object.
@@ -39,74 +38,7 @@ impl TreeItem {
 }
 
 /// A list of tree objects.
-#[derive(Debug, Drop)]
-pub struct TreeList {
-    items: Vec<TreeItem>,
-}
-
-impl Model for TreeList {
-    ghost use Rattle.std.specs.Prelude.{List};
-    ghost use Rattle.git_model.specs.Object.{Object};
-
-    ghost Value = { List Object };
-
-    ghost view = { λ t. t.items.items };
-}
-
-impl TreeList {
-    /// No trees.
-    pub fn new(alloc: Global) -> TreeList
-        ensures { result ≡ [] }
-    {
-        TreeList {
-            items: Vec::new(alloc),
-        }
-    }
-
-    /// Puts a tree at the end. After want of memory the list is as it was.
-    pub fn push(&mut self, item: TreeItem) -> Result<(), NoMemory>
-        ensures ok { OnOk result (self.new ≡ self.old ++ item ∷ []) }
-        ensures err { OnErr result (self.new ≡ self.old) }
-    {
-        Ok(self.items.push(item)?)
-    }
-
-    /// How many trees there are.
-    pub fn len(&self) -> usize
-        ensures { result ≡ length self.now }
-    {
-        self.items.len()
-    }
-
-    /// Whether there are no trees.
-    pub fn is_empty(&self) -> bool
-        ensures { result ≡ (length self.now == 0) }
-    {
-        self.items.is_empty()
-    }
-
-    /// The tree at place `i`, which is below the length.
-    pub fn at(&self, i: usize) -> &TreeItem
-        requires { i < length self.now }
-        ensures { slice_get self.now i ≡ Some result.now }
-    {
-        &self.items[i]
-    }
-
-    /// The trees.
-    pub fn as_slice(&self) -> &[TreeItem]
-        ensures { result.now ≡ self.now }
-    {
-        self.items.as_slice()
-    }
-
-    /// The trees, not copied.
-    pub fn into_vec(self) -> Vec<TreeItem>
-        ensures { result.items ≡ self }
-    {
-        self.items
-    }
-}
+pub type TreeList = List<TreeItem>;
 
 /// The tree objects of files.
 #[derive(Debug, Drop)]

@@ -1,12 +1,11 @@
 // The commits that wait, each at one of its parents.
-ghost use Rattle.std.specs.Prelude.{◌≡◌, ◌++◌, [], ◌∷◌, List, OnOk, OnErr, bytes_eq, if◌then◌else◌};
+ghost use Rattle.std.specs.Prelude.{◌≡◌, ◌++◌, [], ◌∷◌, OnOk, bytes_eq, if◌then◌else◌};
 ghost use Rattle.text_model.specs.Id.{Id};
 ghost use Rattle.git_store.specs.Waiting.{waits_for};
 
-use bridge_text::{Id, NoMemory};
+use bridge_text::{Id, List, NoMemory};
 use indexmap::IndexMap;
 use std::alloc::Global;
-use std::marker::Model;
 
 /// A commit, by its place in the stream, that waits for one of its parents.
 #[derive(Clone, Copy, Debug, PartialEq, Eq)]
@@ -17,42 +16,7 @@ pub struct Wait {
 }
 
 /// A list of commits that wait.
-#[derive(Debug, Drop)]
-pub struct Waits {
-    items: Vec<Wait>,
-}
-
-impl Model for Waits {
-    ghost use Rattle.std.specs.Prelude.{List};
-    ghost use Rattle.git_store.specs.declared.order.waiting.Wait.{Wait};
-
-    ghost Value = { List Wait };
-
-    ghost view = { λ w. w.items.items };
-}
-
-impl Waits {
-    pub fn new(alloc: Global) -> Waits
-        ensures { result ≡ [] }
-    {
-        Waits {
-            items: Vec::new(alloc),
-        }
-    }
-
-    pub fn push(&mut self, wait: Wait) -> Result<(), NoMemory>
-        ensures ok { OnOk result (self.new ≡ self.old ++ wait ∷ []) }
-        ensures err { OnErr result (self.new ≡ self.old) }
-    {
-        Ok(self.items.push(wait)?)
-    }
-
-    pub fn as_slice(&self) -> &[Wait]
-        ensures { result.now ≡ self.now }
-    {
-        self.items.as_slice()
-    }
-}
+pub type Waits = List<Wait>;
 
 /// The commits that wait, by the parent that each waits for.
 #[derive(Drop)]
