@@ -1,5 +1,5 @@
 -- A changeset over the parents that the commit of its marks has: what the functions are asked over, and the draft of the commit.
-use Rattle.std.proofs.Common.{◌≡◌, List, ◌++◌, map, Option, Some, None, sym, ap, subst, ◌∙◌}
+use Rattle.std.proofs.Common.{◌≡◌, ◌≤◌, List, ◌++◌, length, map, Option, Some, None, sym, ap, subst, ◌∙◌}
 use Rattle.std.specs.Prelude.{IsTrue, not, MatchOption}
 use Rattle.text_model.specs.Lists.{Each, In, SomeOf}
 use Rattle.text_model.specs.Path.{is_fit_path}
@@ -16,7 +16,7 @@ use Rattle.hg_model.specs.Revision.{Revision}
 use Rattle.hg_store.specs.Known.{AreAdded}
 use Rattle.hg_changeset.specs.Values.{changeset_value}
 use Rattle.tree_shape.specs.Sets.{IsFiles}
-use Rattle.view_model.specs.View.{Row, TreeRow, ManifestParents, entry_of_row, ChangesetView, IsCommitView, files_among, root_of_rows}
+use Rattle.view_model.specs.View.{Row, TreeRow, ManifestParents, entry_of_row, ChangesetView, CommitView, IsCommitView, files_among, root_of_rows, text_limit}
 use Rattle.view_model.specs.Held.{file_row_of, IsFileHeld, IsManifestHeld}
 use Rattle.pair_model.specs.Block.{Block, Parents}
 use Rattle.pair_model.specs.MarkList.{ChangesetMarks, IsTreePart}
@@ -30,9 +30,8 @@ use Rattle.pair_known.specs.Ruled.{IsMadeCommit, blob_of_row}
 use Rattle.file_rule.specs.Parents.{IsParent, IsParentView}
 use Rattle.file_rule.specs.declared.parents.Parent.{Parent}
 use Rattle.unmark_law.proofs.TreeRows.{files_of, files_with, old_first}
-use Rattle.commit_rule.specs.Parts.{file_of_row, residue_below, AreRowsOf, AreShortBodies, AreBrought}
+use Rattle.commit_rule.specs.Parts.{file_of_row, residue_below, AreRowsOf, AreBrought}
 use Rattle.commit_rule.proofs.FileLemmas.{view-files, same-files}
-use Rattle.commit_rule.proofs.Handed.{short-rows}
 use Rattle.commit_rule.proofs.RuledLemmas.{IsOld, rows_below, are-old, residue-below, residue-old, some-mapped, all-mapped, same-root}
 use Rattle.changeset_unmark.specs.Drafts.{IsBuiltCommit}
 use Rattle.changeset_unmark.specs.Heads.{IsHead, head_named}
@@ -153,9 +152,8 @@ module _ (k : Known) (added : AreAdded k.hg) (blocks : List Block) (d : HgDraft)
           }
 
 -- with short bodies it is all of a made commit
-pub made-commit : (known : List Object) (d : GitDraft) (blocks : List Block) (ids : List Id) (v : ChangesetView) (m : ChangesetMarks) → IsBuiltCommit known d (commit_named blocks ids v m) → AreShortBodies v.rows
-    → IsMadeCommit known d (commit_named blocks ids v m)
-made-commit known d blocks ids v m built short = record {
+pub made-commit : (known : List Object) (d : GitDraft) (c : CommitView) → IsBuiltCommit known d c → Each (λ row. length row.content ≤ text_limit) c.rows → IsMadeCommit known d c
+made-commit known d c built short = record {
   value = built.value;
   files = built.files;
   trees_are = built.trees_are;
@@ -163,7 +161,7 @@ made-commit known d blocks ids v m built short = record {
   blobs = built.blobs;
   are_new = built.are_new;
   all = built.all;
-  short = short-rows (items_named (handed_on blocks ids v.rows) m.tree) v.rows short;
+  short = short;
   view = built.view;
 }
 

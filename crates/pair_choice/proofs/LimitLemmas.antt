@@ -23,6 +23,7 @@ use Rattle.pair_known.specs.Ruled.{IsMadeCommit, IsMadeChangeset}
 use Rattle.pair_known.specs.declared.git_draft.GitDraft.{GitDraft}
 use Rattle.pair_known.specs.declared.hg_draft.HgDraft.{HgDraft}
 use Rattle.changeset_unmark.specs.Drafts.{IsBuiltCommit}
+use Rattle.changeset_unmark.proofs.OverLemmas.{made-commit}
 use Rattle.link_rule.specs.Links.{AreLinksMade}
 use Rattle.pair_choice.proofs.BodyLemmas.{file-of, row-of, among-files, files-in, no-content}
 
@@ -40,17 +41,7 @@ module _ (git : List Object) (d : GitDraft) (c : CommitView) (built : IsBuiltCom
 
   -- where the bodies are short, the draft is one that is made
   pub made : AreShortBodies hs → IsMadeCommit git d c
-  made short = record {
-    value = built.value;
-    files = built.files;
-    trees_are = built.trees_are;
-    trees_held = built.trees_held;
-    blobs = built.blobs;
-    are_new = built.are_new;
-    all = built.all;
-    short = each_from (λ (t : TreeRow). length t.content ≤ text_limit) c.rows (short-row short);
-    view = built.view;
-  }
+  made short = made-commit git d c built (each_from (λ (t : TreeRow). length t.content ≤ text_limit) c.rows (short-row short))
 
   files : IsFiles (map file_row_of c.rows)
   files = record { each = file-rows c.rows (built.view).rows; in_order = subst (λ (paths : List Bytes). IsTrue (rises is_below paths)) (sym (paths-same c.rows)) (built.view).in_order }

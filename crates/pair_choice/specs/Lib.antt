@@ -1,6 +1,5 @@
 pub mod Bodies
 pub mod Chosen
-pub mod Clash
 pub mod Depths
 pub mod Fault
 pub mod Parts

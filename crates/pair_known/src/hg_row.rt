@@ -1,6 +1,7 @@
 use bridge_text::{Bytes, Id, List};
 use hg_manifest::Flag;
 use std::marker::Model;
+use tree_shape::HasPath;
 
 /// A file of a changeset, by its revision's node and by the id of its body as a Git blob.
 #[derive(Debug, Drop)]
@@ -22,6 +23,18 @@ impl Model for HgRow {
     ghost Value = { RowValue };
 
     ghost view = { λ r. record { path = r.path; flag = file_flag r.flag; node = r.node; blob = r.blob } };
+}
+
+impl HasPath for HgRow {
+    ghost use Rattle.pair_known.specs.Rows.{as_file};
+
+    ghost file = { as_file };
+
+    fn path(&self) -> &[u8]
+        ensures { result.now ≡ self.now.path }
+    {
+        self.path.as_slice()
+    }
 }
 
 /// A list of a changeset's files.

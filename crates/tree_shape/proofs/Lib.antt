@@ -13,6 +13,7 @@ pub mod Sorted
 pub mod Turns
 pub mod FileSets
 pub mod ClashLemmas
+pub mod PathRows
 pub mod SetLemmas
 pub mod Held
 pub mod Rebuilding

@@ -4,11 +4,22 @@ ghost use Rattle.std.specs.List.{list_any};
 ghost use Rattle.text_model.specs.Lists.{rises};
 ghost use Rattle.text_model.specs.Text.{is_below};
 ghost use Rattle.text_model.specs.Path.{lies_below};
+ghost use Rattle.git_model.specs.Unfold.{FileRow};
 ghost use Rattle.git_model.specs.Shape.{first_clash};
 ghost use Rattle.tree_shape.specs.Clashes.{shared, begins_with_slash};
 
 use crate::file_row::FileRow;
 use std::cmp::Ordering;
+
+/// A row of a list of files, by its path.
+pub trait HasPath {
+    /// The file of a tree as which it stands; its path alone decides where rows clash.
+    ghost file: { Self → FileRow };
+
+    /// Its path.
+    fn path(&self) -> &[u8]
+        ensures { result.now ≡ (file self.now).path };
+}
 
 /// How many of their first bytes two paths share.
 fn shared_len(path: &[u8], other: &[u8]) -> usize
@@ -32,13 +43,13 @@ pub fn begins_with_slash(text: &[u8]) -> bool
 }
 
 /// Whether one of the rows, which rise, has this path.
-fn has_path(rows: &[FileRow], path: &[u8]) -> bool
-    requires { IsTrue (rises is_below (map (λ r. r.path) rows.now)) }
-    ensures { result ≡ list_any (λ r. bytes_eq r.path path.now) rows.now }
+fn has_path<R: HasPath>(rows: &[R], path: &[u8]) -> bool
+    requires { IsTrue (rises is_below (map (λ r. r.path) (map (R.file) rows.now))) }
+    ensures { result ≡ list_any (λ r. bytes_eq r.path path.now) (map (R.file) rows.now) }
 {
     let place = rows.partition_point(
-        |row: &FileRow| -> bool
-            ensures { result ≡ is_below row.now.path path.entry.now }
+        |row: &R| -> bool
+            ensures { result ≡ is_below (R.file row.now).path path.entry.now }
         { is_below(row.path(), path) },
     );
     if place < rows.len() {
@@ -56,10 +67,10 @@ fn is_below(path: &[u8], other: &[u8]) -> bool
 
 /// Whether the path of a row lies below that of one of the rows before it, none of which lies below another. It then lies
 /// below the path that it shares with the last of them: what stands between two paths with one front has that front too.
-fn lies_below_one(before: &[FileRow], row: &FileRow) -> bool
-    requires rising { IsTrue (rises is_below (map (λ r. r.path) (before.now ++ row.now ∷ []))) }
-    requires apart { first_clash before.now ≡ None }
-    ensures { result ≡ list_any (λ b. lies_below row.now.path b.path) before.now }
+fn lies_below_one<R: HasPath>(before: &[R], row: &R) -> bool
+    requires rising { IsTrue (rises is_below (map (λ r. r.path) (map (R.file) before.now ++ R.file row.now ∷ []))) }
+    requires apart { first_clash (map (R.file) before.now) ≡ None }
+    ensures { result ≡ list_any (λ b. lies_below (R.file row.now).path b.path) (map (R.file) before.now) }
 {
     let Some(last) = before.last() else {
         return false;
@@ -70,10 +81,18 @@ fn lies_below_one(before: &[FileRow], row: &FileRow) -> bool
     begins_with_slash(rest) && has_path(before, front)
 }
 
-/// The place of the first row whose path lies below that of a row before it, where the rows rise.
+/// The place of the first file whose path lies below that of a file before it, where the files rise.
 pub fn find_clash(rows: &[FileRow]) -> Option<usize>
     requires { IsTrue (rises is_below (map (λ r. r.path) rows.now)) }
     ensures { result ≡ first_clash rows.now }
+{
+    find_row_clash(rows)
+}
+
+/// The place of the first row whose path lies below that of a row before it, where the rows rise.
+pub fn find_row_clash<R: HasPath>(rows: &[R]) -> Option<usize>
+    requires { IsTrue (rises is_below (map (λ r. r.path) (map (R.file) rows.now))) }
+    ensures { result ≡ first_clash (map (R.file) rows.now) }
 {
     for (place, row) in rows.iter().enumerate() {
         if lies_below_one(rows.split_at(place).0, row) {

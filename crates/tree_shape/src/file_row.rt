@@ -1,6 +1,7 @@
 ghost use Rattle.std.specs.Prelude.{◌≡◌};
 ghost use Rattle.git_object.specs.Values.{mode_value};
 
+use crate::clash::HasPath;
 use bridge_text::{Bytes, Id};
 use git_object::Mode;
 use std::marker::Model;
@@ -46,5 +47,15 @@ impl FileRow {
         ensures { result.now ≡ self.now.id }
     {
         &self.blob
+    }
+}
+
+impl HasPath for FileRow {
+    ghost file = { λ row. row };
+
+    fn path(&self) -> &[u8]
+        ensures { result.now ≡ self.now.path }
+    {
+        self.path.as_slice()
     }
 }

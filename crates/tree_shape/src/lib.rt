@@ -15,7 +15,7 @@ mod unfold;
 mod walk;
 
 pub use assemble::{LEVELS, build, build_apart, count_in, put_below, put_entry, put_tree, rest_of};
-pub use clash::{begins_with_slash, find_clash};
+pub use clash::{HasPath, begins_with_slash, find_clash, find_row_clash};
 pub use fault::{BuildFault, TreeFault};
 pub use file_row::FileRow;
 pub use files::Files;

@@ -6,11 +6,14 @@ use Rattle.git_model.specs.Commit.{Commit}
 use Rattle.git_model.specs.Residue.{carried}
 use Rattle.git_model.specs.Shape.{root_of, first_clash}
 use Rattle.mark_code.specs.Values.{changeset_marks}
+use Rattle.partner_model.specs.Mark.{handed_on}
 use Rattle.partner_model.specs.Partner.{IsHeldView}
 use Rattle.commit_rule.specs.Parts.{file_of_row, residue_below}
+use Rattle.commit_rule.proofs.Handed.{short-rows}
 use Rattle.commit_rule.proofs.RuledLemmas.{walks-old}
 use Rattle.changeset_unmark.specs.Heads.{IsDateOf, IsHead}
-use Rattle.changeset_unmark.specs.Named.{IsNamed}
+use Rattle.changeset_unmark.specs.Named.{IsNamed, commit_named}
+use Rattle.changeset_unmark.specs.Residues.{items_named}
 use Rattle.changeset_unmark.proofs.Built.{is_view}
 use Rattle.changeset_unmark.proofs.OverLemmas.{second-view, draft-over, rows-of, are-rows, items-right, rows-right, residue-named, named-residue, built-commit, made-commit, rows_none, rows_some, head_none, head_some}
 use Rattle.changeset_unmark.proofs.unmark.unmark_over.Goals as goal
@@ -98,4 +101,4 @@ returns c = λ blocks v ps over.
     let built =
     built-commit k c.check-2.ensures blocks d v ids node ps over c.check.ensures old is-old m fit c.in-Some.files rows.1 c.in_ok-made.made made.files commit
     (made.blobs v.rows (rows-of k c.check-2.ensures blocks d v ids node ps over)) made.trees_are made.trees_held view in
-    (named, built, made-commit k.git c.in_ok-made.made blocks ids v m built)
+    (named, built, λ short. made-commit k.git c.in_ok-made.made (commit_named blocks ids v m) built (short-rows (items_named (handed_on blocks ids v.rows) m.tree) v.rows short))
