@@ -12,6 +12,7 @@ pub mod GoodText
 pub mod OutcomeLemmas
 pub mod CompleteLemmas
 pub mod NamedLemmas
+pub mod PrintedLemmas
 pub mod AuditLemmas
 pub mod MadeLemmas
 pub mod AcrossLemmas

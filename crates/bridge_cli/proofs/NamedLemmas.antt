@@ -1,4 +1,4 @@
--- What a command on names makes over a saved state.
+-- What a command that sets names makes over a saved state.
 use Rattle.std.proofs.Common.{◌≡◌, ℕ, Bool, true, false, List, [], length, Option, None, Some, Result, Ok, Err, refl, sym, ap, ◌∙◌}
 use Rattle.std.specs.Prelude.{nat_lt, if◌then◌else◌, IfSome}
 use Rattle.std.specs.Global.{Vec}
@@ -11,7 +11,7 @@ use Rattle.state_model.specs.Names.{AreNames}
 use Rattle.state_model.specs.Saved.{IsState}
 use Rattle.name_law.proofs.Kept.{refs-kept, names-kept}
 use Rattle.command_model.specs.Names.{with_names, targets_saved}
-use Rattle.command_model.specs.Command.{Command, SetNamesHg, SetNamesGit, NamesHg, NamesGit, Written, reads_slot, named_by, ComesTo}
+use Rattle.command_model.specs.Command.{Command, SetNamesHg, SetNamesGit, Written, reads_slot, named_by, ComesTo}
 use Rattle.ref_map.specs.declared.row.Side.{Side}
 use Rattle.ref_map.specs.declared.row.Side.TheVariants.{Hg, Git}
 use Rattle.pair_state.specs.declared.state.State.{State}
@@ -20,17 +20,16 @@ use Rattle.name_engine.specs.declared.fault.SetFault.{SetFault}
 use Rattle.name_engine.specs.declared.fault.SetFault.TheVariants as set
 use Rattle.name_engine.specs.Faults as cause
 use Rattle.name_engine.specs.Names.{IsOfNames}
-use Rattle.name_engine.specs.Set.{IsSaved, names_of, text_of, IsSet, IsRefused}
+use Rattle.name_engine.specs.Set.{IsSaved, names_of, IsSet, IsRefused}
 use Rattle.state_law.proofs.Set.{set-left}
 use Rattle.bridge_cli.specs.Over.{Over}
 use Rattle.bridge_cli.specs.Fetched.{IsFetched, IsNotFetched}
 use Rattle.bridge_cli.specs.Makes.{IsTextOf, IsNextText, IsEndOf, Makes, EndCause, FetchEndCause}
 use Rattle.bridge_cli.specs.Report.{set_report}
-use Rattle.bridge_cli.specs.Sides.{set_command, names_command}
+use Rattle.bridge_cli.specs.Sides.{set_command}
 use Rattle.bridge_cli.specs.declared.report.Report.{Report}
 use Rattle.bridge_cli.specs.declared.report.Report.TheVariants as code
 use Rattle.bridge_cli.specs.declared.work.Work.{Work}
-use Rattle.bridge_cli.proofs.SavedLemmas.{written}
 
 pub saved-of : (s : State) (m : model.State) → IsReadState s m → IsSaved s m
 saved-of s m read = record { saved = read.saved; stands = read.stands }
@@ -97,10 +96,6 @@ pub set-unfetched : (side : Side) (input : Option Bytes) (slot : Option (Option 
 set-unfetched Hg input slot report end = unfetched SetNamesHg refl input slot report end
 set-unfetched Git input slot report end = unfetched SetNamesGit refl input slot report end
 
-pub names-unfetched : (side : Side) (input : Option Bytes) (slot : Option (Option Bytes)) (report : Report) → IsNotFetched slot report → IsEndOf (names_command side) input slot report
-names-unfetched Hg input slot report end = unfetched NamesHg refl input slot report end
-names-unfetched Git input slot report end = unfetched NamesGit refl input slot report end
-
 -- why none is set
 pub set-refuses : (side : Side) (input : Option Bytes) (slot : Option (Option Bytes)) (s : State) (e : SetFault) → IsFetched slot s → IsOfNames side e
     → IfSome input (λ bytes. (m : model.State) → IsSaved s m → IsRefused side m bytes e) → IsEndOf (set_command side) input slot (set_report e)
@@ -125,10 +120,3 @@ pub set-slot : (before now : ℕ) (e : SetFault) → now ≡ before → FetchEnd
 set-slot before now (set.Refused why) same = same
 set-slot before now set.Read same = same
 set-slot before now set.Memory same = same
-
--- ---- the names are written
-
-pub names-make : (side : Side) (slot : Option (Option Bytes)) (s : State) (w : Work) (bytes : Vec ℕ) → IsFetched slot s → w.output ≡ bytes → w.text ≡ None → (input : Option Bytes)
-    → ((m : model.State) → IsSaved s m → bytes.items ≡ text_of side m) → Makes (names_command side) input input slot (Ok w)
-names-make Hg slot s w bytes fetched same none input told = (tt, written slot s w bytes fetched same none (text_of Hg) (λ m read. told m (saved-of s m read)))
-names-make Git slot s w bytes fetched same none input told = (tt, written slot s w bytes fetched same none (text_of Git) (λ m read. told m (saved-of s m read)))

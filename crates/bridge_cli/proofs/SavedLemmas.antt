@@ -1,18 +1,15 @@
 -- What a command makes over a saved state.
-use Rattle.std.proofs.Common.{◌≡◌, ◌≤◌, ◌+◌, ◌*◌, ℕ, suc, List, [], ◌++◌, length, Option, None, Some, Ok, inl, inr, refl, sym, ap, subst, ◌∙◌, arith, append-nil}
+use Rattle.std.proofs.Common.{◌≡◌, ◌≤◌, ◌+◌, ◌*◌, ℕ, suc, List, [], ◌++◌, length, Option, None, Some, inl, inr, refl, sym, ap, subst, ◌∙◌, arith, append-nil}
 use Rattle.std.specs.Prelude.{IfSome}
 use Rattle.std.proofs.lemmas.List.{length-map, length-append}
 use Rattle.std.specs.Global.{Vec}
 use Rattle.text_model.specs.Text.{Bytes, IsBytes}
-use Rattle.git_model.specs.Stream.{stream_text}
-use Rattle.pair_model.specs.Block.{Block, changesets_in, commits_in}
+use Rattle.pair_model.specs.Block.{Block}
 use Rattle.history_model.specs.Pull.{changesets_among}
 use Rattle.state_model.specs.Kept as model
-use Rattle.state_model.specs.Kept.{kept_of, with_kept, hg_dump, git_dump}
-use Rattle.state_model.specs.Saved.{SlotHolds}
+use Rattle.state_model.specs.Kept.{kept_of, with_kept}
 use Rattle.saved_model.specs.Step.{OfBundle, OfStream, Steps, Refuses, known_of}
-use Rattle.saved_model.specs.Written.{map_text}
-use Rattle.command_model.specs.Command.{PullHg, PullGit, DumpHg, DumpGit, Map, Written, ComesTo}
+use Rattle.command_model.specs.Command.{PullHg, PullGit, Written, ComesTo}
 use Rattle.history_law.proofs.States.{slot-one}
 use Rattle.pair_state.specs.declared.state.State.{State}
 use Rattle.pull_outcome.specs.declared.refused.PullFault.{PullFault}
@@ -26,10 +23,9 @@ use Rattle.state_law.specs.Left.{StateIsLeft}
 use Rattle.pull_engine.specs.declared.pulled.Pulled.{Pulled}
 use Rattle.bridge_cli.specs.Over.{Over}
 use Rattle.bridge_cli.specs.Fetched.{IsFetched}
-use Rattle.bridge_cli.specs.Makes.{IsTextOf, IsNextText, IsEndOf, Makes, EndCause, FetchEndCause}
+use Rattle.bridge_cli.specs.Makes.{IsTextOf, IsNextText, IsEndOf, EndCause, FetchEndCause}
 use Rattle.bridge_cli.specs.Report.{pull_report}
 use Rattle.bridge_cli.specs.Steps.{StepsOf}
-use Rattle.bridge_cli.specs.declared.work.Work.{Work}
 
 -- ---- pulls
 
@@ -150,31 +146,6 @@ pub no-git-steps : (input : Option Bytes) (slot : Option (Option Bytes)) (n : �
 no-git-steps None slot n = (omega arith, tt)
 no-git-steps (Some bytes) None n = (omega arith, tt)
 no-git-steps (Some bytes) (Some held) n = (omega arith, λ s begins. inl refl)
-
--- ---- dumps and the map: over the saved state alone
-
-module _ (slot : Option (Option Bytes)) (s : State) (w : Work) (bytes : Vec ℕ) (fetched : IsFetched slot s) (same : w.output ≡ bytes) (none : w.text ≡ None) where
-  -- the output is what is written of the saved state
-  pub written : (made : model.State → Bytes) → ((m : model.State) → IsReadState s m → bytes.items ≡ made m)
-      → IfSome slot (λ held. (m : model.State) × SlotHolds held m × ((saved : Option model.State) × (Written (made m) None ≡ Written w.output.items saved) × IsTextOf saved w.text))
-  written made told = by slot fetched
-    where
-      by : (slot : Option (Option Bytes)) → IsFetched slot s
-          → IfSome slot (λ held. (m : model.State) × SlotHolds held m × ((saved : Option model.State) × (Written (made m) None ≡ Written w.output.items saved) × IsTextOf saved w.text))
-      by None fetched = tt
-      by (Some held) (m, read, are, holds) =
-          let is : made m ≡ w.output.items = sym (told m read) ∙ ap (λ (v : Vec ℕ). v.items) (sym same) in
-          (m, holds, (None, ap (λ (o : Bytes). Written o None) is, subst (IsTextOf None) (sym none) tt))
-
-  pub dump-hg-makes : (input : Option Bytes) → ((m : model.State) → Stands s m → bytes.items ≡ hg_dump (changesets_in m.blocks)) → Makes DumpHg input input slot (Ok w)
-  dump-hg-makes input told = (tt, written (λ m. hg_dump (changesets_in m.blocks)) (λ m read. told m read.stands))
-
-  pub dump-git-makes : (input : Option Bytes) → ((m : model.State) → Stands s m → bytes.items ≡ git_dump (commits_in m.blocks) ++ stream_text m.tags) → Makes DumpGit input input slot (Ok w)
-  dump-git-makes input told = (tt, written (λ m. git_dump (commits_in m.blocks) ++ stream_text m.tags) (λ m read. told m read.stands))
-
-  pub map-makes : (input : Option Bytes) (empty : Bytes) → empty ≡ [] → ((m : model.State) → Stands s m → bytes.items ≡ empty ++ map_text m.blocks) → Makes Map input input slot (Ok w)
-  map-makes input empty nothing told =
-      (tt, written (λ m. map_text m.blocks) (λ m read. told m read.stands ∙ ap (λ (e : Bytes). e ++ map_text m.blocks) nothing))
 
 -- ---- counts of faults
 

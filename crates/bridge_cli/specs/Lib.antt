@@ -7,6 +7,7 @@ pub mod Outside
 pub mod Report
 pub mod Status
 pub mod Sides
+pub mod Printed
 pub mod Steps
 pub mod Fetched
 pub mod Complete

@@ -9,6 +9,7 @@ mod line;
 mod made;
 mod names;
 mod output;
+mod printed;
 mod report;
 mod saved;
 mod status;

@@ -1,15 +1,14 @@
-// The commands on names.
-ghost use Rattle.std.specs.Prelude.{◌≡◌, ℕ, Option};
-ghost use Rattle.text_model.specs.Text.{Bytes};
+// The commands that set names.
+ghost use Rattle.std.specs.Prelude.{◌≡◌};
 ghost use Rattle.bridge_cli.specs.Makes.{LeavesCount, LeavesSlotCount, Makes};
-ghost use Rattle.bridge_cli.specs.Sides.{set_command, names_command};
+ghost use Rattle.bridge_cli.specs.Sides.{set_command};
 
 use crate::fetch::fetch_state;
 use crate::report::Report;
 use crate::saved::text_of;
 use crate::work::Work;
 use bridge_io::{Slot, Source};
-use name_engine::{Side, names_text, set_names};
+use name_engine::{Side, set_names};
 use std::alloc::Global;
 use std::mem::forget;
 
@@ -34,17 +33,4 @@ pub fn names_of_text<I: Source, K: Slot>(
         output: Vec::new(alloc),
         text: Some(text),
     })
-}
-
-/// The text of the saved names, as a side has them.
-pub fn text_of_names<K: Slot>(alloc: Global, side: Side, slot: &mut K) -> Result<Work, Report>
-    ensures makes { (input : Option Bytes) → Makes (names_command side) input input (K.held slot.old) result }
-    ensures input { (faults : ℕ) → LeavesCount faults faults result }
-    ensures held { K.held slot.new ≡ K.held slot.old }
-    ensures slot { LeavesSlotCount (K.faults slot.old) (K.faults slot.new) result }
-{
-    let state = fetch_state(alloc, slot, &mut Vec::new(alloc))?;
-    let bytes = names_text(&state, side)?;
-    forget(state);
-    Ok(Work::of(bytes))
 }

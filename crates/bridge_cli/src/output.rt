@@ -9,11 +9,10 @@ ghost use Rattle.bridge_cli.specs.Steps.{StepsOf};
 use crate::audit::audit_of_history;
 use crate::counts::{object_counts, revision_counts};
 use crate::made::counts_of_made;
-use crate::names::{names_of_text, text_of_names};
+use crate::names::names_of_text;
+use crate::printed::{Printed, printed_work};
 use crate::report::Report;
-use crate::saved::{
-    bundle_of_history, changesets_of_stream, commits_of_bundle, map_of_history, stream_of_history,
-};
+use crate::saved::{changesets_of_stream, commits_of_bundle};
 use crate::words::Command;
 use crate::work::Work;
 use bridge_io::{Slot, Source, Steps};
@@ -49,13 +48,13 @@ pub fn work_of<I: Source, K: Slot, L: Ledger>(
         Command::CheckGit => Ok(Work::of(stream_counts(alloc, input)?)),
         Command::PullHg => commits_of_bundle(alloc, input, slot, steps),
         Command::PullGit => changesets_of_stream(alloc, input, slot, steps),
-        Command::DumpHg => bundle_of_history(alloc, slot),
-        Command::DumpGit => stream_of_history(alloc, slot),
-        Command::Map => map_of_history(alloc, slot),
+        Command::DumpHg => printed_work(alloc, Printed::Bundle, slot),
+        Command::DumpGit => printed_work(alloc, Printed::Stream, slot),
+        Command::Map => printed_work(alloc, Printed::Map, slot),
         Command::SetNamesHg => names_of_text(alloc, Side::Hg, input, slot),
         Command::SetNamesGit => names_of_text(alloc, Side::Git, input, slot),
-        Command::NamesHg => text_of_names(alloc, Side::Hg, slot),
-        Command::NamesGit => text_of_names(alloc, Side::Git, slot),
+        Command::NamesHg => printed_work(alloc, Printed::Names(Side::Hg), slot),
+        Command::NamesGit => printed_work(alloc, Printed::Names(Side::Git), slot),
         Command::Verify => audit_of_history(alloc, slot, steps),
         Command::Make { n, seed } => counts_of_made(alloc, n, seed, steps),
     }

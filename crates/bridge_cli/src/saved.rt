@@ -1,6 +1,5 @@
-// The commands over a saved state.
-ghost use Rattle.std.specs.Prelude.{◌≡◌, ℕ, Option, IfOk};
-ghost use Rattle.text_model.specs.Text.{Bytes};
+// The pulls into a saved state.
+ghost use Rattle.std.specs.Prelude.{◌≡◌, IfOk};
 ghost use Rattle.command_model.specs.Command as model;
 ghost use Rattle.state_model.specs.Kept as saved;
 ghost use Rattle.state_model.specs.Saved.{IsState, IsStateText};
@@ -15,7 +14,7 @@ use bridge_io::{Slot, Source, Steps};
 use bridge_text::NoMemory;
 use pair_state::State;
 use pull_engine::{Pulled, pull_git, pull_hg};
-use state_text::{dump_git, dump_hg, map_into, write_into};
+use state_text::write_into;
 use std::alloc::Global;
 use std::mem::forget;
 use std::sync::ledger::Ledger;
@@ -56,46 +55,6 @@ pub fn changesets_of_stream<I: Source, K: Slot, L: Ledger>(
     let state = fetch_state(alloc, slot, &mut room)?;
     let pulled = pull_git(state, input, steps)?;
     Ok(saved_work(pulled, room)?)
-}
-
-/// The bundle of the whole history.
-pub fn bundle_of_history<K: Slot>(alloc: Global, slot: &mut K) -> Result<Work, Report>
-    ensures makes { (input : Option Bytes) → Makes model.DumpHg input input (K.held slot.old) result }
-    ensures input { (faults : ℕ) → LeavesCount faults faults result }
-    ensures held { K.held slot.new ≡ K.held slot.old }
-    ensures slot { LeavesSlotCount (K.faults slot.old) (K.faults slot.new) result }
-{
-    let state = fetch_state(alloc, slot, &mut Vec::new(alloc))?;
-    let bytes = dump_hg(&state)?;
-    forget(state);
-    Ok(Work::of(bytes))
-}
-
-/// The stream of the whole history, with its tags.
-pub fn stream_of_history<K: Slot>(alloc: Global, slot: &mut K) -> Result<Work, Report>
-    ensures makes { (input : Option Bytes) → Makes model.DumpGit input input (K.held slot.old) result }
-    ensures input { (faults : ℕ) → LeavesCount faults faults result }
-    ensures held { K.held slot.new ≡ K.held slot.old }
-    ensures slot { LeavesSlotCount (K.faults slot.old) (K.faults slot.new) result }
-{
-    let state = fetch_state(alloc, slot, &mut Vec::new(alloc))?;
-    let bytes = dump_git(&state)?;
-    forget(state);
-    Ok(Work::of(bytes))
-}
-
-/// The ids of each commit and its changeset.
-pub fn map_of_history<K: Slot>(alloc: Global, slot: &mut K) -> Result<Work, Report>
-    ensures makes { (input : Option Bytes) → Makes model.Map input input (K.held slot.old) result }
-    ensures input { (faults : ℕ) → LeavesCount faults faults result }
-    ensures held { K.held slot.new ≡ K.held slot.old }
-    ensures slot { LeavesSlotCount (K.faults slot.old) (K.faults slot.new) result }
-{
-    let state = fetch_state(alloc, slot, &mut Vec::new(alloc))?;
-    let mut lines = Vec::new(alloc);
-    map_into(&state, &mut lines)?;
-    forget(state);
-    Ok(Work::of(lines))
 }
 
 // What an accepted pull is to write, and the text of its next state, which is written into the room of the old one's. The state keeps its memory

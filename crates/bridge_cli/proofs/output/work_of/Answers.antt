@@ -49,19 +49,19 @@ returns-in_ok-stream_counts-in-CheckGit-clause-makes g c =
     rw c.in-CheckGit.is makes
 
 pub returns-in-DumpHg-clause-input : goal.returns-in-DumpHg-clause-input
-returns-in-DumpHg-clause-input g c = c.bundle_of_history.ensures.input (g.I.Source.faults c.args.input.now)
+returns-in-DumpHg-clause-input g c = c.printed_work.ensures.input (g.I.Source.faults c.args.input.now)
 
 pub returns-in-DumpGit-clause-input : goal.returns-in-DumpGit-clause-input
-returns-in-DumpGit-clause-input g c = c.stream_of_history.ensures.input (g.I.Source.faults c.args.input.now)
+returns-in-DumpGit-clause-input g c = c.printed_work-in-DumpGit.ensures.input (g.I.Source.faults c.args.input.now)
 
 pub returns-in-Map-clause-input : goal.returns-in-Map-clause-input
-returns-in-Map-clause-input g c = c.map_of_history.ensures.input (g.I.Source.faults c.args.input.now)
+returns-in-Map-clause-input g c = c.printed_work-in-Map.ensures.input (g.I.Source.faults c.args.input.now)
 
 pub returns-in-NamesHg-clause-input : goal.returns-in-NamesHg-clause-input
-returns-in-NamesHg-clause-input g c = c.text_of_names.ensures.input (g.I.Source.faults c.args.input.now)
+returns-in-NamesHg-clause-input g c = c.printed_work-in-NamesHg.ensures.input (g.I.Source.faults c.args.input.now)
 
 pub returns-in-NamesGit-clause-input : goal.returns-in-NamesGit-clause-input
-returns-in-NamesGit-clause-input g c = c.text_of_names-in-NamesGit.ensures.input (g.I.Source.faults c.args.input.now)
+returns-in-NamesGit-clause-input g c = c.printed_work-in-NamesGit.ensures.input (g.I.Source.faults c.args.input.now)
 
 pub returns-in-Verify-clause-input : goal.returns-in-Verify-clause-input
 returns-in-Verify-clause-input g c = c.audit_of_history.ensures.input (g.I.Source.faults c.args.input.now)

@@ -1,10 +1,10 @@
 use Rattle.std.proofs.Common.{refl}
 use Rattle.std.proofs.lemmas.Result.{err_from_is_err_and}
-use Rattle.bridge_cli.proofs.SavedLemmas.{dump-git-makes}
-use Rattle.bridge_cli.proofs.saved.stream_of_history.Goals as goal
+use Rattle.bridge_cli.proofs.PrintedLemmas.{print-makes, print-unfetched}
+use Rattle.bridge_cli.proofs.printed.printed_work.Goals as goal
 
-pub dump_git-requires : goal.dump_git-requires
-dump_git-requires g c =
+pub print-requires : goal.print-requires
+print-requires g c =
     let f = c.in_ok-state.ensures.state in
     record { stands = (f.0, (f.1).stands) }
 
@@ -25,4 +25,9 @@ returns-in_err-bytes-clause-slot g c =
 
 pub returns-clause-makes : goal.returns-clause-makes
 returns-clause-makes g c = λ input.
-    dump-git-makes (g.K.Slot.held c.args.slot.now) c.in_ok-state.state _ _ c.in_ok-state.ensures.state c.of.ensures.output c.of.ensures.text input c.in_ok-bytes.ensures
+    print-makes (g.K.Slot.held c.args.slot.now) c.in_ok-state.state _ _ c.in_ok-state.ensures.state c.of.ensures.output c.of.ensures.text input c.args.printed c.in_ok-bytes.ensures
+
+pub returns-in_err-state-clause-makes : goal.returns-in_err-state-clause-makes
+returns-in_err-state-clause-makes g c = λ input.
+    let p = err_from_is_err_and c.from_residual.result c.from_residual.ensures.1 in
+    rw (p.1, p.2) (print-unfetched c.args.printed input (g.K.Slot.held c.args.slot.now) c.in_err-state.field-0.0 c.in_err-state.ensures.state)
