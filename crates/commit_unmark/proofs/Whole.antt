@@ -1,5 +1,8 @@
 -- The tests of a named changeset are those that the laws ask for.
-use Rattle.std.proofs.Common.{◌≡◌, ◌≤◌, List, [], ◌∷◌, length, map, Some, refl, sym, ap, subst, ◌∙◌}
+use Rattle.std.proofs.Common.{◌≡◌, ◌≤◌, Bool, true, false, true≢false, List, [], ◌∷◌, length, map, Option, Some, None, refl, sym, ap, subst, ◌∙◌}
+use Rattle.std.specs.Prelude.{◌↔◌, IsTrue, MatchOption}
+use Rattle.text_model.specs.Text.{Bytes}
+use Rattle.text_model.proofs.Options.{some_is}
 use Rattle.git_model.specs.Commit.{Commit}
 use Rattle.git_model.specs.Residue.{carried, plain_file, plain_files}
 use Rattle.git_model.specs.Unfold.{FileRow}
@@ -21,12 +24,16 @@ use Rattle.unmark_law.proofs.CommitOne.{headers_are}
 use Rattle.unmark_law.proofs.ChangesetOne.{file_rows}
 use Rattle.unmark_law.proofs.TreeRows.{files_of, plain_row, among_joined}
 use Rattle.filled_law.specs.Fillings.{IsNarrow, IsFilledRight}
-use Rattle.filled_law.proofs.Right.{IsNamed, over-two, files-are, files-plain}
-use Rattle.pair_known.specs.Over.{IsCommitOver}
+use Rattle.filled_law.proofs.Filled.{filled-is, unmarking-is_right}
+use Rattle.filled_law.proofs.Right.{IsNamed, over-two, files-are, files-plain, named-parts, own-paired, right-is_unmarking}
+use Rattle.pair_known.specs.Over.{IsCommitOver, IsChangesetOver}
+use Rattle.pair_known.specs.Ruled.{IsMadeChangeset}
 use Rattle.pair_known.specs.declared.known.Known.{Known}
 use Rattle.pair_known.specs.declared.git_draft.GitDraft.{GitDraft}
+use Rattle.pair_known.specs.declared.hg_draft.HgDraft.{HgDraft}
+use Rattle.commit_rule.proofs.Tables.{table}
 use Rattle.plain_rule.specs.CommitHead.{first_partner, handed_to}
-use Rattle.commit_unmark.specs.Changesets.{IsRight}
+use Rattle.commit_unmark.specs.Changesets.{NamesNoChangeset, NamesChangeset, IsRight}
 
 -- the marks of an unmarking are those of the commit
 pub own-list : (blocks : List Block) (c : CommitView) (h : ChangesetView) → UnmarksCommit blocks c h → AreHeadersOf (c.value).headers (commit_marks (parents_of_changeset blocks h) h)
@@ -71,3 +78,51 @@ module _ (blocks : List Block) (t : IsTable blocks) (c : CommitView) (h : Change
     committer = (r.head).committer;
     message = sym (message_of-description_of (c.value).message (r.head).message) ∙ ap message_of (sym description);
   }
+
+-- ---- what the marks that are read name
+
+module _ (k : Known) (blocks : List Block) (d : GitDraft) (c : CommitView) (over : IsCommitOver k blocks d c) (few : length (d.commit).parents ≤ 2) (headers : Bytes) (same : headers ≡ (d.commit).headers)
+    (read : Option (List Mark)) (marks : List Mark) (read-is : read ≡ Some marks) (lists : MatchOption read ((ms : List Mark) → AreHeadersOf headers ms → ⊥) (λ ms. AreHeadersOf headers ms))
+    (found : Option HgDraft) (names : MatchOption found (NamesNoChangeset blocks c marks) (NamesChangeset k.hg blocks c marks)) where
+  t : IsTable blocks
+  t = table k blocks over.history
+
+  listed : AreHeadersOf (c.value).headers marks
+  listed =
+      subst (λ (x : Bytes). AreHeadersOf x marks) (same ∙ ap (λ (x : Commit). x.headers) (sym over.draft.value))
+      (subst (λ (o : Option (List Mark)). MatchOption o ((ms : List Mark) → AreHeadersOf headers ms → ⊥) (λ ms. AreHeadersOf headers ms)) read-is lists)
+
+  narrow : IsNarrow blocks c
+  narrow = narrow-of k blocks d c over few
+
+  names-are : (o : Option HgDraft) → found ≡ o → MatchOption o (NamesNoChangeset blocks c marks) (NamesChangeset k.hg blocks c marks)
+  names-are o is = subst (λ (x : Option HgDraft). MatchOption x (NamesNoChangeset blocks c marks) (NamesChangeset k.hg blocks c marks)) is names
+
+  pub no-answer : found ≡ None → (h : ChangesetView) → ¬ (UnmarksCommit blocks c h)
+  no-answer is h u = names-are None is h (filled-is blocks t c h marks listed u) u.view
+
+  module _ (made : HgDraft) (is : found ≡ Some made) where
+    some : NamesChangeset k.hg blocks c marks made
+    some = names-are (Some made) is
+
+    its : IsNamed blocks c some.0 marks
+    its = named-parts blocks c some.0 marks some.1
+
+    some-over : IsChangesetOver k blocks made some.0
+    some-over = record { inside = record { history = over.history; draft = (some.3).draft; view = some.2 }; parents = own-paired blocks t c some.0 marks narrow listed its }
+
+    pub named-over : (h : ChangesetView) × IsChangesetOver k blocks made h
+    named-over = (some.0, some-over)
+
+    -- where the test tells whether it is right
+    module _ (test : Bool) (tests : (h : ChangesetView) → IsCommitOver k blocks d c → IsChangesetOver k blocks made h → IsTrue test ↔ IsRight blocks c h) where
+      pub wrong-answer : test ≡ false → (h : ChangesetView) → ¬ (UnmarksCommit blocks c h)
+      wrong-answer off h u =
+          let same-view : h ≡ some.0 = some_is (sym (filled-is blocks t c h marks listed u) ∙ some.1) in
+          let asked = unmarking-is_right blocks t c some.0 marks listed (subst (λ (x : ChangesetView). UnmarksCommit blocks c x) same-view u) narrow in
+          true≢false (sym ((tests some.0 over some-over).1 (right-of blocks t c some.0 marks narrow listed its asked)) ∙ off)
+
+      pub right-answer : test ≡ true → (h : ChangesetView) × UnmarksCommit blocks c h × IsMadeChangeset k.hg made h
+      right-answer on =
+          let right = (tests some.0 over some-over).0 on in
+          (some.0, right-is_unmarking blocks t c some.0 marks narrow listed (asked-of blocks t c some.0 marks narrow listed its some.1 some.2 right), some.3)
