@@ -5,8 +5,8 @@ ghost use Rattle.saved_model.specs.Written.{count_line};
 ghost use Rattle.bridge_cli.specs.Counts.{arrival_counts, stream_counts};
 
 use bridge_text::{Kind, NoMemory, decimal_into};
-use git_batch::ObjectArrivals;
-use hg_bundle::{Arrivals, RevKind};
+use git_batch::{ObjectArrivals, count_objects};
+use hg_bundle::{Arrivals, RevKind, count_entries};
 use std::alloc::Global;
 
 /// How many changesets, manifests and file revisions a bundle brought, a line each.
@@ -17,14 +17,18 @@ pub fn revision_counts(alloc: Global, arrivals: &Arrivals) -> Result<Vec<u8>, No
     put_count(
         &mut lines,
         b"changesets",
-        arrivals.count(RevKind::Changeset) as u64,
+        count_entries(arrivals, RevKind::Changeset) as u64,
     )?;
     put_count(
         &mut lines,
         b"manifests",
-        arrivals.count(RevKind::Manifest) as u64,
+        count_entries(arrivals, RevKind::Manifest) as u64,
     )?;
-    put_count(&mut lines, b"files", arrivals.count(RevKind::File) as u64)?;
+    put_count(
+        &mut lines,
+        b"files",
+        count_entries(arrivals, RevKind::File) as u64,
+    )?;
     Ok(lines)
 }
 
@@ -33,10 +37,26 @@ pub fn object_counts(alloc: Global, arrivals: &ObjectArrivals) -> Result<Vec<u8>
     ensures { IfOk result (λ lines. lines.items ≡ stream_counts arrivals.now) }
 {
     let mut lines = Vec::new(alloc);
-    put_count(&mut lines, b"commits", arrivals.count(Kind::Commit) as u64)?;
-    put_count(&mut lines, b"trees", arrivals.count(Kind::Tree) as u64)?;
-    put_count(&mut lines, b"blobs", arrivals.count(Kind::Blob) as u64)?;
-    put_count(&mut lines, b"tags", arrivals.count(Kind::Tag) as u64)?;
+    put_count(
+        &mut lines,
+        b"commits",
+        count_objects(arrivals, Kind::Commit) as u64,
+    )?;
+    put_count(
+        &mut lines,
+        b"trees",
+        count_objects(arrivals, Kind::Tree) as u64,
+    )?;
+    put_count(
+        &mut lines,
+        b"blobs",
+        count_objects(arrivals, Kind::Blob) as u64,
+    )?;
+    put_count(
+        &mut lines,
+        b"tags",
+        count_objects(arrivals, Kind::Tag) as u64,
+    )?;
     Ok(lines)
 }
 

@@ -17,7 +17,7 @@ mod read;
 mod reader;
 mod stream_fault;
 
-pub use arrival::{ObjectArrival, ObjectArrivals};
+pub use arrival::{ObjectArrival, ObjectArrivals, commit_ids, count_objects};
 pub use fault::BatchFault;
 pub use laws::{stream_laws, stream_reading_laws};
 pub use listing::list;

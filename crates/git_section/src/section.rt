@@ -4,7 +4,7 @@ ghost use Rattle.git_model.specs.Stream.{stream_reading};
 ghost use Rattle.git_section.specs.Sections.{IsRead};
 
 use bridge_text::{IdList, NoMemory};
-use git_batch::{StreamFault, read_into};
+use git_batch::{StreamFault, commit_ids, read_into};
 use git_store::GitStore;
 use state_part::Part;
 use std::alloc::Global;
@@ -26,7 +26,7 @@ pub fn read_section(alloc: Global, bytes: &[u8]) -> Result<Option<GitSection>, N
     match read_into(alloc, &mut source, GitStore::new(alloc)) {
         Ok((store, came)) => {
             store.check();
-            let ids = came.commit_ids(alloc)?;
+            let ids = commit_ids(alloc, &came)?;
             Ok(Some(GitSection { store, ids }))
         }
         Err(StreamFault::Refused(_)) => Ok(None),

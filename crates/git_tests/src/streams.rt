@@ -1,7 +1,7 @@
 // Streams that are read into a store.
 use bridge_io::MemSource;
 use bridge_text::{Fault, Id, IdList, Kind, Refusal};
-use git_batch::{ObjectArrivals, StreamFault, read_into};
+use git_batch::{ObjectArrivals, StreamFault, commit_ids, count_objects, read_into};
 use git_store::GitStore;
 use std::alloc::Global;
 use std::test::Fail;
@@ -57,10 +57,10 @@ fn are_all(arrivals: &ObjectArrivals) -> bool {
         && arrivals.as_slice().iter().zip(OBJECTS).all(|(arrival, (digits, kind, at))| {
             arrival.id.hex().as_slice() == *digits && arrival.kind == *kind && arrival.at == *at
         })
-        && arrivals.count(Kind::Blob) == 1
-        && arrivals.count(Kind::Tree) == 2
-        && arrivals.count(Kind::Commit) == 2
-        && arrivals.count(Kind::Tag) == 1
+        && count_objects(arrivals, Kind::Blob) == 1
+        && count_objects(arrivals, Kind::Tree) == 2
+        && count_objects(arrivals, Kind::Commit) == 2
+        && count_objects(arrivals, Kind::Tag) == 1
         && arrivals.at(4).kind == Kind::Commit
 }
 
@@ -77,7 +77,7 @@ fn is_read(alloc: Global, cut: usize, commit: &Id) -> Result<bool, Fail> {
     let mut src = source(alloc, STREAM, cut, &[])?;
     match read_into(alloc, &mut src, GitStore::new(alloc)) {
         Ok((store, arrivals)) => {
-            let commits = arrivals.commit_ids(alloc)?;
+            let commits = commit_ids(alloc, &arrivals)?;
             Ok(are_all(&arrivals) && store.commit(commit).is_some() && is_last(&commits, commit))
         }
         Err(_) => Ok(false),

@@ -11,7 +11,7 @@ mod listing;
 mod place;
 mod read;
 
-pub use arrival::{Arrival, Arrivals, RevKind};
+pub use arrival::{Arrival, Arrivals, RevKind, count_entries};
 pub use fault::BundleFault;
 pub use hg_dump::write;
 pub use laws::bundles_are_listed;

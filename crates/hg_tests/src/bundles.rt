@@ -1,7 +1,7 @@
 // Whole bundles that are read into a store. Nodes, deltas and offsets were made by Python's hashlib and struct.
 use bridge_io::MemSource;
 use bridge_text::{Fault, Id, Refusal};
-use hg_bundle::{Arrival, Arrivals, BundleFault, RevKind, read_into};
+use hg_bundle::{Arrival, Arrivals, BundleFault, RevKind, count_entries, read_into};
 use hg_store::HgStore;
 use std::alloc::Global;
 use std::test::Fail;
@@ -161,9 +161,9 @@ fn have_counts(arrivals: &Arrivals) -> bool {
     arrivals.len() == 9
         && !arrivals.is_empty()
         && arrivals.at(1).at == 159
-        && arrivals.count(RevKind::Changeset) == 4
-        && arrivals.count(RevKind::Manifest) == 1
-        && arrivals.count(RevKind::File) == 4
+        && count_entries(arrivals, RevKind::Changeset) == 4
+        && count_entries(arrivals, RevKind::Manifest) == 1
+        && count_entries(arrivals, RevKind::File) == 4
 }
 
 // The text of a changeset or a manifest, or of the file `a`.

@@ -11,7 +11,7 @@ ghost use Rattle.pull_stream.specs.Ready.{IsReady, IsInOrder, LacksParent, HasPl
 
 use crate::place::first_place;
 use bridge_text::{IdList, IdSet};
-use git_batch::ObjectArrivals;
+use git_batch::{ObjectArrivals, commit_ids};
 use git_store::{GitStore, OrderFault};
 use pair_state::StateParts;
 use pull_outcome::{Fault, PullFault, Refusal};
@@ -27,7 +27,7 @@ pub fn order_commits(state: &StateParts, came: &ObjectArrivals) -> Result<IdList
     ensures names { IfErr result IsOfPullGit }
 {
     let alloc = state.alloc;
-    let commits = came.commit_ids(alloc)?;
+    let commits = commit_ids(alloc, came)?;
     match order_over(alloc, &state.known.git, &commits, &state.commits) {
         Ok(ordered) => Ok(ordered),
         Err(fault) => Err(refusal_of(came, fault)),

@@ -5,11 +5,10 @@ ghost use Rattle.pair_model.specs.Octopus.{is_link_view};
 ghost use Rattle.state_model.specs.Saved.{links_lead};
 ghost use Rattle.state_text.specs.Heads.{AreHeldAt, heads_of};
 
-use bridge_text::{Id, IdList, LINK_LIMIT, NoMemory};
+use bridge_text::{Id, LINK_LIMIT, List, NoMemory};
 use hg_store::HgStore;
 use link_rule::is_link;
 use std::alloc::Global;
-use std::marker::Model;
 
 /// A changeset that is no link, with the number of the links just before it.
 #[derive(Clone, Copy, Debug, PartialEq, Eq)]
@@ -21,44 +20,7 @@ pub struct Head {
 }
 
 /// A list of changesets that are no links. Contracts see the list.
-#[derive(Debug, Drop)]
-pub struct Heads {
-    items: Vec<Head>,
-}
-
-impl Model for Heads {
-    ghost use Rattle.std.specs.Prelude.{List};
-    ghost use Rattle.state_text.specs.declared.heads.Head.{Head};
-
-    ghost Value = { List Head };
-
-    ghost view = { λ heads. heads.items.items };
-}
-
-impl Heads {
-    // The empty list.
-    fn new(alloc: Global) -> Heads
-        ensures { result ≡ [] }
-    {
-        Heads {
-            items: Vec::new(alloc),
-        }
-    }
-
-    // Puts one at the end.
-    fn push(&mut self, item: Head) -> Result<(), NoMemory>
-        ensures { IfOk result (λ _. self.new ≡ self.old ++ item ∷ []) }
-    {
-        Ok(self.items.push(item)?)
-    }
-
-    /// The whole list.
-    pub fn as_slice(&self) -> &[Head]
-        ensures { result.now ≡ self.now }
-    {
-        self.items.as_slice()
-    }
-}
+pub type Heads = List<Head>;
 
 /// The changesets that are no links, each with the number of the links just before it; `None` exactly where there are too many links
 /// before one, or where links come last.

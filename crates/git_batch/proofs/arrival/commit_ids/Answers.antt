@@ -10,8 +10,8 @@ use Rattle.bridge_text.specs.Kinds.{object_kind}
 use Rattle.text_model.specs.Id.{Id, commit, same_kind}
 use Rattle.git_batch.specs.declared.arrival.ObjectArrival.{ObjectArrival}
 use Rattle.git_batch.specs.Arrivals.{is_of, commits_among}
-use Rattle.git_batch.proofs.arrival.ObjectArrivals.commit_ids.Goals as goal
-use Rattle.git_batch.proofs.arrival.ObjectArrivals.commit_ids.Goals.{then-eq+in_ok-push, else-eq}
+use Rattle.git_batch.proofs.arrival.commit_ids.Goals as goal
+use Rattle.git_batch.proofs.arrival.commit_ids.Goals.{then-eq+in_ok-push, else-eq}
 
 is_same : (k : Kind) → sameb the_type k Commit ≡ same_kind commit (object_kind k)
 is_same Blob = refl
@@ -32,7 +32,7 @@ one_more came i a below is =
 
 pub loop-item-preserved : goal.loop-item-preserved
 loop-item-preserved c =
-    let came = c.args.self.now in
+    let came = c.args.came.now in
     let i = c.loop-item.item-index in
     let a = c.item-item.result in
     let next = one_more came i a (omega (arith, ap length c.as_slice-item-items.ensures)) (c.item-item.is ∙ ap (λ (l : List ObjectArrival). get_or l i a) c.as_slice-item-items.ensures) in

@@ -28,7 +28,7 @@ loop-node-preserved c =
       | then-not-is_link_of+in_ok-push w ↦
           let all : List Head = heads ++ record { node = node; links = n } ∷ [] in
           record {
-            so_far = subst (λ (l : List Head). IsSoFar store nodes l c.if-not-is_link_of.links (i + 1)) (sym (w.heads-is ∙ w.in_ok-push.ensures))
+            so_far = subst (λ (l : List Head). IsSoFar store nodes l c.if-not-is_link_of.links (i + 1)) (sym (w.heads-is ∙ w.in_ok-push.ensures.ok))
                 (subst (λ (k : ℕ). IsSoFar store nodes all k (i + 1)) (sym w.links-is)
                 (after-head store nodes heads n i node so_far c.loop-node-test.true c.node-item.is c.is_link_of.result c.is_link_of.ensures w.if-not-is_link_of.true));
             few = omega (arith, w.links-is);
