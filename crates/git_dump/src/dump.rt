@@ -1,17 +1,89 @@
 // The stream of commits.
 ghost use Rattle.std.specs.Prelude.{◌≡◌, ◌≤◌, ◌-◌, ◌^◌, ◌++◌, ◌↔◌, [], List, length, min, take, drop, IfOk, IsTrue, OnOk};
 ghost use Rattle.std.specs.Io.{StartsWith};
-ghost use Rattle.git_model.specs.Stream.{stream_text};
 ghost use Rattle.view_model.specs.View.{CommitView};
 ghost use Rattle.view_model.specs.Dump.{git_increment};
 ghost use Rattle.git_dump.specs.Commits.{AreWalkableCommits};
-ghost use Rattle.git_dump.specs.Walks.{objects_of};
 
 use crate::listed::{append_objects, are_objects, objects_len};
 use crate::walk::Walk;
 use bridge_text::{Id, IdList, NoMemory};
 use git_store::GitStore;
 use std::alloc::Global;
+use std::marker::Model;
+
+/// A stream that isn't written yet. The ids of its objects were collected in its order, once for its length and for its text.
+pub struct Dump<'a> {
+    store: &'a GitStore,
+    listed: IdList,
+}
+
+impl<'a> Drop for Dump<'a> {
+    fn drop(self) {
+        let Dump {
+            store: _,
+            listed: _,
+        } = self;
+    }
+}
+
+impl<'a> Model for Dump<'a> {
+    ghost use Rattle.text_model.specs.Text.{Bytes};
+    ghost use Rattle.git_model.specs.Stream.{stream_text};
+    ghost use Rattle.git_dump.specs.Walks.{objects_of};
+
+    ghost Value = { Bytes };
+
+    ghost view = { λ d. stream_text (objects_of d.store.now d.listed) };
+}
+
+impl<'a> Dump<'a> {
+    /// The stream of the commits of a list from place `from` on, as [`write`] gives it.
+    pub fn collect(
+        alloc: Global,
+        store: &'a GitStore,
+        ids: &[Id],
+        from: usize,
+    ) -> Result<Dump<'a>, NoMemory>
+        requires from { from ≤ length ids.now }
+        requires commits { (cs : List CommitView) × AreWalkableCommits store.now ids.now cs }
+        ensures { IfOk result (λ dump. (cs : List CommitView) → AreWalkableCommits store.now ids.now cs
+            → dump ≡ git_increment (take from cs) (drop from cs)) }
+    {
+        store.check();
+        let mut walk = Walk::new(alloc);
+        walk.visit_commits(store, &ids[..from])?;
+        walk.listed = IdList::new(alloc);
+        walk.visit_commits(store, &ids[from..])?;
+        Ok(Dump {
+            store,
+            listed: walk.listed,
+        })
+    }
+
+    /// How many bytes the stream has, or 2^64 - 1 if that is less.
+    pub fn len(&self) -> u64
+        ensures { result ≡ min (length self.now) (2 ^ 64 - 1) }
+    {
+        objects_len(self.store, self.listed.as_slice())
+    }
+
+    /// Appends the stream. So much room is made at once. After want of memory what `out` was is its beginning.
+    pub fn append(&self, out: &mut Vec<u8>) -> Result<(), NoMemory>
+        ensures ok { OnOk result (out.new.items ≡ out.old.items ++ self.now) }
+        ensures front { StartsWith out.new.items out.old.items }
+    {
+        out.reserve(self.len() as usize)?;
+        append_objects(out, self.store, self.listed.as_slice())
+    }
+
+    // Whether these bytes are the stream. It is not written.
+    fn is_text(&self, bytes: &[u8]) -> bool
+        ensures { IsTrue result ↔ (bytes.now ≡ self.now) }
+    {
+        are_objects(self.store, self.listed.as_slice(), bytes)
+    }
+}
 
 /// The stream of the commits of a list from place `from` on, without the objects that the commits before that place have.
 ///
@@ -29,29 +101,10 @@ pub fn write(
     ensures { IfOk result (λ bytes. (cs : List CommitView) → AreWalkableCommits store.now order.now cs
         → bytes.items ≡ git_increment (take from cs) (drop from cs)) }
 {
+    let dump = Dump::collect(alloc, store, order.as_slice(), from)?;
     let mut out = Vec::new(alloc);
-    append(alloc, &mut out, store, order, from)?;
+    dump.append(&mut out)?;
     Ok(out)
-}
-
-/// Appends the same stream. Its length is counted first, and so much room is made at once. After want of memory what `out`
-/// was is its beginning.
-pub fn append(
-    alloc: Global,
-    out: &mut Vec<u8>,
-    store: &GitStore,
-    order: &IdList,
-    from: usize,
-) -> Result<(), NoMemory>
-    requires from { from ≤ length order.now }
-    requires commits { (cs : List CommitView) × AreWalkableCommits store.now order.now cs }
-    ensures ok { OnOk result ((cs : List CommitView) → AreWalkableCommits store.now order.now cs
-        → out.new.items ≡ out.old.items ++ git_increment (take from cs) (drop from cs)) }
-    ensures front { StartsWith out.new.items out.old.items }
-{
-    let listed = listed_from(alloc, store, order.as_slice(), from)?;
-    out.reserve(objects_len(store, listed.as_slice()) as usize)?;
-    append_objects(out, store, listed.as_slice())
 }
 
 /// How many bytes the stream of all commits of a list has, or 2^64 - 1 if that is less. The stream is not written.
@@ -60,8 +113,7 @@ pub fn written_len(alloc: Global, store: &GitStore, order: &[Id]) -> Result<u64,
     ensures { IfOk result (λ len. (cs : List CommitView) → AreWalkableCommits store.now order.now cs
         → len ≡ min (length (git_increment [] cs)) (2 ^ 64 - 1)) }
 {
-    let listed = listed_from(alloc, store, order, 0)?;
-    Ok(objects_len(store, listed.as_slice()))
+    Ok(Dump::collect(alloc, store, order, 0)?.len())
 }
 
 /// Whether these bytes are exactly the stream of all commits of a list. The stream is not written: each object is compared
@@ -76,21 +128,5 @@ pub fn is_stream(
     ensures { IfOk result (λ is. (cs : List CommitView) → AreWalkableCommits store.now order.now cs
         → IsTrue is ↔ (bytes.now ≡ git_increment [] cs)) }
 {
-    let listed = listed_from(alloc, store, order, 0)?;
-    Ok(are_objects(store, listed.as_slice(), bytes))
-}
-
-// The ids of the objects of the stream of a list's commits from a place on, in the stream's order.
-fn listed_from(alloc: Global, store: &GitStore, ids: &[Id], from: usize) -> Result<IdList, NoMemory>
-    requires from { from ≤ length ids.now }
-    requires commits { (cs : List CommitView) × AreWalkableCommits store.now ids.now cs }
-    ensures { IfOk result (λ listed. (cs : List CommitView) → AreWalkableCommits store.now ids.now cs
-        → stream_text (objects_of store.now listed) ≡ git_increment (take from cs) (drop from cs)) }
-{
-    store.check();
-    let mut walk = Walk::new(alloc);
-    walk.visit_commits(store, &ids[..from])?;
-    walk.listed = IdList::new(alloc);
-    walk.visit_commits(store, &ids[from..])?;
-    Ok(walk.listed)
+    Ok(Dump::collect(alloc, store, order, 0)?.is_text(bytes))
 }

@@ -8,5 +8,5 @@ mod length;
 mod listed;
 mod walk;
 
-pub use dump::{append, is_stream, write, written_len};
+pub use dump::{Dump, is_stream, write, written_len};
 pub use length::len_at;

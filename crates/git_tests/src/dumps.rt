@@ -4,7 +4,7 @@ ghost use Rattle.git_dump.specs.Commits.{IsWalkableCommit, AreWalkableCommits};
 
 // Streams of what a store has.
 use bridge_text::{Id, IdList, Kind, decimal_into, object_id};
-use git_dump::{append, is_stream, write, written_len};
+use git_dump::{Dump, is_stream, write, written_len};
 use git_store::GitStore;
 use git_view::commits_are_held;
 use std::alloc::Global;
@@ -197,8 +197,10 @@ fn is_written(rt: &impl Abort, alloc: Global, store: &GitStore, case: &Case) -> 
     let want = stream_of(alloc, want)?;
     let is_told = *from > 0 || is_told(alloc, store, order.as_slice(), want.as_slice())?;
     let mut out = b"front ".to_vec(alloc)?;
-    append(alloc, &mut out, store, &order, *from)?;
-    let is_appended = out.strip_prefix(b"front ") == Some(want.as_slice());
+    let dump = Dump::collect(alloc, store, order.as_slice(), *from)?;
+    dump.append(&mut out)?;
+    let is_appended = out.strip_prefix(b"front ") == Some(want.as_slice())
+        && dump.len() == want.len() as u64;
     Ok(bytes == want && is_appended && is_told && (*from > 0 || len == want.len() as u64))
 }
 

@@ -4,3 +4,4 @@ pub mod Referred
 pub mod Written
 pub mod State
 pub mod Refers
+pub mod Dumps

@@ -8,6 +8,7 @@ ghost use Rattle.view_model.specs.Dump.{written_bundle, hg_increment};
 ghost use Rattle.hg_dump.specs.State.{AreBrought};
 
 use crate::brought::Brought;
+use crate::dump::Dump;
 use crate::group::{put_files, put_group};
 use crate::length::bundle_len;
 use crate::strip::is_bundle;
@@ -38,28 +39,10 @@ pub fn write(
     ensures { IfOk result (λ bytes. (hs : List ChangesetView) → AreChangesetsHeld store.now order.now hs
         → bytes.items ≡ hg_increment store.now (take from hs) (drop from hs)) }
 {
+    let dump = Dump::collect(alloc, store, order.as_slice(), from)?;
     let mut out = Vec::new(alloc);
-    append(&mut out, alloc, store, order, from)?;
+    dump.append(&mut out)?;
     Ok(out)
-}
-
-/// Appends the bundle that [`write`] gives. The room for it is taken at once. After want of memory `out` begins with what it was.
-pub fn append(
-    out: &mut Vec<u8>,
-    alloc: Global,
-    store: &HgStore,
-    order: &IdList,
-    from: usize,
-) -> Result<(), NoMemory>
-    requires from { from ≤ length order.now }
-    requires held { (hs : List ChangesetView) × AreChangesetsHeld store.now order.now hs }
-    ensures ok { OnOk result ((hs : List ChangesetView) → AreChangesetsHeld store.now order.now hs
-        → out.new.items ≡ out.old.items ++ hg_increment store.now (take from hs) (drop from hs)) }
-    ensures front { StartsWith out.new.items out.old.items }
-{
-    store.check();
-    let brought = Brought::collect(alloc, store, order.as_slice(), from)?;
-    put_bundle(out, store, &brought)
 }
 
 /// Whether bytes are the bundle of all changesets of a list, as [`write`] gives it from place 0 on. The bundle is not written.
@@ -84,13 +67,11 @@ pub fn written_len(alloc: Global, store: &HgStore, order: &[Id]) -> Result<u64, 
     ensures { IfOk result (λ len. (hs : List ChangesetView) → AreChangesetsHeld store.now order.now hs
         → len ≡ min (length (hg_increment store.now [] hs)) (2 ^ 64 - 1)) }
 {
-    store.check();
-    let brought = Brought::collect(alloc, store, order, 0)?;
-    Ok(bundle_len(store, &brought))
+    Ok(Dump::collect(alloc, store, order, 0)?.len())
 }
 
-// Appends the bundle of what was brought.
-fn put_bundle(out: &mut Vec<u8>, store: &HgStore, brought: &Brought) -> Result<(), NoMemory>
+/// Appends the bundle of what was brought. The room for it is taken at once.
+pub fn put_bundle(out: &mut Vec<u8>, store: &HgStore, brought: &Brought) -> Result<(), NoMemory>
     requires { (rs : List Revision) × AreBrought store.now brought.now rs }
     ensures ok { OnOk result ((rs : List Revision) → AreBrought store.now brought.now rs → out.new.items ≡ out.old.items ++ bundle_text (written_bundle store.now rs)) }
     ensures front { StartsWith out.new.items out.old.items }

@@ -4,6 +4,7 @@
 
 mod brought;
 mod bundle;
+mod dump;
 mod entry;
 mod group;
 mod held;
@@ -12,6 +13,7 @@ mod references;
 mod refers;
 mod strip;
 
-pub use bundle::{append, is_dump, write, written_len};
+pub use bundle::{is_dump, write, written_len};
+pub use dump::Dump;
 pub use held::are_held;
 pub use refers::{Refers, lines_of};

@@ -1,6 +1,6 @@
 // Bundles of what a store has.
 use bridge_text::{Id, IdList, fit_path};
-use hg_dump::{append, are_held, is_dump, write, written_len};
+use hg_dump::{Dump, are_held, is_dump, write, written_len};
 use hg_store::{Group, HgStore};
 use std::alloc::Global;
 use std::process::Abort;
@@ -366,8 +366,10 @@ fn written(
     assert!(rt; from > 0 || len == bytes.len() as u64);
     let is_dump = is_dump(alloc, store, order, bytes.as_slice())?;
     assert!(rt; is_dump == (from == 0));
+    let dump = Dump::collect(alloc, store, order.as_slice(), from)?;
+    assert!(rt; dump.len() == bytes.len() as u64);
     let mut out = b"front ".to_vec(alloc)?;
-    append(&mut out, alloc, store, order, from)?;
+    dump.append(&mut out)?;
     assert!(rt; out.strip_prefix(b"front ") == Some(bytes.as_slice()));
     Ok(bytes)
 }

@@ -14,8 +14,8 @@ use hg_store::HgStore;
 use state_part::put_count;
 use std::alloc::Global;
 
-/// Appends the section of the bundle of these changesets. Its size is counted first, so that the bundle is written once. After want of memory
-/// what `out` was is its beginning.
+/// Appends the section of the bundle of these changesets. What it brings is collected once, for its size, which is counted first, and for its text. After
+/// want of memory what `out` was is its beginning.
 pub fn append_bundle(
     out: &mut Vec<u8>,
     alloc: Global,
@@ -27,9 +27,9 @@ pub fn append_bundle(
         → out.new.items ≡ out.old.items ++ sized (codes "hg") (hg_increment store.now [] hs)) }
     ensures front { StartsWith out.new.items out.old.items }
 {
-    let len = hg_dump::written_len(alloc, store, nodes.as_slice())?;
-    put_count(out, HG, len)?;
-    hg_dump::append(out, alloc, store, nodes, 0)?;
+    let dump = hg_dump::Dump::collect(alloc, store, nodes.as_slice(), 0)?;
+    put_count(out, HG, dump.len())?;
+    dump.append(out)?;
     out.push(b'\n')?;
     Ok(())
 }
@@ -46,9 +46,9 @@ pub fn append_stream(
         → out.new.items ≡ out.old.items ++ sized (codes "git") (git_increment [] cs)) }
     ensures front { StartsWith out.new.items out.old.items }
 {
-    let len = git_dump::written_len(alloc, store, ids.as_slice())?;
-    put_count(out, GIT, len)?;
-    git_dump::append(alloc, out, store, ids, 0)?;
+    let dump = git_dump::Dump::collect(alloc, store, ids.as_slice(), 0)?;
+    put_count(out, GIT, dump.len())?;
+    dump.append(out)?;
     out.push(b'\n')?;
     Ok(())
 }

@@ -10,7 +10,7 @@ use Rattle.git_dump.specs.Walks.{objects_of}
 use Rattle.git_dump.proofs.CommitLemmas.{commits-take, commits-drop}
 use Rattle.git_dump.proofs.OnlyNew.{listed-new}
 use Rattle.git_dump.proofs.There.{new-of, each-there}
-use Rattle.git_dump.proofs.dump.listed_from.Goals as goal
+use Rattle.git_dump.proofs.dump.Dump.collect.Goals as goal
 
 rest : (ids : List Id) (from : ℕ) → take (length ids - from) (drop from ids) ≡ drop from ids
 rest ids from = take_all (length ids - from) (drop from ids) (omega (arith, length-drop from ids))
