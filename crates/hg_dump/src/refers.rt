@@ -78,8 +78,8 @@ impl Refers {
     }
 }
 
-// The lines of the manifest of a changeset that is held.
-fn lines_of<'a>(store: &'a HgStore, node: &Id) -> &'a Manifest
+/// The lines of the manifest of a changeset that is held.
+pub fn lines_of<'a>(store: &'a HgStore, node: &Id) -> &'a Manifest
     requires held { (h : ChangesetView) × IsChangesetHeld store.now node.now h }
     ensures { (h : ChangesetView) → IsChangesetHeld store.now node.now h → map entry_of_row h.rows ≡ result.now }
 {

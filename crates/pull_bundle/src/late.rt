@@ -4,8 +4,8 @@ ghost use Rattle.std.specs.Bool.{OnTrue};
 ghost use Rattle.text_model.specs.Lists.{Each};
 ghost use Rattle.hg_model.specs.Revision.{Revision};
 ghost use Rattle.hg_manifest.specs.Values.{manifest_entry};
-ghost use Rattle.view_model.specs.View.{ChangesetView, Row, entry_of_row};
-ghost use Rattle.view_model.specs.Held.{IsFileHeld, IsChangesetHeld};
+ghost use Rattle.view_model.specs.View.{ChangesetView, Row};
+ghost use Rattle.view_model.specs.Held.{IsFileHeld};
 ghost use Rattle.view_model.specs.Dump.{revisions_in};
 ghost use Rattle.pair_model.specs.Block.{Block, changesets_in};
 ghost use Rattle.partner_model.specs.Given.{has_late_file, has_late_manifest, is_late_file, is_late_manifest};
@@ -21,9 +21,9 @@ ghost use Rattle.pull_bundle.specs.Takes.{IsTaking};
 
 use crate::taking::Taking;
 use bridge_text::Id;
-use hg_dump::Refers;
+use hg_dump::{Refers, lines_of};
 use hg_manifest::{Cursor, Manifest};
-use hg_store::{Group, HgStore};
+use hg_store::Group;
 use mark_code::ManifestRev;
 use pair_known::{HgDraft, HgRow, Known};
 use pull_outcome::{Fault, TakeFault};
@@ -73,17 +73,6 @@ fn lines_near<'a>(taking: &'a Taking, h: &HgDraft, empty: &'a Manifest) -> &'a M
     }
 }
 
-// The lines of the manifest of a changeset that is held.
-fn lines_of<'a>(store: &'a HgStore, node: &Id) -> &'a Manifest
-    requires held { (h : ChangesetView) × IsChangesetHeld store.now node.now h }
-    ensures { (h : ChangesetView) → IsChangesetHeld store.now node.now h → map entry_of_row h.rows ≡ result.now }
-{
-    match store.manifest_of_changeset(node) {
-        Some((_, manifest)) => manifest,
-        None => unreachable!(),
-    }
-}
-
 // Whether a parent of a file revision comes too late, where each of the lines that are near is in time.
 fn has_late_row(taking: &Taking, rows: &[HgRow], near: &Manifest) -> bool
     ensures { (blocks : List Block) (files : List Row) → IsTaking taking.now blocks → rows.now ≡ map row_value files → Each (IsFileHeld (taking.now.state).known.hg) files
@@ -121,8 +110,8 @@ fn is_row_late(taking: &Taking, row: &HgRow, lines: &mut Cursor<'_>) -> bool
     }
 }
 
-// Whether a line with the path and the node of a row stands in a manifest.
-fn has_line(lines: &mut Cursor<'_>, row: &HgRow) -> bool
+/// Whether a line with the path and the node of a row stands in a manifest.
+pub fn has_line(lines: &mut Cursor<'_>, row: &HgRow) -> bool
     ensures found { OnTrue result (HasLine row.now.path row.now.node lines.old) }
     ensures same { lines.new ≡ lines.old }
 {
