@@ -31,8 +31,9 @@ use Rattle.pair_state.specs.Blocks.{BlockValue}
 use Rattle.pair_state.specs.Step.{AreAsked}
 use Rattle.state_audit.specs.declared.checked.Checked.{Checked}
 use Rattle.state_audit.specs.Before.{IsBefore, HasNone, IsPartnerHere}
-use Rattle.pull_bundle.specs.Late.{RefersIn}
-use Rattle.state_audit.specs.Audited.{AreInTime, AreBodiesHeld, IsTurn}
+use Rattle.state_audit.specs.declared.seen.Seen.{Seen}
+use Rattle.state_audit.specs.Audited.{AreInTime, AreBodiesHeld, IsTurn, IsWalked}
+use Rattle.state_audit.specs.Seen.{AreSeen}
 use Rattle.state_audit.proofs.SameBodies.{ids-known, bodies-same, bodies-too}
 use Rattle.state_audit.proofs.Turns.{history, is-before, changeset-held, commit-held, walk, block-at, link-nodes}
 
@@ -92,10 +93,11 @@ module _ (s : StateParts) (place : ℕ) (ck : Checked) (m : State) (front : List
   module _ (h : HgDraft) (draft : IsHgDraft s.known.hg h v) (d : GitDraft) (c : CommitView) (here : IsPartnerHere s.known m.blocks front v d c) where
     -- ---- late parents
 
-    pub late-is : (late : Bool) → ((front : List Block) (v : ChangesetView) → RefersIn k.hg ck.referred front → AreInTime front → IsHgDraft k.hg h v → late ≡ (has_late_file front v.rows || has_late_manifest front v.manifest))
+    pub late-is : (seen : Seen) → ((front : List Block) → IsWalked k.hg ck front → AreSeen k.hg seen front) → (late : Bool)
+        → ((front : List Block) (v : ChangesetView) → AreSeen k.hg seen front → AreInTime front → IsHgDraft k.hg h v → late ≡ (has_late_file front v.rows || has_late_manifest front v.manifest))
         → (has_late_file front v.rows || has_late_manifest front v.manifest) ≡ late
-    late-is late answer =
-        sym (answer front v (subst (λ (known : Known). RefersIn known.hg ck.referred front) (sym same) (t.walked).referred) ((t.right).compared).in_time (subst (λ (known : Known). IsHgDraft known.hg h v) (sym same) draft))
+    late-is seen of late answer =
+        sym (answer front v (of front (subst (λ (known : Known). IsWalked known.hg ck front) (sym same) t.walked)) ((t.right).compared).in_time (subst (λ (known : Known). IsHgDraft known.hg h v) (sym same) draft))
 
     -- ---- the commit
 
@@ -132,11 +134,11 @@ module _ (s : StateParts) (place : ℕ) (ck : Checked) (m : State) (front : List
         blobs = ids-known s.known.git _ b.commit c v.rows (commit-held s place ck m front b rest t) made-here.view alike (here.chosen).bodies;
       })
 
-      pub bodies-are : (rows : List RowValue) → rows ≡ h.rows → (right : Bool)
-          → ((front : List Block) (files : List Row) → RefersIn k.hg ck.referred front → AreBodiesHeld k.git front → AreAsked k.hg k.git rows files → (IsTrue right ↔ Each (IsBodyHeld k.git) files))
+      pub bodies-are : (seen : Seen) → ((front : List Block) → IsWalked k.hg ck front → AreSeen k.hg seen front) → (rows : List RowValue) → rows ≡ h.rows → (right : Bool)
+          → ((front : List Block) (files : List Row) → AreSeen k.hg seen front → AreBodiesHeld k.git front → AreAsked k.hg k.git rows files → (IsTrue right ↔ Each (IsBodyHeld k.git) files))
           → IsTrue right ↔ HasBodiesOf v.rows (b.commit).rows
-      bodies-are rows are right answer =
-          let a = answer front v.rows (subst (λ (known : Known). RefersIn known.hg ck.referred front) (sym same) (t.walked).referred)
+      bodies-are seen of rows are right answer =
+          let a = answer front v.rows (of front (subst (λ (known : Known). IsWalked known.hg ck front) (sym same) t.walked))
           (subst (λ (known : Known). AreBodiesHeld known.git front) (sym same) ((t.right).compared).blobs) (asked-is rows are) in
           let held = commit-held s place ck m front b rest t in (
             (λ e. bodies-same s.known.git _ b.commit c v.rows held made-here.view alike (here.chosen).bodies (subst (λ (known : Known). Each (IsBodyHeld known.git) v.rows) same (a.0 e))),

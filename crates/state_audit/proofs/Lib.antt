@@ -10,3 +10,4 @@ pub mod Judgements
 pub mod Compared
 pub mod Verdicts
 pub mod Audits
+pub mod SeenLemmas

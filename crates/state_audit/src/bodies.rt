@@ -1,5 +1,5 @@
 // The bodies of a changeset's files, beside the blobs of a store.
-ghost use Rattle.std.specs.Prelude.{◌↔◌, [], ◌∷◌, List, IsTrue};
+ghost use Rattle.std.specs.Prelude.{◌≡◌, ◌↔◌, [], ◌∷◌, List, IsTrue};
 ghost use Rattle.text_model.specs.Lists.{Each};
 ghost use Rattle.view_model.specs.View.{Row};
 ghost use Rattle.pair_model.specs.Block.{Block};
@@ -7,34 +7,39 @@ ghost use Rattle.pair_choice.specs.Bodies.{IsBodyHeld};
 ghost use Rattle.pair_state.specs.Step.{AreAsked};
 ghost use Rattle.pull_bundle.specs.Late.{RefersIn};
 ghost use Rattle.state_audit.specs.Audited.{AreBodiesHeld};
+ghost use Rattle.state_audit.specs.Seen.{AreSeen, IsLineSeen};
 
+use crate::seen::{Seen, is_seen};
 use git_object::Objects;
 use hg_dump::Refers;
 use hg_filelog::split;
-use hg_store::Group;
+use hg_manifest::Cursor;
 use pair_known::{HgRow, Known};
 
-/// Whether the blobs of a changeset's files, which are stored under the ids of its bodies, are these bodies. A file revision to which `referred` refers
-/// was compared before.
-pub fn have_bodies(known: &Known, referred: &Refers, rows: &[HgRow]) -> bool
+/// Whether the blobs of a changeset's files, which are stored under the ids of its bodies, are these bodies. A file revision that was seen in a block before
+/// was compared there.
+pub fn have_bodies(known: &Known, seen: &Seen<'_>, rows: &[HgRow]) -> bool
     requires asked { (files : List Row) × AreAsked known.now.hg known.now.git rows.now files }
-    ensures { (front : List Block) (files : List Row) → RefersIn known.now.hg referred.now front → AreBodiesHeld known.now.git front → AreAsked known.now.hg known.now.git rows.now files
+    ensures { (front : List Block) (files : List Row) → AreSeen known.now.hg seen.now front → AreBodiesHeld known.now.git front → AreAsked known.now.hg known.now.git rows.now files
         → (IsTrue result ↔ Each (IsBodyHeld known.now.git) files) }
 {
+    let mut lines = Cursor::new(seen.near);
     for row in rows {
-        if !is_body(known, referred, row) {
+        if !is_body(known, seen.referred, row, &mut lines) {
             return false;
         }
     }
     true
 }
 
-fn is_body(known: &Known, referred: &Refers, row: &HgRow) -> bool
+// The same of one row, where each of the lines that are near was seen.
+fn is_body(known: &Known, referred: &Refers, row: &HgRow, lines: &mut Cursor<'_>) -> bool
     requires asked { (file : Row) × AreAsked known.now.hg known.now.git (row.now ∷ []) (file ∷ []) }
-    ensures { (front : List Block) (file : Row) → RefersIn known.now.hg referred.now front → AreBodiesHeld known.now.git front → AreAsked known.now.hg known.now.git (row.now ∷ []) (file ∷ [])
-        → (IsTrue result ↔ IsBodyHeld known.now.git file) }
+    ensures body { (front : List Block) (file : Row) → RefersIn known.now.hg referred.now front → Each (IsLineSeen front) lines.old → AreBodiesHeld known.now.git front
+        → AreAsked known.now.hg known.now.git (row.now ∷ []) (file ∷ []) → (IsTrue result ↔ IsBodyHeld known.now.git file) }
+    ensures same { lines.new ≡ lines.old }
 {
-    referred.has(Group::FilesAt(row.path.as_slice()), &row.node) || has_body(known, row)
+    is_seen(referred, row, lines) || has_body(known, row)
 }
 
 fn has_body(known: &Known, row: &HgRow) -> bool

@@ -68,8 +68,8 @@ fn first_parent(hg: &HgStore, node: &Id) -> Id {
     }
 }
 
-// A node, where it is among those of the changesets: most lines of both manifests are the same.
-fn near_of<'a>(nodes: &IdSet, first: &'a Id) -> Option<&'a Id>
+/// A node, where it is among those of the changesets: most lines of both manifests are the same.
+pub fn near_of<'a>(nodes: &IdSet, first: &'a Id) -> Option<&'a Id>
     ensures { IfSome result (λ node. IsTrue (has_id nodes.now node.now)) }
 {
     if nodes.contains(first) {

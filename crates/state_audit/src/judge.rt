@@ -12,8 +12,10 @@ use crate::checked::{Checked, part_of};
 use crate::kept::{has_links, is_kept, text_of};
 use crate::late::comes_late;
 use crate::partner::partner_of;
+use crate::seen::seen_before;
 use bridge_io::Steps;
 use bridge_text::{Id, Kind, NoMemory, object_id};
+use hg_manifest::Manifest;
 use hg_view::views_are_held;
 use pair_known::{GitDraft, HgDraft, draft_of_changeset};
 use pair_state::State;
@@ -66,7 +68,9 @@ fn judge_with(
         → IsJudged state.now.known.hg state.now.known.git front b judgement) }
 {
     let known = state.known();
-    if comes_late(&known.hg, &checked.referred, h) {
+    let empty = Manifest::new(state.alloc());
+    let seen = seen_before(&known.hg, checked, &h.p1, &empty);
+    if comes_late(&known.hg, &seen, h) {
         return Ok(Judgement::Wrong(Id::NULL));
     }
     let block = state.blocks().at(place);
@@ -79,7 +83,7 @@ fn judge_with(
     if !has_links(state.alloc(), known, partner, links)? {
         return Ok(Judgement::Wrong(Id::NULL));
     }
-    if !have_bodies(known, &checked.referred, h.rows.as_slice()) {
+    if !have_bodies(known, &seen, h.rows.as_slice()) {
         return Ok(Judgement::Wrong(Id::NULL));
     }
     Ok(Judgement::Right)

@@ -8,6 +8,7 @@ mod judge;
 mod kept;
 mod late;
 mod partner;
+mod seen;
 mod verdict;
 
 pub use audit::verify;

@@ -1,11 +1,28 @@
-use Rattle.std.proofs.Common.{◌∙◌, List, ap, sym, length, take, drop, arith, true≢false}
+use Rattle.std.proofs.Common.{◌∙◌, List, ap, sym, subst, length, take, drop, arith, true≢false}
 use Rattle.std.specs.Prelude.{slice_get}
 use Rattle.pair_state.specs.Blocks.{BlockValue}
 use Rattle.pair_state.specs.declared.blocks.Block.{Block}
+use Rattle.pair_known.specs.declared.known.Known.{Known}
+use Rattle.state_audit.specs.Audited.{IsWalked}
 use Rattle.state_audit.proofs.Turns.{is-before, history, links-held, block-at, own-below}
 use Rattle.state_audit.proofs.Found.{kept-held, late-is, kept-is, id-is, links-is, asked-is, bodies-are}
-use Rattle.state_audit.proofs.Judgements.{other-judged, links-judged, bodies-judged, right-judged}
+use Rattle.state_audit.proofs.Judgements.{late-judged, other-judged, links-judged, bodies-judged, right-judged}
 use Rattle.state_audit.proofs.judge.judge_with.Goals as goal
+
+pub seen_before-seen-requires-clause-walked : goal.seen_before-seen-requires-clause-walked
+seen_before-seen-requires-clause-walked c =
+    let p = c.requires.partner in
+    (p.1, subst (λ (known : Known). IsWalked known.hg c.args.checked.now p.1) (sym c.known-known.ensures) (p.5).walked)
+
+pub returns-then-comes_late : goal.returns-then-comes_late
+returns-then-comes_late c = λ m front b rest v t draft here.
+    let s = c.args.state.now in
+    let place = c.args.place in
+    let ck = c.args.checked.now in
+    let k = c.known-known.result.now in
+    let same = c.known-known.ensures in
+    late-judged s.known front b
+    (late-is s place ck m front b rest t k same c.args.h.now draft c.args.partner.now v here c.seen_before-seen.result c.seen_before-seen.ensures c.comes_late.result c.comes_late.ensures ∙ c.if-comes_late.true)
 
 pub is_kept-requires-clause-held : goal.is_kept-requires-clause-held
 is_kept-requires-clause-held c =
@@ -23,7 +40,7 @@ returns-then-not-branch c = λ m front b rest v t draft here.
     let k = c.known-known.result.now in
     let same = c.known-known.ensures in
     let at = ap (λ (l : List Block). slice_get l place) (sym c.blocks-2.ensures) ∙ c.at-block.ensures in
-    let timely = late-is s place ck m front b rest t k same c.args.h.now draft c.args.partner.now v here c.comes_late.result c.comes_late.ensures ∙ c.if-comes_late.false in
+    let timely = late-is s place ck m front b rest t k same c.args.h.now draft c.args.partner.now v here c.seen_before-seen.result c.seen_before-seen.ensures c.comes_late.result c.comes_late.ensures ∙ c.if-comes_late.false in
     let kept = kept-is s place ck m front b rest t k same c.args.h.now draft c.args.partner.now v here c.at-block.result.now at c.in_ok-is_kept.field-0 c.in_ok-is_kept.ensures in
     let id = id-is s place ck m front b rest t k same c.args.h.now draft c.args.partner.now v here c.object_id.result c.deref-then-not-branch.result.now c.object_id.ensures (c.deref-then-not-branch.ensures.value ∙ c.in_ok-text.ensures) in
     other-judged s.known m.blocks front ck.nodes b (is-before s place ck m front b rest t) c.args.partner.now v here timely (λ e. true≢false (sym (kept.1 e) ∙ c.if-not-branch.true)) c.object_id.result id
@@ -45,7 +62,7 @@ returns-then-not-branch-2 c = λ m front b rest v t draft here.
     let k = c.known-known.result.now in
     let same = c.known-known.ensures in
     let at = ap (λ (l : List Block). slice_get l place) (sym c.blocks-2.ensures) ∙ c.at-block.ensures in
-    let timely = late-is s place ck m front b rest t k same c.args.h.now draft c.args.partner.now v here c.comes_late.result c.comes_late.ensures ∙ c.if-comes_late.false in
+    let timely = late-is s place ck m front b rest t k same c.args.h.now draft c.args.partner.now v here c.seen_before-seen.result c.seen_before-seen.ensures c.comes_late.result c.comes_late.ensures ∙ c.if-comes_late.false in
     let kept = kept-is s place ck m front b rest t k same c.args.h.now draft c.args.partner.now v here c.at-block.result.now at c.in_ok-is_kept.field-0 c.in_ok-is_kept.ensures in
     let alike = kept.0 c.if-not-branch.false in
     let count = c.from.ensures ∙ ap (λ (y : BlockValue). y.links) (block-at s place ck m front b rest t c.at-block.result.now at) in
@@ -74,10 +91,10 @@ returns-then-not-have_bodies c = λ m front b rest v t draft here.
     let k = c.known-known.result.now in
     let same = c.known-known.ensures in
     let at = ap (λ (l : List Block). slice_get l place) (sym c.blocks-2.ensures) ∙ c.at-block.ensures in
-    let timely = late-is s place ck m front b rest t k same c.args.h.now draft c.args.partner.now v here c.comes_late.result c.comes_late.ensures ∙ c.if-comes_late.false in
+    let timely = late-is s place ck m front b rest t k same c.args.h.now draft c.args.partner.now v here c.seen_before-seen.result c.seen_before-seen.ensures c.comes_late.result c.comes_late.ensures ∙ c.if-comes_late.false in
     let kept = kept-is s place ck m front b rest t k same c.args.h.now draft c.args.partner.now v here c.at-block.result.now at c.in_ok-is_kept.field-0 c.in_ok-is_kept.ensures in
     let alike = kept.0 c.if-not-branch.false in
-    let bodies = bodies-are s place ck m front b rest t k same c.args.h.now draft c.args.partner.now v here alike c.requires.nothing_fresh c.as_slice.result.now c.as_slice.ensures c.have_bodies.result c.have_bodies.ensures in
+    let bodies = bodies-are s place ck m front b rest t k same c.args.h.now draft c.args.partner.now v here alike c.requires.nothing_fresh c.seen_before-seen.result c.seen_before-seen.ensures c.as_slice.result.now c.as_slice.ensures c.have_bodies.result c.have_bodies.ensures in
     bodies-judged s.known m.blocks front ck.nodes b (is-before s place ck m front b rest t) c.args.partner.now v here timely alike (λ e. true≢false (sym (bodies.1 e) ∙ c.if-not-have_bodies.true))
 
 pub returns : goal.returns
@@ -88,12 +105,12 @@ returns c = λ m front b rest v t draft here.
     let k = c.known-known.result.now in
     let same = c.known-known.ensures in
     let at = ap (λ (l : List Block). slice_get l place) (sym c.blocks-2.ensures) ∙ c.at-block.ensures in
-    let timely = late-is s place ck m front b rest t k same c.args.h.now draft c.args.partner.now v here c.comes_late.result c.comes_late.ensures ∙ c.if-comes_late.false in
+    let timely = late-is s place ck m front b rest t k same c.args.h.now draft c.args.partner.now v here c.seen_before-seen.result c.seen_before-seen.ensures c.comes_late.result c.comes_late.ensures ∙ c.if-comes_late.false in
     let kept = kept-is s place ck m front b rest t k same c.args.h.now draft c.args.partner.now v here c.at-block.result.now at c.in_ok-is_kept.field-0 c.in_ok-is_kept.ensures in
     let alike = kept.0 c.if-not-branch.false in
     let count = c.from.ensures ∙ ap (λ (y : BlockValue). y.links) (block-at s place ck m front b rest t c.at-block.result.now at) in
     let part = c.part_of-links.ensures ∙ (λ i. take c.from.result (drop ck.changesets ((c.as_slice-nodes.ensures ∙ c.changesets.ensures) i))) in
     let links = links-is s place ck m front b rest t k same c.args.h.now draft c.args.partner.now v here c.part_of-links.result.now c.from.result count part c.in_ok-has_links.field-0 c.in_ok-has_links.ensures in
-    let bodies = bodies-are s place ck m front b rest t k same c.args.h.now draft c.args.partner.now v here alike c.requires.nothing_fresh c.as_slice.result.now c.as_slice.ensures c.have_bodies.result c.have_bodies.ensures in
+    let bodies = bodies-are s place ck m front b rest t k same c.args.h.now draft c.args.partner.now v here alike c.requires.nothing_fresh c.seen_before-seen.result c.seen_before-seen.ensures c.as_slice.result.now c.as_slice.ensures c.have_bodies.result c.have_bodies.ensures in
     right-judged s.known m.blocks front ck.nodes b (is-before s place ck m front b rest t) c.args.partner.now v here timely alike (history s place ck m front b rest t) (links-held s place ck m front b rest t)
     (links.0 c.if-not-branch-2.false) (bodies.0 c.if-not-have_bodies.false)
