@@ -1,3 +1,5 @@
+ghost use Rattle.std.specs.Prelude.{◌≡◌};
+
 use bridge_text::{Bytes, Id, List};
 use hg_manifest::Flag;
 use std::marker::Model;
