@@ -196,21 +196,21 @@ fn an_entry_is_pushed(rt: HostRuntime) -> Result<(), Fail> {
     Ok(())
 }
 
-/// Paths and nodes, and whether a line of the manifest of three has both.
-const LINES: [(&[u8], Id, bool); 5] = [
-    (b"a", Id::new([0x11; 20]), true),
-    (b"b", Id::new([0x11; 20]), true),
-    (b"a/b", Id::new([0x11; 20]), true),
-    (b"b", Id::NULL, false),
-    (b"c", Id::new([0x11; 20]), false),
+/// Paths, the byte that a node has twenty times, and whether a line of the manifest of three has both.
+const LINES: [(&[u8], u8, bool); 5] = [
+    (b"a", 0x11, true),
+    (b"b", 0x11, true),
+    (b"a/b", 0x11, true),
+    (b"b", 0, false),
+    (b"c", 0x11, false),
 ];
 
 #[test]
 fn lines_by_a_cursor(rt: HostRuntime) -> Result<(), Fail> {
     let manifest = Manifest::read(rt.alloc(), THREE).map_err(|_| "a manifest")?;
     let mut cursor = Cursor::new(&manifest);
-    for (path, node, want) in LINES {
-        assert!(rt; cursor.has_line(path, &node) == want);
+    for (path, byte, want) in LINES {
+        assert!(rt; cursor.has_line(path, &Id::new([byte; 20])) == want);
     }
     Ok(())
 }
