@@ -14,7 +14,7 @@ when_true false e h = absurd cc
 
 pub returns-then-has_line-clause-seen : goal.returns-then-has_line-clause-seen
 returns-then-has_line-clause-seen c = λ hg front refers lines.
-    let path = c.as_slice.ensures ∙ ap (λ (r : RowValue). r.path) c.row.view_is in
+    let path = c.as_slice-path.ensures ∙ ap (λ (r : RowValue). r.path) c.row.view_is in
     let node = ap (λ (r : RowValue). r.node) c.row.view_is in
     let seen = line-seen front c.args.lines.now _ _ (when_true c.has_line.result c.if-has_line.true c.has_line.ensures.found) lines in
     c.if-has_line.true ∙ sym seen ∙ (λ i. is_seen_at front (path i) (node i))
@@ -22,6 +22,6 @@ returns-then-has_line-clause-seen c = λ hg front refers lines.
 pub returns-else-has_line-clause-seen : goal.returns-else-has_line-clause-seen
 returns-else-has_line-clause-seen c = λ hg front refers lines.
     let rs = revisions_in (changesets_in front) in
-    let path = c.as_slice.ensures ∙ ap (λ (r : RowValue). r.path) c.row.view_is in
+    let path = c.as_slice-path.ensures ∙ ap (λ (r : RowValue). r.path) c.row.view_is in
     let node = ap (λ (r : RowValue). r.node) c.row.view_is in
     c.has.ensures rs refers.refers ∙ (λ i. knows rs (FilesAt (path i)) (node i))
