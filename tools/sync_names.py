@@ -90,10 +90,20 @@ def read_hg(mercurial):
         read_branches(mercurial, bool(secret)),
         {name: node for name, node in tags.items() if node not in secret},
         local,
-        [line.decode() for line in mercurial.lines('log', '-r', 'heads(not secret())', '-T', '{node}\n')],
+        read_heads(mercurial, bool(secret)),
         [line.decode() for line in mercurial.lines('log', '-r', 'heads(public())', '-T', '{node}\n')],
         held,
         heads_below(mercurial, sorted(secret.intersection(bookmarks.values()))))
+
+
+def read_heads(mercurial, has_secret):
+    """The changesets without a child, where secret ones don't count. Hg knows them without a look at each changeset where none is secret, and ends with
+    status 1 where there is none."""
+    if has_secret:
+        lines = mercurial.lines('log', '-r', 'heads(not secret())', '-T', '{node}\n')
+    else:
+        lines = mercurial.lines('heads', '--topo', '-T', '{node}\n', statuses=(0, 1))
+    return [line.decode() for line in lines]
 
 
 def heads_below(mercurial, nodes):
