@@ -64,13 +64,18 @@ def whole_text(before, entry):
 
 def difference(before, text):
     """Hunks of whole lines, as hg reads the lines of a manifest from its deltas; nothing where the texts are equal."""
+    return b''.join([HUNK.pack(start, end, len(lines)) + lines for start, end, lines in hunks_between(before, text)])
+
+
+def hunks_between(before, text):
+    """The beginning and the end of what is replaced before, each with the lines that stand there in the text."""
     if before == text:
-        return b''
+        return []
     front, back = shared_ends(before, text)
     hunks = list(changes(front, before[front:len(before) - back], text[front:len(text) - back]))
     if patched(before, hunks) != text:
         raise Fault('a small delta doesn\'t give its text')
-    return b''.join([HUNK.pack(start, end, len(lines)) + lines for start, end, lines in hunks])
+    return hunks
 
 
 def patched(before, hunks):
