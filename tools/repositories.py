@@ -115,14 +115,14 @@ class Mercurial:
             else:
                 raise Fault(f'hg {os.fsdecode(words[0])} ended before its answer')
 
-    def output(self, *words):
+    def output(self, *words, statuses=(0,)):
         status, output, errors = self.answer(*words)
-        if status:
+        if status not in statuses:
             raise Fault(f'hg {os.fsdecode(words[0])}: {words_of(errors or output)}')
         return output
 
-    def lines(self, *words):
-        return self.output(*words).split(b'\n')[:-1]
+    def lines(self, *words, statuses=(0,)):
+        return self.output(*words, statuses=statuses).split(b'\n')[:-1]
 
     @property
     def fed(self):
@@ -205,9 +205,9 @@ def parts_of(items, size):
 # ---- Git
 
 def git(folder, *words, data=None, statuses=(0,)):
-    """What a command of Git prints over the repository in this folder."""
+    """What a command of Git prints over the repository in this folder. It needn't print each line at once."""
     run = subprocess.run(['git', '--git-dir', folder, *words], input=data, stdin=subprocess.DEVNULL if data is None else None,
-                         stdout=subprocess.PIPE, stderr=subprocess.PIPE, env=environment())
+                         stdout=subprocess.PIPE, stderr=subprocess.PIPE, env=dict(environment(), GIT_FLUSH='0'))
     if run.returncode not in statuses:
         raise Fault(f'git {words[0]}: {words_of(run.stderr)}')
     return run.stdout
@@ -262,7 +262,7 @@ def refuse_partial(folder, path):
 
 def objects_missing(folder, ids):
     """Those of some ids, as bytes, that the repository hasn't."""
-    said = git(folder, 'cat-file', '--batch-check', data=b''.join(id + b'\n' for id in ids))
+    said = git(folder, 'cat-file', '--batch-check', '--buffer', data=b''.join(id + b'\n' for id in ids))
     return {line.split(b' ')[0] for line in said.splitlines() if line.endswith(b' missing')}
 
 

@@ -2,8 +2,9 @@
 
 Only deltas change: the texts and the nodes are the same. hg checks a node where it builds the text, which small deltas spare it; so each delta is tried here.
 """
+import io
 import itertools
-import re
+import operator
 import struct
 
 from repositories import Fault
@@ -11,6 +12,8 @@ from repositories import Fault
 MAGIC = b'HG10UN'
 HEADER = 80  # a node, its parents and its link node
 HUNK = struct.Struct('>III')
+TEXT = HEADER + HUNK.size  # where the text begins in an entry whose delta is one hunk
+NEAR = 256  # bytes that are compared as a number
 
 
 def write_small(source, target, before_end=lambda: None):
@@ -40,35 +43,39 @@ def copy_group(source, target):
     """The entries of a kind or a path, each over the text before it."""
     before = None
     while entry := read_chunk(source):
-        delta = entry[HEADER:]
-        text = whole_text(before, delta)
+        text = whole_text(before, entry)
         if text is not None and before is not None:
-            delta = difference(before, text)
-        write_chunk(target, entry[:HEADER] + delta)
+            entry = entry[:HEADER] + difference(before, text)
+        write_chunk(target, entry)
         before = text
     write_chunk(target, b'')
 
 
-def whole_text(before, delta):
-    """The text, where the delta puts it in place of the whole text before it; None where it doesn't, or that isn't known to be whole."""
-    if not delta:
+def whole_text(before, entry):
+    """The text, where the entry's delta puts it in place of the whole text before it; None where it doesn't, or that isn't known to be whole."""
+    if len(entry) <= HEADER:
         return before
-    start, end, length = HUNK.unpack_from(delta)
-    is_whole = start == 0 and length + HUNK.size == len(delta) and before is not None and end == len(before)
+    start, end, length = HUNK.unpack_from(entry, HEADER)
+    is_whole = start == 0 and TEXT + length == len(entry) and before is not None and end == len(before)
     if is_whole or before is None and start == 0 == end:
-        return delta[HUNK.size:]
+        return entry[TEXT:]
     return None
 
 
 def difference(before, text):
     """Hunks of whole lines, as hg reads the lines of a manifest from its deltas; nothing where the texts are equal."""
+    return b''.join([HUNK.pack(start, end, len(lines)) + lines for start, end, lines in hunks_between(before, text)])
+
+
+def hunks_between(before, text):
+    """The beginning and the end of what is replaced before, each with the lines that stand there in the text."""
     if before == text:
-        return b''
+        return []
     front, back = shared_ends(before, text)
     hunks = list(changes(front, before[front:len(before) - back], text[front:len(text) - back]))
     if patched(before, hunks) != text:
         raise Fault('a small delta doesn\'t give its text')
-    return b''.join(HUNK.pack(start, end, len(lines)) + lines for start, end, lines in hunks)
+    return hunks
 
 
 def patched(before, hunks):
@@ -77,7 +84,7 @@ def patched(before, hunks):
     for start, end, lines in hunks:
         parts += before[place:start], lines
         place = end
-    return b''.join(parts) + before[place:]
+    return b''.join([*parts, before[place:]])
 
 
 def shared_ends(before, text):
@@ -93,20 +100,21 @@ def shared_ends(before, text):
 def changes(place, old, new):
     """What differs between two pieces at this place: lines in a row with the beginning and the end of those that they replace. Where the pieces have as many
     lines, each is compared with the one in its row."""
-    rows = list(zip(lines_of(old), lines_of(new)))
-    if len(rows) != len(lines_of(old)) or len(rows) != len(lines_of(new)):
+    rows, others = lines_of(old), lines_of(new)
+    if len(rows) != len(others):
         yield place, place + len(old), new
         return
-    for differ, run in itertools.groupby(rows, lambda row: row[0] != row[1]):
-        run = list(run)
-        end = place + sum(len(line) for line, _ in run)
-        if differ:
-            yield place, end, b''.join(line for _, line in run)
-        place = end
+    differs = list(map(operator.ne, rows, others))
+    places = list(itertools.accumulate(map(len, rows), initial=place))
+    for is_change, run in itertools.groupby(range(len(rows)), differs.__getitem__):
+        if is_change:
+            run = list(run)
+            first, last = run[0], run[-1]
+            yield places[first], places[last + 1], b''.join(others[first:last + 1])
 
 
 def lines_of(piece):
-    return re.findall(rb'[^\n]*\n|[^\n]+', piece)
+    return io.BytesIO(piece).readlines()
 
 
 def begins_line(text, place):
@@ -116,25 +124,34 @@ def begins_line(text, place):
 def common(one, other, most):
     """How many bytes both begin with, at most so many."""
     low, high = 0, most
-    while low < high:
-        middle = (low + high + 1) // 2
+    while high - low > NEAR:
+        middle = (low + high) // 2
         if one[low:middle] == other[low:middle]:
             low = middle
         else:
-            high = middle - 1
-    return low
+            high = middle
+    return low + equal_bytes(one[low:high], other[low:high], 'little')
 
 
 def common_end(one, other, most):
     """How many bytes both end with, at most so many."""
     low, high = 0, most
-    while low < high:
-        middle = (low + high + 1) // 2
-        if one[len(one) - middle:len(one) - low] == other[len(other) - middle:len(other) - low]:
+    end, other_end = len(one), len(other)
+    while high - low > NEAR:
+        middle = (low + high) // 2
+        if one[end - middle:end - low] == other[other_end - middle:other_end - low]:
             low = middle
         else:
-            high = middle - 1
-    return low
+            high = middle
+    return low + equal_bytes(one[end - high:end - low], other[other_end - high:other_end - low], 'big')
+
+
+def equal_bytes(one, other, order):
+    """How many bytes of two pieces of one length are equal before the first that isn't, from the first byte on (little) or from the last one back (big)."""
+    if one == other:
+        return len(one)
+    differing = int.from_bytes(one, order) ^ int.from_bytes(other, order)
+    return ((differing & -differing).bit_length() - 1) // 8
 
 
 def read_chunk(source):

@@ -6,6 +6,8 @@ lines of two texts: a names text for Mercurial and a refs text for Git. `refs_of
 import re
 from typing import Dict, List, NamedTuple
 
+from repositories import NULL, nodes_of
+
 HEADS, TAGS, PHASES, PUBLIC, KEPT = b'refs/heads/', b'refs/tags/', b'refs/hg/phase/', b'refs/hg/phase/0/', b'refs/hg/heads/'
 LONGEST_REF = 4096
 LINE = re.compile(rb'(?:(bookmark|tag|annotated|ref) ([0-9a-f]{40}) |phase ([012]) )(.*)', re.DOTALL)
@@ -90,10 +92,19 @@ def read_hg(mercurial):
         read_branches(mercurial, bool(secret)),
         {name: node for name, node in tags.items() if node not in secret},
         local,
-        [line.decode() for line in mercurial.lines('log', '-r', 'heads(not secret())', '-T', '{node}\n')],
+        read_heads(mercurial, bool(secret)),
         [line.decode() for line in mercurial.lines('log', '-r', 'heads(public())', '-T', '{node}\n')],
         held,
         heads_below(mercurial, sorted(secret.intersection(bookmarks.values()))))
+
+
+def read_heads(mercurial, has_secret):
+    """The changesets without a child, where secret ones don't count. Where none is secret, hg knows them without a look at each changeset; those of an empty
+    repository are the null one, or none and status 1."""
+    if has_secret:
+        return nodes_of(mercurial, 'heads(not secret())')
+    heads = [line.decode() for line in mercurial.lines('heads', '--topo', '-T', '{node}\n', statuses=(0, 1))]
+    return [head for head in heads if head != NULL]
 
 
 def heads_below(mercurial, nodes):

@@ -1,6 +1,7 @@
 """Changesets and commits from one side to the other: what is new there is pulled through the slot and loaded here."""
 import contextlib
 import heapq
+import io
 import os
 import select
 import subprocess
@@ -17,7 +18,8 @@ from small_deltas import write_small
 from sync_names import HEADS, KEPT, TAGS, can_be_hg_name
 
 HERE = os.path.dirname(os.path.realpath(__file__))
-PAUSE = 0.005
+PAUSE, LONGEST_PAUSE = 0.005, 0.05
+SLOWER = 1.25
 
 
 class Ref(NamedTuple):
@@ -55,7 +57,7 @@ def commits_of_tags(folder, tags):
     """The commits to which annotated tags lead."""
     if not tags:
         return {}
-    said = git(folder, 'cat-file', '--batch-check', data=b''.join(tag + b'^{}\n' for tag in tags)).splitlines()
+    said = git(folder, 'cat-file', '--batch-check', '--buffer', data=b''.join(tag + b'^{}\n' for tag in tags)).splitlines()
     return {tag: line.split(b' ')[0].decode() for tag, line in zip(tags, said) if line.split(b' ')[1:2] == [b'commit']}
 
 
@@ -199,14 +201,21 @@ def start_pull(folder, slot, refs, new, tags, target):
 
 def unbundle(mercurial, slot, pull, path):
     """Gives hg what the program writes, while it writes it, or as a file where hg can't have it so."""
-    while not pull.has_ended() and not os.path.getsize(path):
-        time.sleep(PAUSE)
+    wait_for_output(pull, path)
     if mercurial.sink.closed or pull.has_ended():
         pull.finish()
     if not mercurial.sink.closed and is_fed(mercurial, pull, path):
         return
     make_small(slot, path)
     mercurial.output('unbundle', '--', path)
+
+
+def wait_for_output(pull, path):
+    """Looks whether the program writes or has ended, the more seldom the longer it takes."""
+    pause = PAUSE
+    while not pull.has_ended() and not os.path.getsize(path):
+        time.sleep(pause)
+        pause = min(pause * SLOWER, LONGEST_PAUSE)
 
 
 def is_fed(mercurial, pull, path):
@@ -235,8 +244,8 @@ class Feed(threading.Thread):
     def run(self):
         sink = self.mercurial.sink
         try:
-            with open(self.path, 'rb') as source:
-                write_small(Growing(source, self.pull), sink, self.pull.finish)
+            with open(self.path, 'rb', buffering=0) as source:
+                write_small(io.BufferedReader(Growing(source, self.pull), PIECE), sink, self.pull.finish)
             sink.flush()
         except Exception as fault:
             self.fault = fault
@@ -252,23 +261,23 @@ class Feed(threading.Thread):
         self.mercurial.sink.close()
 
 
-class Growing:
+class Growing(io.RawIOBase):
     """A file that the program writes, read while it grows."""
 
     def __init__(self, file, pull):
+        super().__init__()
         self.file, self.pull = file, pull
 
-    def read(self, size):
-        piece = self.file.read(size)
-        while len(piece) < size:
+    def readable(self):
+        return True
+
+    def readinto(self, target):
+        while True:
             has_ended = self.pull.has_ended()
-            more = self.file.read(size - len(piece))
-            if not more and has_ended:
-                break
-            if not more:
-                time.sleep(PAUSE)
-            piece += more
-        return piece
+            count = self.file.readinto(target)
+            if count or has_ended:
+                return count
+            time.sleep(PAUSE)
 
 
 def make_small(slot, path):

@@ -10,6 +10,7 @@ from tools import ENVIRONMENT, git
 
 TOOL = os.path.join(os.path.dirname(os.path.dirname(os.path.dirname(os.path.abspath(__file__)))), 'tools', 'git-load')
 NO_ID = b'12' * 20
+DELTAS = 120
 
 
 class Source(NamedTuple):
@@ -25,6 +26,7 @@ def check(report):
         check_whole(report, source)
         check_parts(report, source)
         check_many(report)
+        check_deltas(report)
         check_faults_of_new(report, source)
         check_faults_of_old(report, source)
 
@@ -98,6 +100,29 @@ def check_many(report):
         made = os.path.join(folder, 'loaded.git')
         ids = b''.join(blob[:41].rstrip() + b'\n' for blob in dict.fromkeys(blobs))
         report.check('git-load: many objects are loaded', (status, git(made, 'cat-file', '--batch', data=ids)), (0, b''.join(dict.fromkeys(blobs))))
+
+
+def check_deltas(report):
+    """Texts and trees of which each changes a little of the one before, more of them than deltas may lie over each other."""
+    lines = [b'%0*d\n' % (number % 300, number) for number in range(1000)]
+    links = [link(number, number) for number in range(100)]
+    objects = []
+    for number in range(DELTAS):
+        lines[number * 7:number * 7 + 1] = [b'%0200d\n' % number] * (number % 3)
+        links[number % 100] = link(number % 100, 100 + number)
+        objects += streams.stream_object(b'blob', b''.join(lines)), streams.stream_object(b'tree', b''.join(links))
+    with tempfile.TemporaryDirectory() as folder:
+        status = load(folder, b''.join(objects))
+        made = os.path.join(folder, 'loaded.git')
+        ids = b''.join(object[:40] + b'\n' for object in objects)
+        report.check('git-load: objects that change a little are loaded', (status, git(made, 'cat-file', '--batch', data=ids)), (0, b''.join(objects)))
+        packed = sum(len(content) for path, content in files_of(made).items() if path.endswith('.pack'))
+        report.verdict('git-load: and take little room', packed * 20 < sum(map(len, objects)), f'{packed} bytes')
+
+
+def link(place, number):
+    """A line of a tree that needs no other object."""
+    return streams.tree_entry(b'160000', b'link%03d' % place, b'%040d' % number)
 
 
 def faults_of(source):
