@@ -56,14 +56,11 @@ gives-text (Some None) max into found gives is = absurd (true-false (sym is ∙ 
 gives-text (Some (Some bytes)) max into found gives is = sym (ap Some gives.1)
 
 -- the state of a text that was fetched
-pub text-fetched : (slot : Option (Option Bytes)) (max : ℕ) (into text : Bytes) (found : Bool) (result : Result State Report) → FetchGives slot max (Ok found) into → found ≡ true → text ≡ into
+pub text-fetched : (slot : Option (Option Bytes)) (max : ℕ) (text : Bytes) (found : Bool) (result : Result State Report) → FetchGives slot max (Ok found) text → found ≡ true
     → OnOk result (IsBytes text) → ReadsText text result → Fetches slot result
-text-fetched slot max into text found (Ok s) gives is same are (m, read, text-is) =
-    let held = subst (λ (x : Bytes). IfSome slot (λ held. held ≡ Some x)) (sym same) (gives-text slot max into found gives is) in
-    (m, read, subst IsBytes text-is.1 are, held-text slot text m held text-is)
-text-fetched slot max into text found (Err report) gives is same are unread =
-    let held = subst (λ (x : Bytes). IfSome slot (λ held. held ≡ Some x)) (sym same) (gives-text slot max into found gives is) in
-    no-state slot text report held unread
+text-fetched slot max text found (Ok s) gives is are (m, read, text-is) =
+    (m, read, subst IsBytes text-is.1 are, held-text slot text m (gives-text slot max text found gives is) text-is)
+text-fetched slot max text found (Err report) gives is are unread = no-state slot text report (gives-text slot max text found gives is) unread
 
 -- nothing is held: the empty state
 pub nothing-fetched : (slot : Option (Option Bytes)) (max : ℕ) (into : Bytes) (found : Bool) (s : State) → FetchGives slot max (Ok found) into → found ≡ false

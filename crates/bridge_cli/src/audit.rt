@@ -26,7 +26,7 @@ pub fn audit_of_history<K: Slot, L: Ledger>(
     ensures slot { LeavesSlotCount (K.faults slot.old) (K.faults slot.new) result }
     ensures steps { (input : Option Bytes) → StepsOf model.Verify input (K.held slot.old) steps.old steps.new }
 {
-    let state = fetch_state(alloc, slot, &mut Vec::new(alloc))?;
+    let state = fetch_state(alloc, slot)?;
     let found = verify(&state, steps)?;
     match found {
         Verdict::Holds(blocks) => Ok(Work::of(verified_count(alloc, blocks)?)),

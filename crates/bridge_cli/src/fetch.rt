@@ -1,5 +1,5 @@
 // The state that the slot holds.
-ghost use Rattle.std.specs.Prelude.{◌≡◌, ◌≤◌, [], length, OnOk};
+ghost use Rattle.std.specs.Prelude.{◌≡◌, ◌≤◌, length, OnOk};
 ghost use Rattle.text_model.specs.Text.{IsBytes};
 ghost use Rattle.state_model.specs.Limits.{slot_limit};
 ghost use Rattle.bridge_cli.specs.Fetched.{Fetches, ReadsText};
@@ -9,22 +9,19 @@ use crate::report::{BadState, Report};
 use bridge_io::{Slot, SlotFault};
 use bridge_text::SLOT_LIMIT;
 use pair_state::State;
+use shared_text::keep;
 use std::alloc::Global;
 
-/// The state that the slot holds; the empty one where it holds nothing. Its text is put into `text`, which is empty before. `SlotFault` comes where
-/// the slot failed, `StateBad` where what it holds is the text of no state or is too long for one, and `Memory` where memory is wanted.
-pub fn fetch_state<K: Slot>(
-    alloc: Global,
-    slot: &mut K,
-    text: &mut Vec<u8>,
-) -> Result<State, Report>
-    requires empty { text.old.items ≡ [] }
+/// The state that the slot holds, which keeps parts of its text; the empty one where it holds nothing. `SlotFault` comes where the slot failed,
+/// `StateBad` where what it holds is the text of no state or is too long for one, and `Memory` where memory is wanted.
+pub fn fetch_state<K: Slot>(alloc: Global, slot: &mut K) -> Result<State, Report>
     ensures state { Fetches (K.held slot.old) result }
     ensures held { K.held slot.new ≡ K.held slot.old }
     ensures cause { LeavesSlotCount (K.faults slot.old) (K.faults slot.new) result }
 {
-    match slot.fetch(SLOT_LIMIT, text) {
-        Ok(true) => state_of(alloc, text.as_slice()),
+    let mut text = Vec::new(alloc);
+    match slot.fetch(SLOT_LIMIT, &mut text) {
+        Ok(true) => state_of(alloc, text),
         Ok(false) => Ok(State::empty(alloc)),
         Err(SlotFault::Failed) => Err(Report::SlotFault),
         Err(SlotFault::TooLong) => Err(Report::StateBad(BadState::TooLong)),
@@ -33,12 +30,13 @@ pub fn fetch_state<K: Slot>(
 }
 
 // The state whose text these bytes are.
-fn state_of(alloc: Global, text: &[u8]) -> Result<State, Report>
-    requires short { length text.now ≤ slot_limit }
-    ensures reads { ReadsText text.now result }
-    ensures bytes { OnOk result (IsBytes text.now) }
+fn state_of(alloc: Global, bytes: Vec<u8>) -> Result<State, Report>
+    requires short { length bytes.items ≤ slot_limit }
+    ensures reads { ReadsText bytes.items result }
+    ensures bytes { OnOk result (IsBytes bytes.items) }
 {
-    match state_text::read(alloc, text) {
+    let text = keep(bytes)?;
+    match state_text::read(alloc, &text) {
         Ok(state) => Ok(state),
         Err(fault) => Err(Report::from(fault)),
     }

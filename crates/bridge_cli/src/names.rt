@@ -24,10 +24,9 @@ pub fn names_of_text<I: Source, K: Slot>(
     ensures held { K.held slot.new ≡ K.held slot.old }
     ensures slot { LeavesSlotCount (K.faults slot.old) (K.faults slot.new) result }
 {
-    let mut room = Vec::new(alloc);
-    let state = fetch_state(alloc, slot, &mut room)?;
+    let state = fetch_state(alloc, slot)?;
     let next = set_names(state, side, input)?;
-    let text = text_of(&next, room)?;
+    let text = text_of(&next)?;
     forget(next);
     Ok(Work {
         output: Vec::new(alloc),

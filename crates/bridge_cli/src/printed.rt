@@ -39,7 +39,7 @@ pub fn printed_work<K: Slot>(alloc: Global, printed: Printed, slot: &mut K) -> R
     ensures held { K.held slot.new ≡ K.held slot.old }
     ensures slot { LeavesSlotCount (K.faults slot.old) (K.faults slot.new) result }
 {
-    let state = fetch_state(alloc, slot, &mut Vec::new(alloc))?;
+    let state = fetch_state(alloc, slot)?;
     let bytes = print(printed, &state)?;
     forget(state);
     Ok(Work::of(bytes))

@@ -32,10 +32,9 @@ pub fn commits_of_bundle<I: Source, K: Slot, L: Ledger>(
     ensures slot { LeavesSlotCount (K.faults slot.old) (K.faults slot.new) result }
     ensures steps { StepsOf model.PullHg (I.left input.old) (K.held slot.old) steps.old steps.new }
 {
-    let mut room = Vec::new(alloc);
-    let state = fetch_state(alloc, slot, &mut room)?;
+    let state = fetch_state(alloc, slot)?;
     let pulled = pull_hg(state, input, steps)?;
-    Ok(saved_work(pulled, room)?)
+    Ok(saved_work(pulled)?)
 }
 
 /// The bundle of the changesets of a stream's commits, and the next state.
@@ -51,21 +50,20 @@ pub fn changesets_of_stream<I: Source, K: Slot, L: Ledger>(
     ensures slot { LeavesSlotCount (K.faults slot.old) (K.faults slot.new) result }
     ensures steps { StepsOf model.PullGit (I.left input.old) (K.held slot.old) steps.old steps.new }
 {
-    let mut room = Vec::new(alloc);
-    let state = fetch_state(alloc, slot, &mut room)?;
+    let state = fetch_state(alloc, slot)?;
     let pulled = pull_git(state, input, steps)?;
-    Ok(saved_work(pulled, room)?)
+    Ok(saved_work(pulled)?)
 }
 
-// What an accepted pull is to write, and the text of its next state, which is written into the room of the old one's. The state keeps its memory
-// until the program ends: to give it back part by part takes time, and a run needs it no more.
-fn saved_work(pulled: Pulled, room: Vec<u8>) -> Result<Work, NoMemory>
+// What an accepted pull is to write, and the text of its next state. The state keeps its memory until the program ends: to give it back part by
+// part takes time, and a run needs it no more.
+fn saved_work(pulled: Pulled) -> Result<Work, NoMemory>
     requires stands { (m : saved.State) × Stands pulled.state m }
     ensures output { IfOk result (λ w. w.output.items ≡ pulled.made) }
     ensures text { IfOk result (λ w. IsNextText pulled.state w.text) }
 {
     let Pulled { state, made, .. } = pulled;
-    let text = text_of(&state, room)?;
+    let text = text_of(&state)?;
     forget(state);
     Ok(Work {
         output: made.into_vec(),
@@ -73,13 +71,12 @@ fn saved_work(pulled: Pulled, room: Vec<u8>) -> Result<Work, NoMemory>
     })
 }
 
-/// The text of a state, in the place of what is in `room`.
-pub fn text_of(state: &State, room: Vec<u8>) -> Result<Vec<u8>, NoMemory>
+/// The text of a state.
+pub fn text_of(state: &State) -> Result<Vec<u8>, NoMemory>
     requires stands { (m : saved.State) × Stands state.now m }
     ensures { IfOk result (λ text. (m : saved.State) → Stands state.now m → IsState m → IsStateText text.items m) }
 {
-    let mut text = room;
-    text.clear();
+    let mut text = Vec::new(state.alloc());
     write_into(state, &mut text)?;
     Ok(text)
 }

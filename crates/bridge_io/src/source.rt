@@ -1,10 +1,11 @@
 // Where bytes come from.
-ghost use Rattle.std.specs.Prelude.{List, ℕ, Option};
+ghost use Rattle.std.specs.Prelude.{◌≡◌, List, ℕ, Option, length, IfSome, MatchOption};
 ghost use Rattle.std.specs.Io.{ReadsAtMost};
-ghost use Rattle.std.specs.Io.KnownBytes.{ReadConsumes};
+ghost use Rattle.std.specs.Io.KnownBytes.{Consumes, ReadConsumes};
 ghost use Rattle.bridge_io.specs.Causes.{HasCause};
 
 use crate::failed::Failed;
+use bytes::Bytes;
 
 /// Gives bytes in pieces, and counts its faults.
 pub trait Source {
@@ -20,4 +21,14 @@ pub trait Source {
         ensures bound { ReadsAtMost result buf.new }
         ensures bytes { ReadConsumes (left self.old) (left self.new) result buf.new }
         ensures cause { HasCause (faults self.old) (faults self.new) result };
+
+    /// The next `count` bytes as a part of a block that is shared, so that they aren't copied. `None` says nothing of how many there are: a
+    /// source that shares none answers it always, and the same bytes are still to come.
+    fn lend(&mut self, count: usize) -> Option<Bytes>
+        ensures bytes { MatchOption result (left self.new ≡ left self.old) (Consumes (left self.old) (left self.new)) }
+        ensures count { IfSome result (λ lent. length lent ≡ count) }
+        ensures faults { faults self.new ≡ faults self.old }
+    {
+        None
+    }
 }

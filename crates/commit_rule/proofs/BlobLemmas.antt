@@ -12,9 +12,8 @@ use Rattle.text_model.specs.Id.{Id}
 use Rattle.text_model.proofs.EachLemmas.{Each-append, Each-weaker}
 use Rattle.text_model.proofs.Options.{none_some, some_is}
 use Rattle.text_model.proofs.Elements.{get_unmap, each_at}
-use Rattle.hg_model.specs.FileText.{IsFileText, mark, lacks_second_mark}
+use Rattle.hg_model.specs.FileText.{IsFileText, mark}
 use Rattle.hg_model.specs.Revision.{Revision, FilesAt, revision_of, is_of}
-use Rattle.hg_filelog.proofs.MarkLemmas.{one_pair, lacks-never}
 use Rattle.hg_store.specs.Known.{AreAdded, text_of}
 use Rattle.git_model.specs.Object.{Object, object_at, knows_object, has_id}
 use Rattle.view_model.specs.View.{Row, TreeRow, text_limit}
@@ -58,11 +57,9 @@ module _ (fresh known : List Revision) (value : RowValue) (r : Row) (is : IsRowO
       let short = (held-as known added (FilesAt value.path) value.node is.1.revision (stored-revision none)).short in
       omega (arith, short, body-in is.1.revision.text (r.revision).meta (r.revision).body is.1.text)
 
-pub one-body : (text : Bytes) (meta other : Option Bytes) (body rest : Bytes) → IsFileText text meta body → IsFileText text other rest → body ≡ rest
-one-body text meta other body rest a b = (one_pair meta other body rest a.0 b.0 (sym a.1 ∙ b.1)).1
-
-pub has-marks : (text : Bytes) (meta : Option Bytes) (body : Bytes) → IsFileText text meta body → lacks_second_mark text ≡ false
-has-marks text meta body h = ap lacks_second_mark h.1 ∙ lacks-never meta body h.0
+-- a text is lent as it is
+pub lent-text : (lent text : Bytes) (meta : Option Bytes) (body : Bytes) → lent ≡ text → IsFileText text meta body → IsFileText lent meta body
+lent-text lent text meta body same is = subst (λ (t : Bytes). IsFileText t meta body) (sym same) is
 
 -- ---- the blobs
 

@@ -4,6 +4,7 @@ ghost use Rattle.std.specs.Option.{option_copied};
 ghost use Rattle.text_model.specs.Text.{IsBytes, has_piece};
 ghost use Rattle.hg_model.specs.FileText.{IsFile};
 ghost use Rattle.hg_model.specs.FileText as file_text;
+ghost use Rattle.hg_filelog.specs.Parts.{CanJoin};
 ghost use Rattle.view_model.specs.View.{TreeRow, IsRevision};
 ghost use Rattle.view_model.specs.Held.{IsBlobHeld};
 ghost use Rattle.pair_model.specs.Rule.{flag_of_mode};
@@ -11,11 +12,12 @@ ghost use Rattle.file_rule.specs.Made.{IsFresh, IsMadeRow};
 ghost use Rattle.file_rule.specs.Parents.{row_with};
 ghost use Rattle.commit_unmark.specs.Named.{revision_with, IsContentOf};
 
-use bridge_text::{Bytes, Id, NoMemory, each_is_byte};
-use file_rule::{RuledRow, content_of, row_with_text};
+use bridge_text::{Id, NoMemory, each_is_byte};
+use file_rule::{RuledRow, content_text, row_with_text};
 use hg_filelog::{file_order, join_into};
 use memchr::memmem;
 use pair_known::{GitDraft, Known};
+use shared_text::{Text, again, keep};
 use std::alloc::Global;
 use tree_shape::FileRow;
 
@@ -40,14 +42,28 @@ pub fn row_with_revision(
     ensures fresh { IfOk result (λ found. IfSome found (λ made. IsFresh known.now.hg file.now.path made.fresh)) }
 {
     let (p, q) = parents;
-    let body = content_of(known, c, file.blob());
-    if !is_revision(p, q, meta, body) {
+    let body = content_text(known, c, file.blob());
+    if !is_revision(p, q, meta, body.as_slice()) {
         return Ok(None);
     }
-    let mut text = Vec::new(alloc);
-    join_into(&mut text, meta, body)?;
-    let row = row_with_text(alloc, &known.hg, file, (p, q), Bytes::keep(text))?;
+    let text = text_with(alloc, meta, body)?;
+    let row = row_with_text(alloc, &known.hg, file, (p, q), text)?;
     Ok(Some(row))
+}
+
+// The text of these metadata and this body: without metadata the body itself, not copied.
+fn text_with(alloc: Global, meta: Option<&[u8]>, body: &Text) -> Result<Text, NoMemory>
+    requires file { CanJoin (option_copied meta) body.now }
+    ensures { IfOk result (λ text. text ≡ file_text.file_text (option_copied meta.entry) body.now) }
+{
+    match meta {
+        None => again(body),
+        Some(_) => {
+            let mut text = Vec::new(alloc);
+            join_into(&mut text, meta, body.as_slice())?;
+            keep(text)
+        }
+    }
 }
 
 // Whether these are the parents, the metadata and the body of a revision.

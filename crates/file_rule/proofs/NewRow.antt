@@ -1,9 +1,9 @@
 -- The row of a new revision.
-use Rattle.std.proofs.Common.{◌≡◌, ◌++◌, List, ◌∷◌, Option, Some, None, refl, sym, ap, subst, ◌∙◌}
+use Rattle.std.proofs.Common.{◌≡◌, ◌++◌, List, ◌∷◌, Option, Some, None, sym, ap, subst, ◌∙◌}
 use Rattle.text_model.specs.Lists.{Each}
 use Rattle.std.specs.Prelude.{option_map, unwrap_or}
 use Rattle.text_model.specs.Text.{Bytes, IsBytes}
-use Rattle.text_model.specs.Id.{Id, null, blob_id, node_id}
+use Rattle.text_model.specs.Id.{Id, null, node_id}
 use Rattle.git_model.specs.Object.{Object}
 use Rattle.git_model.specs.Unfold.{FileRow}
 use Rattle.hg_model.specs.FileText.{file_text, IsFileText, plain_meta, file_order, manifest_order}

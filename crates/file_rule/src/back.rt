@@ -7,15 +7,12 @@ ghost use Rattle.view_model.specs.Held.{IsFileHeld};
 ghost use Rattle.pair_model.specs.Rule as rule;
 ghost use Rattle.file_rule.specs.Back.{IsHeldRow, row_again};
 
-use crate::revision::{has_parents, kept_node, node_or_null, parents_over};
+use crate::revision::{MARK, has_parents, kept_node, node_or_null, parents_over};
 use bridge_text::Id;
 use hg_filelog::split;
 use hg_manifest::Entry;
 use hg_store::HgStore;
 use pair_known::HgRow;
-
-/// What stands before and behind metadata.
-const MARK: &[u8] = b"\x01\n";
 
 /// Whether a file that is held comes back from its commit, where these are the entries of its path in the parents. Nothing is hashed.
 pub fn is_ruled(store: &HgStore, row: &HgRow, first: Option<&Entry>, second: Option<&Entry>) -> bool

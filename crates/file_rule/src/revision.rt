@@ -13,14 +13,18 @@ ghost use Rattle.pair_model.specs.Rule as rule;
 ghost use Rattle.file_rule.specs.Parents.{IsRevisionAt, row_with};
 ghost use Rattle.file_rule.specs.Made.{IsMadeRow, IsRowOf, IsFresh, IsKnownAs, IsTextOver, IsRevisionOver, revision_with};
 
-use bridge_text::{Bytes, Id, NoMemory, node_id};
-use git_object::{Mode, Objects};
+use bridge_text::{Bytes, Id, NoMemory, each_is_byte, node_id};
+use git_object::Mode;
 use hg_filelog::{canonical_pair, plain_into};
 use hg_manifest::{Entry, Flag};
 use hg_store::HgStore;
 use pair_known::{FreshFile, GitDraft, HgRow, Known};
+use shared_text::{Text, again, keep};
 use std::alloc::Global;
 use tree_shape::FileRow;
+
+/// What stands before and behind metadata.
+pub(crate) const MARK: &[u8] = b"\x01\n";
 
 /// A file of the changeset that the rule gives, and its revision where it isn't stored.
 #[derive(Drop)]
@@ -68,18 +72,26 @@ pub fn kept_node(
     }
 }
 
+/// The content of a blob that the draft brings or the store holds, which the caller may own too.
+pub fn content_text<'a>(known: &'a Known, c: &'a GitDraft, id: &Id) -> &'a Text
+    requires held { (t : TreeRow) × (t.id ≡ id.now) × IsBlobHeld (c.now.fresh ++ known.now.git) t }
+    ensures { (t : TreeRow) → t.id ≡ id.now → IsBlobHeld (c.entry.now.fresh ++ known.entry.now.git) t → result.now ≡ t.content }
+{
+    match c.fresh.get(id) {
+        Some(blob) => &blob.content,
+        None => match known.git.shared_content(id) {
+            Some(content) => content,
+            None => unreachable!(),
+        },
+    }
+}
+
 /// The content of a blob that the draft brings or the store holds.
 pub fn content_of<'a>(known: &'a Known, c: &'a GitDraft, id: &Id) -> &'a [u8]
     requires held { (t : TreeRow) × (t.id ≡ id.now) × IsBlobHeld (c.now.fresh ++ known.now.git) t }
     ensures { (t : TreeRow) → t.id ≡ id.now → IsBlobHeld (c.entry.now.fresh ++ known.entry.now.git) t → result.now ≡ t.content }
 {
-    match c.fresh.get(id) {
-        Some(blob) => blob.content.as_slice(),
-        None => match known.git.content(id) {
-            Some((_, content)) => content,
-            None => unreachable!(),
-        },
-    }
+    content_text(known, c, id).as_slice()
 }
 
 // Whether a file revision is held with this text and these parents.
@@ -145,14 +157,18 @@ fn row_of(alloc: Global, file: &FileRow, node: Id) -> Result<HgRow, NoMemory>
     })
 }
 
-// The text of a body that has no metadata of its own.
-fn plain_text(alloc: Global, body: &[u8]) -> Result<Bytes, NoMemory>
+// The text of a body that has no metadata of its own: the body itself, not copied, unless it begins with a mark.
+fn plain_text(alloc: Global, body: &Text) -> Result<Text, NoMemory>
     ensures bytes { IsBytes body.now }
     ensures text { IfOk result (λ text. text ≡ file_text.file_text (plain_meta body.now) body.now) }
 {
+    each_is_byte(body.as_slice());
+    if !body.as_slice().starts_with(MARK) {
+        return again(body);
+    }
     let mut text = Vec::new(alloc);
-    plain_into(&mut text, body)?;
-    Ok(Bytes::keep(text))
+    plain_into(&mut text, body.as_slice())?;
+    keep(text)
 }
 
 /// The row of a file whose revision has this text and these parents, which stand in their order; and the revision where the store doesn't
@@ -162,7 +178,7 @@ pub fn row_with_text(
     store: &HgStore,
     file: &FileRow,
     parents: (Id, Id),
-    text: Bytes,
+    text: Text,
 ) -> Result<RuledRow, NoMemory>
     requires text { (meta : Option (List ℕ)) × (body : List ℕ) × IsTextOver text meta body parents.0 parents.1 }
     ensures ok { IfOk result (λ made. (r : FileRevision) → IsRevisionOver r file.now.id parents.0 parents.1 text
@@ -202,7 +218,7 @@ fn new_row(
         → IsMadeRow known.now.hg made (row_with file.now.path (rule.flag_of_mode file.now.mode) (rule.new_revision r s t.content))) }
     ensures fresh { IfOk result (λ made. IsFresh known.now.hg file.now.path made.fresh) }
 {
-    let text = plain_text(alloc, content_of(known, c, file.blob()))?;
+    let text = plain_text(alloc, content_text(known, c, file.blob()))?;
     let parents = parents_over(node_or_null(first), node_or_null(second));
     row_with_text(alloc, &known.hg, file, parents, text)
 }

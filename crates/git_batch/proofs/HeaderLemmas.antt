@@ -1,5 +1,5 @@
 -- The words of a line, and what is read of them.
-use Rattle.std.proofs.Common.{◌≡◌, ℕ, ◌<◌, ◌≤◌, ◌^◌, Bool, true, false, ◌&&◌, List, [], ◌∷◌, ◌++◌, None, Some, decimal, refl, sym, ap, ◌∙◌, arith, append-nil, le-ltb, lt-ltb}
+use Rattle.std.proofs.Common.{◌≡◌, ℕ, ◌<◌, ◌≤◌, ◌^◌, true, false, ◌&&◌, List, [], ◌∷◌, ◌++◌, None, Some, decimal, refl, sym, ap, ◌∙◌, arith, append-nil, le-ltb, lt-ltb}
 use Rattle.std.proofs.lemmas.List.Splits.{join_with_byte-slice_split}
 use Rattle.std.specs.List.{join_with_byte}
 use Rattle.text_model.specs.Text.{Bytes, sp, spaced, is_decimal, number_of, decimal_below}

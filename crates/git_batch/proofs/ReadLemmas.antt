@@ -1,11 +1,14 @@
 -- What was read of the source, as a reading of its bytes.
-use Rattle.std.proofs.Common.{◌≡◌, ℕ, ◌+◌, ◌≤◌, [], ◌∷◌, ◌++◌, length, take, Option, None, Some, IfSome, refl, sym, ap, ◌∙◌, subst, arith, append-nil, append_assoc, length-append, Bool, ◌==◌}
+use Rattle.std.proofs.Common.{◌≡◌, ◌≢◌, ℕ, ◌+◌, ◌≤◌, [], ◌∷◌, ◌++◌, length, take, Option, None, Some, IfSome, refl, sym, ap, ◌∙◌, subst, arith, append-nil, append_assoc, length-append, Bool, true, false, ◌==◌}
 use Rattle.std.specs.Prelude.{slice_index}
 use Rattle.std.specs.Io.KnownBytes.{Consumes}
-use Rattle.std.proofs.lemmas.List.{take_at}
+use Rattle.std.proofs.lemmas.List.{take_at, get_or_append_left}
+use Rattle.std.proofs.lemmas.Bool.Decides.{nat_tests}
 use Rattle.text_model.specs.Text.{Bytes, lf, line}
 use Rattle.text_model.specs.Id.{Id, ObjectKind}
-use Rattle.text_model.specs.Fault.{Refusal, reach}
+use Rattle.text_model.specs.Fault.{Refusal, refusal_at, reach, input_limit}
+use Rattle.text_model.specs.Fault as fault
+use Rattle.text_model.proofs.FaultLemmas.{reach-within}
 use Rattle.git_model.specs.Stream.{LineReading, NoLine, Header, BadLine, unless_bad, line_reading, or_line, body_fault, NoObject, Found, with_content, object_behind, object_reading}
 use Rattle.git_model.proofs.StreamLine.{line_reading-lf, line_reading-cut, line_reading-limit, object_behind_line}
 use Rattle.git_batch.specs.declared.line.LineEnd.{LineEnd}
@@ -129,3 +132,25 @@ body_over at size (Some bytes) (Some rest) came e took long is =
     let end : at + length came ≡ at + size + 1 = omega (arith, long) in
     or_fault (at + size) (slice_index bytes size == lf) (reach (at + length bytes) (at + size + 1)) e
     (subst (λ (n : ℕ). IsFault (reach (at + length bytes) n) e) end (is (at + length bytes) (omega (arith, all))))
+
+-- bytes that came within the limit are refused where the byte behind the content is no LF, and for nothing else
+body_came : (at size : ℕ) (bytes came rest : Bytes) (is_lf : Bool) → bytes ≡ came ++ rest → length came ≡ size + 1 → at + size + 1 ≤ input_limit → (slice_index came size == lf) ≡ is_lf
+    → body_fault at size bytes ≡ or_line (at + size) is_lf None
+unfolding body_fault
+body_came at size bytes came rest is_lf took long fits last =
+    let all : length bytes ≡ length came + length rest = ap (λ (l : Bytes). length l) took ∙ length-append came rest in
+    let there : reach (at + length bytes) (at + size + 1) ≡ None = reach-within (at + length bytes) (at + size + 1) (omega (arith, all, long)) fits in
+    let behind : slice_index bytes size ≡ slice_index came size = ap (λ (l : Bytes). slice_index l size) took ∙ get_or_append_left came rest 0 size (omega (arith, long)) in
+    rw (there, behind, last) refl
+
+pub body_ended : (at size : ℕ) (old new : Option Bytes) (came : Bytes) → Consumes old new came → length came ≡ size + 1 → at + size + 1 ≤ input_limit → slice_index came size ≡ lf
+    → IfSome old (λ bytes. body_fault at size bytes ≡ None)
+body_ended at size None new came took long fits last = tt
+body_ended at size (Some bytes) None came took long fits last = absurd took
+body_ended at size (Some bytes) (Some rest) came took long fits last = body_came at size bytes came rest true took long fits (grind (arith, nat_tests, last))
+
+pub body_unended : (at size : ℕ) (old new : Option Bytes) (came : Bytes) → Consumes old new came → length came ≡ size + 1 → at + size + 1 ≤ input_limit → slice_index came size ≢ lf
+    → IfSome old (λ bytes. body_fault at size bytes ≡ Some (refusal_at fault.Line (at + size)))
+body_unended at size None new came took long fits other = tt
+body_unended at size (Some bytes) None came took long fits other = absurd took
+body_unended at size (Some bytes) (Some rest) came took long fits other = body_came at size bytes came rest false took long fits (grind (arith, nat_tests, other))

@@ -31,6 +31,10 @@ reading_fault (BadObject why) = Some why
 abbrev pub Reads : ObjectReading → Bytes → Result Item BatchFault → Type 0
 Reads reading content result = MatchResult result (λ i. reading ≡ item_value i content) (IsFault (reading_fault reading))
 
+-- the same where the content is answered with the item
+abbrev pub ReadsText : ObjectReading → Result (Item × Bytes) BatchFault → Type 0
+ReadsText reading result = MatchResult result (λ read. reading ≡ item_value read.0 read.1) (IsFault (reading_fault reading))
+
 -- an object has the offset of its line and a content within its limit, and the end has none
 abbrev pub IsItem : ℕ → Bytes → Item → Type 0
 IsItem at content (item.Object id kind place) = (place ≡ at) × (length content ≤ size_limit (object_kind kind))

@@ -9,6 +9,7 @@ ghost use Rattle.git_batch.specs.Steps.{placed_with, Adds};
 use crate::arrival::{ObjectArrival, ObjectArrivals};
 use crate::stream_fault::{StreamFault, addition_fault};
 use git_store::GitStore;
+use shared_text::Text;
 use std::alloc::Global;
 
 /// What was read of a stream so far.
@@ -30,10 +31,10 @@ impl Gathered {
     }
 
     /// Adds an object with its content, which has its id.
-    pub fn take(&mut self, object: ObjectArrival, content: Vec<u8>) -> Result<(), StreamFault>
-        requires its_id { object_id (object_kind object.kind) content.items ≡ object.id }
-        ensures ok { OnOk result (Adds (placed_with object content.items) self.old self.new) }
-        ensures fault { IfErr result (IsJudgement (placed_fault self.old.store (placed_with object content.items))) }
+    pub fn take(&mut self, object: ObjectArrival, content: Text) -> Result<(), StreamFault>
+        requires its_id { object_id (object_kind object.kind) content ≡ object.id }
+        ensures ok { OnOk result (Adds (placed_with object content) self.old self.new) }
+        ensures fault { IfErr result (IsJudgement (placed_fault self.old.store (placed_with object content))) }
         ensures names { IfErr result IsOfStream }
     {
         if let Err(fault) = self.store.add(object.id, object.kind, content) {

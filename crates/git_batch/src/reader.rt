@@ -4,13 +4,16 @@ ghost use Rattle.std.specs.Io.KnownBytes.{Consumes};
 ghost use Rattle.text_model.specs.Fault.{input_limit};
 ghost use Rattle.git_model.specs.Stream.{object_reading, checked_at};
 ghost use Rattle.git_batch.specs.Faults.{AnswerCause, IsFraming};
-ghost use Rattle.git_batch.specs.Item.{Reads, IsItem, EndsThere, HasItsId, item_text};
+ghost use Rattle.git_batch.specs.Item.{Reads, ReadsText, IsItem, EndsThere, HasItsId, item_text};
 
 use crate::BatchFault;
-use crate::content::read_content;
+use crate::content::{read_content, read_text};
+use crate::contents::{Contents, has_id};
 use crate::line::read_header;
 use bridge_io::Source;
 use bridge_text::{Id, Kind, object_id};
+use shared_text::Text;
+use std::alloc::Global;
 use std::marker::Model;
 
 /// What was read.
@@ -107,6 +110,67 @@ impl BatchReader {
             return Err(BatchFault::IdWrong(id, at));
         }
         Ok(item)
+    }
+
+    /// Reads the next object as `next_checked` does, with the same faults, and answers its content as a text: a part of
+    /// what the source lends, or else bytes of its own. At the end the text is empty. `line` is room for lines, whose
+    /// bytes are of no use afterwards; `next_checked` puts the content into such a vector, which can be used again. The
+    /// content of a blob that is known isn't hashed.
+    pub fn next_text<S: Source, C: Contents>(
+        &mut self,
+        alloc: Global,
+        src: &mut S,
+        known: &C,
+        line: &mut Vec<u8>,
+    ) -> Result<(Item, Text), BatchFault>
+        ensures reads { IfSome (S.left src.old) (λ bytes. ReadsText (checked_at self.old (object_reading self.old bytes)) result) }
+        ensures bytes { IfOk result (λ read. Consumes (S.left src.old) (S.left src.new) (item_text read.0 read.1)) }
+        ensures end { IfOk result (λ read. EndsThere (S.left src.new) read.0) }
+        ensures item { IfOk result (λ read. IsItem self.old read.1 read.0) }
+        ensures id { IfOk result (λ read. HasItsId read.1 read.0) }
+        ensures offset { IfOk result (λ read. self.new ≡ self.old + length (item_text read.0 read.1)) }
+        ensures limit { OnOk result (self.new ≤ input_limit) }
+        ensures cause { AnswerCause (S.faults src.old) (S.faults src.new) result }
+    {
+        let (item, text) = self.read_text_object(alloc, src, line)?;
+        if let Item::Object { id, kind, at } = item
+            && !has_id(known, kind, &id, text.as_slice())
+        {
+            return Err(BatchFault::IdWrong(id, at));
+        }
+        Ok((item, text))
+    }
+
+    // Reads the next object, with a text as its content.
+    fn read_text_object<S: Source>(
+        &mut self,
+        alloc: Global,
+        src: &mut S,
+        line: &mut Vec<u8>,
+    ) -> Result<(Item, Text), BatchFault>
+        ensures reads { IfSome (S.left src.old) (λ bytes. ReadsText (object_reading self.old bytes) result) }
+        ensures bytes { IfOk result (λ read. Consumes (S.left src.old) (S.left src.new) (item_text read.0 read.1)) }
+        ensures end { IfOk result (λ read. EndsThere (S.left src.new) read.0) }
+        ensures item { IfOk result (λ read. IsItem self.old read.1 read.0) }
+        ensures offset { IfOk result (λ read. self.new ≡ self.old + length (item_text read.0 read.1)) }
+        ensures limit { OnOk result (self.new ≤ input_limit) }
+        ensures names { IfErr result IsFraming }
+        ensures cause { AnswerCause (S.faults src.old) (S.faults src.new) result }
+    {
+        line.clear();
+        let at = self.offset;
+        let Some(header) = read_header(src, at, line)? else {
+            return Ok((Item::End, Text::new()));
+        };
+        let start = at + line.len() as u64 + 1;
+        let text = read_text(alloc, src, start, header.size)?;
+        self.offset = start + header.size as u64 + 1;
+        let item = Item::Object {
+            id: header.id,
+            kind: header.kind,
+            at,
+        };
+        Ok((item, text))
     }
 
     // Reads the next object into an empty vector.

@@ -4,9 +4,10 @@ ghost use Rattle.git_model.specs.Stream.{stream_reading};
 ghost use Rattle.git_section.specs.Sections.{IsRead};
 
 use bridge_text::{IdList, NoMemory};
-use git_batch::{StreamFault, commit_ids, read_into};
+use git_batch::{Contents, StreamFault, commit_ids, read_known_into};
 use git_store::GitStore;
-use state_part::Part;
+use shared_text::{Text, again};
+use state_part::SharedPart;
 use std::alloc::Global;
 
 /// The commits of a saved state.
@@ -18,12 +19,18 @@ pub struct GitSection {
     pub ids: IdList,
 }
 
-/// The objects that these bytes bring to an empty store; `None` exactly where the bytes are refused.
-pub fn read_section(alloc: Global, bytes: &[u8]) -> Result<Option<GitSection>, NoMemory>
+/// The objects that these bytes bring to an empty store; `None` exactly where the bytes are refused. Blobs that are known
+/// aren't hashed.
+pub fn read_section<C: Contents>(
+    alloc: Global,
+    bytes: &Text,
+    known: &C,
+) -> Result<Option<GitSection>, NoMemory>
     ensures { IfOk result (λ found. MatchOption found (is_ok (stream_reading [] bytes.now) ≡ false) (IsRead bytes.now)) }
 {
-    let mut source = Part::new(bytes);
-    match read_into(alloc, &mut source, GitStore::new(alloc)) {
+    let text = again(bytes)?;
+    let mut source = SharedPart::new(text);
+    match read_known_into(alloc, &mut source, known, GitStore::new(alloc)) {
         Ok((store, came)) => {
             store.check();
             let ids = commit_ids(alloc, &came)?;

@@ -12,25 +12,26 @@ use crate::held::Parsed;
 use crate::parse::parse;
 use crate::store::GitStore;
 use bridge_text::{Added, Id, Kind};
+use shared_text::Text;
 
 impl GitStore {
     /// Adds an object, whose id is that of its kind and content. The content is kept, not copied.
     /// The faults are those of `GitAddFault`, in their order, each exactly where it says; after a fault the store is as
     /// it was. Known is the answer where the id is there with this kind and content, and then nothing changes.
-    pub fn add(&mut self, id: Id, kind: Kind, content: Vec<u8>) -> Result<Added, GitAddFault>
-        requires its_id { object_id (object_kind kind) content.items ≡ id }
-        ensures faultless { OnOk result (object_fault self.old (object_with id kind content.items) ≡ None) }
+    pub fn add(&mut self, id: Id, kind: Kind, content: Text) -> Result<Added, GitAddFault>
+        requires its_id { object_id (object_kind kind) content ≡ id }
+        ensures faultless { OnOk result (object_fault self.old (object_with id kind content) ≡ None) }
         ensures answer { IfOk result (λ added. added ≡ answer_of self.old id) }
-        ensures ok { OnOk result (self.new ≡ objects_after self.old (object_with id kind content.items)) }
-        ensures fault { IfErr result (IsFault (object_fault self.old (object_with id kind content.items))) }
+        ensures ok { OnOk result (self.new ≡ objects_after self.old (object_with id kind content)) }
+        ensures fault { IfErr result (IsFault (object_fault self.old (object_with id kind content))) }
         ensures err { OnErr result (self.new ≡ self.old) }
         ensures before { AreKnown self.old }
         ensures known { AreKnown self.new }
     {
-        if self.knows_same(&id, kind, &content) {
+        if self.knows_same(&id, kind, content.as_slice()) {
             return Ok(Added::Known);
         }
-        let parsed = self.parse_other(&id, kind, &content)?;
+        let parsed = self.parse_other(&id, kind, content.as_slice())?;
         self.keep(id, content, parsed)?;
         Ok(Added::New)
     }

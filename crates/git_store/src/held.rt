@@ -3,8 +3,9 @@ ghost use Rattle.text_model.specs.Id.{same_kind};
 ghost use Rattle.bridge_text.specs.Kinds.{object_kind};
 ghost use Rattle.git_store.specs.Held.{parsed_kind};
 
-use bridge_text::{Bytes, Kind};
+use bridge_text::Kind;
 use git_object::{Commit, Tag, Tree};
+use shared_text::Text;
 
 /// What a content says.
 #[derive(Drop)]
@@ -29,10 +30,10 @@ impl Parsed {
     }
 }
 
-/// A stored object: its content and what this says.
+/// A stored object: its content, which others may own too, and what this says.
 #[derive(Drop)]
 pub struct Held {
-    pub content: Bytes,
+    pub content: Text,
     pub parsed: Parsed,
 }
 

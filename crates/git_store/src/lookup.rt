@@ -10,8 +10,19 @@ use crate::held::Parsed;
 use crate::store::GitStore;
 use bridge_text::{Id, Kind};
 use git_object::{Commit, Objects, Tag, Tree};
+use shared_text::Text;
 
 impl GitStore {
+    /// The content of the object with this id, which the caller may own too; `None` exactly where the id is unknown. It
+    /// takes no memory.
+    pub fn shared_content(&self, id: &Id) -> Option<&Text>
+        ensures content { option_copied result ≡ option_map (λ o. o.content) (object_at self.now id.now) }
+        ensures known { AreKnown self.now }
+    {
+        let held = self.get(id)?;
+        Some(&held.content)
+    }
+
     /// The commit with this id; `None` exactly where no object with this id is a commit. It takes no memory.
     pub fn commit(&self, id: &Id) -> Option<&Commit>
         ensures commit { MatchOption result (content_at kinds.commit self.now id.now ≡ None) (λ commit. IsCommitAt self.now id.now commit.now) }

@@ -7,8 +7,9 @@ ghost use Rattle.git_store.specs.Known.{AreKnown};
 ghost use Rattle.git_store.specs.Held.{object_in, IsValue, parsed_kind};
 
 use crate::held::{Held, Parsed};
-use bridge_text::{Bytes, Id, NoMemory};
+use bridge_text::{Id, NoMemory};
 use indexmap::IndexMap;
+use shared_text::Text;
 use std::alloc::Global;
 use std::marker::Model;
 
@@ -81,20 +82,17 @@ impl GitStore {
     }
 
     // Puts an object that may be added, and whose id isn't known, behind the others.
-    pub(crate) fn keep(&mut self, id: Id, content: Vec<u8>, parsed: Parsed) -> Result<(), NoMemory>
-        requires its_id { object_id (parsed_kind parsed) content.items ≡ id }
+    pub(crate) fn keep(&mut self, id: Id, content: Text, parsed: Parsed) -> Result<(), NoMemory>
+        requires its_id { object_id (parsed_kind parsed) content ≡ id }
         requires fresh { knows_object self.old id ≡ false }
-        requires fits { content_fault (parsed_kind parsed) content.items ≡ None }
-        requires value { IsValue content.items parsed }
-        requires bytes { IsBytes content.items }
-        ensures ok { OnOk result (self.new ≡ self.old ++ record { id = id; kind = parsed_kind parsed; content = content.items } ∷ []) }
+        requires fits { content_fault (parsed_kind parsed) content ≡ None }
+        requires value { IsValue content parsed }
+        requires bytes { IsBytes content }
+        ensures ok { OnOk result (self.new ≡ self.old ++ record { id = id; kind = parsed_kind parsed; content = content } ∷ []) }
         ensures err { OnErr result (self.new ≡ self.old) }
         ensures known { AreKnown self.new }
     {
-        let held = Held {
-            content: Bytes::keep(content),
-            parsed,
-        };
+        let held = Held { content, parsed };
         self.objects.insert(id, held)?;
         Ok(())
     }

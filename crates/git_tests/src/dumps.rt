@@ -7,6 +7,7 @@ use bridge_text::{Id, IdList, Kind, decimal_into, object_id};
 use git_dump::{Dump, is_stream, write, written_len};
 use git_store::GitStore;
 use git_view::commits_are_held;
+use shared_text::keep;
 use std::alloc::Global;
 use std::process::Abort;
 use std::test::Fail;
@@ -123,7 +124,7 @@ fn id(place: usize) -> Result<Id, Fail> {
 fn add(alloc: Global, store: &mut GitStore, object: &Object) -> Result<bool, Fail> {
     let Object(kind, digits, content) = object;
     let its_id = object_id(*kind, content);
-    let content = content.to_vec(alloc)?;
+    let content = keep(content.to_vec(alloc)?)?;
     let is_added = store.add(its_id, *kind, content).is_ok();
     Ok(is_added && its_id.hex().as_slice() == *digits)
 }

@@ -16,4 +16,6 @@ mod streams;
 #[cfg(test)]
 mod sums;
 #[cfg(test)]
+mod texts;
+#[cfg(test)]
 mod trees;

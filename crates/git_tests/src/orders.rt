@@ -1,6 +1,7 @@
 // The order in which the commits of a stream arrive.
 use bridge_text::{Id, IdList, IdSet, Kind, object_id};
 use git_store::{GitStore, OrderFault};
+use shared_text::keep;
 use std::alloc::Global;
 use std::process::Abort;
 use std::test::Fail;
@@ -58,7 +59,7 @@ fn add(alloc: Global, store: &mut GitStore, commit: &Row) -> Result<bool, Fail> 
     let (digits, parents, message) = *commit;
     let content = content(alloc, parents, message)?;
     let its_id = object_id(Kind::Commit, &content);
-    let is_added = store.add(its_id, Kind::Commit, content).is_ok();
+    let is_added = store.add(its_id, Kind::Commit, keep(content)?).is_ok();
     Ok(is_added && its_id.hex().as_slice() == digits)
 }
 

@@ -2,6 +2,7 @@
 use bridge_text::{Added, Id, Kind, object_id};
 use git_object::Objects;
 use git_store::{GitAddFault, GitStore};
+use shared_text::{Text, keep};
 use std::alloc::Global;
 use std::process::Abort;
 use std::test::Fail;
@@ -97,18 +98,18 @@ fn id(digits: &[u8]) -> Result<Id, Fail> {
 fn is_answered(
     store: &mut GitStore,
     kind: Kind,
-    content: Vec<u8>,
+    content: Text,
     digits: &[u8],
     want: &Result<Added, GitAddFault>,
 ) -> bool {
-    let its_id = object_id(kind, &content);
+    let its_id = object_id(kind, content.as_slice());
     let is_its_id = its_id.hex().as_slice() == digits;
     is_its_id && store.add(its_id, kind, content) == *want
 }
 
 fn is_taken(alloc: Global, store: &mut GitStore, step: &Step) -> Result<bool, Fail> {
     let Step(kind, content, digits, want) = step;
-    let content = content.to_vec(alloc)?;
+    let content = keep(content.to_vec(alloc)?)?;
     Ok(is_answered(store, *kind, content, digits, want))
 }
 
@@ -174,7 +175,7 @@ const MANY_PARENTS: &[Many] = &[
 fn is_counted(alloc: Global, row: &Many) -> Result<bool, Fail> {
     let (parents, again, digits, want) = row;
     let mut store = GitStore::new(alloc);
-    let content = commit_of(alloc, *parents, *again)?;
+    let content = keep(commit_of(alloc, *parents, *again)?)?;
     Ok(is_answered(&mut store, Kind::Commit, content, digits, want))
 }
 

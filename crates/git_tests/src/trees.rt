@@ -14,9 +14,9 @@ type Row = (&'static [u8], Mode, u8);
 
 /// Adds an object, and gives its id.
 pub fn keep(alloc: Global, store: &mut GitStore, kind: Kind, content: &[u8]) -> Result<Id, Fail> {
-    let content = content.to_vec(alloc)?;
-    let its_id = object_id(kind, &content);
-    store.add(its_id, kind, content).map_err(|_| "an object")?;
+    let text = shared_text::keep(content.to_vec(alloc)?)?;
+    let its_id = object_id(kind, content);
+    store.add(its_id, kind, text).map_err(|_| "an object")?;
     Ok(its_id)
 }
 

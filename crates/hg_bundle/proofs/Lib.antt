@@ -8,3 +8,4 @@ pub mod Grown
 pub mod Taken
 pub mod Groups
 pub mod Unreadable
+pub mod Wholes

@@ -1,5 +1,5 @@
 -- The text of an entry over what was read before it, and why it has none.
-use Rattle.std.specs.Prelude.{◌≡◌, ◌≤◌, ◌+◌, ℕ, [], List, length, Option, Some, None, ⊤}
+use Rattle.std.specs.Prelude.{◌≡◌, ◌≤◌, ◌+◌, ℕ, [], List, length, drop, Option, Some, None, ⊤}
 use Rattle.text_model.specs.Text.{Bytes}
 use Rattle.text_model.specs.Id.{Id}
 use Rattle.text_model.specs.Fault.{FaultName, Refusal}
@@ -12,10 +12,15 @@ use Rattle.hg_bundle.specs.declared.fault.BundleFault.{BundleFault}
 use Rattle.hg_bundle.specs.declared.gather.Patched.{Patched}
 use Rattle.hg_bundle.specs.declared.gather.Patched.TheVariants.{Text, Refused}
 use Rattle.hg_bundle.specs.Faults.{IsJudgement, IsReadFault}
+use Rattle.hg_bundle.specs.Payload.{payload_bytes}
 
 -- the entry in the words of the format
 abbrev pub entry_value : Entry → BundleEntry
 entry_value e = record { node = e.node; p = e.p; q = e.q; link = e.link; delta = (e.delta).now }
+
+-- the delta is what stands behind the four ids of the payload
+abbrev pub EndsPayload : Entry → Type 0
+EndsPayload e = (e.delta).now ≡ drop 80 (payload_bytes e.payload)
 
 -- the base of the first entry of a group, and of one that follows the entry with a node
 abbrev pub base_for : List Revision → Group → Option Id → Id → Option Bytes
@@ -44,7 +49,7 @@ pub record HasNoText (known : List Revision) (sum : ℕ) (group : Group) (last :
   pub later : ancestry_fault known (revision_by group e []) ≡ None → IsJudgement (fault_for known sum group last at e) fault
 
 abbrev pub Patches : List Revision → ℕ → Group → Option Id → ℕ → BundleEntry → Patched → Type 0
-Patches known sum group last at e (Text text) = HasText known sum group last e text.items
+Patches known sum group last at e (Text text) = HasText known sum group last e text
 Patches known sum group last at e (Refused fault) = HasNoText known sum group last at e fault
 
 -- a fault that is kept for later is one of reading

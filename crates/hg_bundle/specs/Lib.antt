@@ -4,5 +4,6 @@ pub mod Entry
 pub mod Faults
 pub mod Line
 pub mod Listing
+pub mod Payload
 pub mod Place
 pub mod Steps

@@ -8,9 +8,10 @@ ghost use Rattle.text_model.specs.Fault as fault;
 ghost use Rattle.hg_model.specs.Revision.{FilesAt};
 ghost use Rattle.hg_model.specs.Reading.{hunk_place, sum_limit};
 ghost use Rattle.hg_store.specs.Known.{HasFitPath};
-ghost use Rattle.hg_bundle.specs.Entry.{entry_value, base_for, fault_for, HasLast, HasText, Patches, IsReadPatch};
+ghost use Rattle.hg_bundle.specs.Entry.{entry_value, base_for, fault_for, EndsPayload, HasLast, HasText, Patches, IsReadPatch};
 ghost use Rattle.hg_bundle.specs.Faults.{IsJudgement, IsReadFault};
 ghost use Rattle.hg_bundle.specs.Listing.{next_place};
+ghost use Rattle.hg_bundle.specs.Payload.{payload_bytes};
 ghost use Rattle.hg_bundle.specs.Place.{place_value, group_value};
 ghost use Rattle.hg_bundle.specs.Steps.{Adds, HasFitPlace, HasLastAt, Steps, step_refusal};
 
@@ -18,10 +19,12 @@ use crate::arrival::{Arrival, Arrivals};
 use crate::entry::Entry;
 use crate::fault::{BundleFault, addition_fault, refused};
 use crate::line::HEADER;
+use crate::payload::Payload;
 use crate::place::{Group, Place};
 use bridge_text::{Added, Bytes, Fault, Id, SUM_LIMIT, fit_path};
-use hg_hunk::{HunkFault, fill, patched_len};
+use hg_hunk::{HunkFault, patched_len};
 use hg_store::HgStore;
+use shared_text::Text;
 use std::alloc::Global;
 
 /// How many bytes stand before the delta of an entry: its length field and four ids.
@@ -40,7 +43,7 @@ pub struct Gathered {
 
 /// What an entry's delta makes of its base.
 pub enum Patched {
-    Text(Vec<u8>),
+    Text(Text),
     /// It makes no text. This is told where the parents and the link are right.
     Refused(BundleFault),
 }
@@ -64,33 +67,33 @@ impl Gathered {
         alloc: Global,
         place: Place,
         at: u64,
-        payload: &[u8],
+        payload: &Payload<'_>,
     ) -> Result<Option<Place>, BundleFault>
         requires sum { self.old.sum ≤ sum_limit }
         requires at { at ≤ input_limit }
-        requires small { length payload.now < 2 ^ 31 }
+        requires small { length (payload_bytes payload.now) < 2 ^ 31 }
         requires fit { HasFitPlace (Some (place_value place)) }
         requires last { HasLastAt self.old.store self.old.last (Some (place_value place)) }
-        ensures next { IfOk result (λ next. option_map place_value next ≡ next_place (place_value place) payload.now) }
+        ensures next { IfOk result (λ next. option_map place_value next ≡ next_place (place_value place) (payload_bytes payload.now)) }
         ensures fit { IfOk result (λ next. HasFitPlace (option_map place_value next)) }
         ensures last { IfOk result (λ next. HasLastAt self.new.store self.new.last (option_map place_value next)) }
         ensures sum { OnOk result (self.new.sum ≤ sum_limit) }
-        ensures steps { OnOk result (Steps (place_value place) at payload.now self.old self.new) }
-        ensures bytes { OnOk result (IsBytes payload.now) }
-        ensures fault { IfErr result (IsJudgement (step_refusal (place_value place) at payload.now self.old)) }
+        ensures steps { OnOk result (Steps (place_value place) at (payload_bytes payload.now) self.old self.new) }
+        ensures bytes { OnOk result (IsBytes (payload_bytes payload.now)) }
+        ensures fault { IfErr result (IsJudgement (step_refusal (place_value place) at (payload_bytes payload.now) self.old)) }
         ensures names { IfErr result IsReadFault }
     {
-        if payload.is_empty() {
+        if payload.bytes().is_empty() {
             self.last = None;
             return Ok(place.after_empty());
         }
         match place {
             Place::AtPath => {
                 self.last = None;
-                Ok(Some(Place::In(file_group(alloc, at, payload)?)))
+                Ok(Some(Place::In(file_group(alloc, at, payload.bytes())?)))
             }
             Place::In(group) => {
-                if payload.len() < HEADER {
+                if payload.bytes().len() < HEADER {
                     return Err(refused(Fault::HeaderShort, Id::NULL, at));
                 }
                 self.add(alloc, &group, at, &Entry::of(payload))?;
@@ -111,6 +114,7 @@ impl Gathered {
         requires at { at ≤ input_limit }
         requires small { length entry.now.delta.now < 2 ^ 31 }
         requires fit { HasFitPath (group_value group.now) }
+        requires ends { EndsPayload entry.now }
         requires last { HasLast self.old.store (group_value group.now) self.old.last }
         ensures sum { OnOk result (self.new.sum ≤ sum_limit) }
         ensures adds { OnOk result (Adds (group_value group.now) at (entry_value entry.now) self.old self.new) }
@@ -144,19 +148,20 @@ impl Gathered {
         group: &Group,
         at: u64,
         entry: &Entry<'_>,
-    ) -> Result<Vec<u8>, BundleFault>
+    ) -> Result<Text, BundleFault>
         requires sum { self.now.sum ≤ sum_limit }
         requires at { at ≤ input_limit }
         requires small { length entry.now.delta.now < 2 ^ 31 }
+        requires ends { EndsPayload entry.now }
         requires last { HasLast self.now.store (group_value group.now) self.now.last }
-        ensures text { IfOk result (λ text. HasText self.now.store self.now.sum (group_value group.now) self.now.last (entry_value entry.now) text.items) }
+        ensures text { IfOk result (λ text. HasText self.now.store self.now.sum (group_value group.now) self.now.last (entry_value entry.now) text) }
         ensures fault { IfErr result (IsJudgement (fault_for self.now.store self.now.sum (group_value group.now) self.now.last at (entry_value entry.now))) }
         ensures names { IfErr result IsReadFault }
     {
         match self.patched(alloc, group, at, entry)? {
             Patched::Text(text) => Ok(text),
             Patched::Refused(refused) => {
-                let empty = entry.with_text(group, Vec::new(alloc));
+                let empty = entry.with_text(group, Text::new());
                 match self.store.check_ancestry(&empty) {
                     Ok(()) => Err(refused),
                     Err(fault) => Err(addition_fault(fault, entry.node, at)),
@@ -176,6 +181,7 @@ impl Gathered {
         requires sum { self.now.sum ≤ sum_limit }
         requires at { at ≤ input_limit }
         requires small { length entry.now.delta.now < 2 ^ 31 }
+        requires ends { EndsPayload entry.now }
         requires last { HasLast self.now.store (group_value group.now) self.now.last }
         ensures refused { IfOk result IsReadPatch }
         ensures patched { IfOk result (Patches self.now.store self.now.sum (group_value group.now) self.now.last at (entry_value entry.now)) }
@@ -202,9 +208,7 @@ impl Gathered {
         if len > group.text_limit() {
             return Err(refused(Fault::Limit, entry.node, at));
         }
-        let mut text = Vec::with_capacity(alloc, len)?;
-        fill(&mut text, base, entry.delta);
-        Ok(Patched::Text(text))
+        Ok(Patched::Text(entry.text_over(alloc, base, len)?))
     }
 
     // The base of an entry: the text of the entry before, or at the beginning of a group that of the first parent.

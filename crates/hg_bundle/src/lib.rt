@@ -8,6 +8,7 @@ mod gather;
 mod laws;
 mod line;
 mod listing;
+mod payload;
 mod place;
 mod read;
 

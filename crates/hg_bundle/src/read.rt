@@ -9,6 +9,7 @@ ghost use Rattle.hg_bundle.specs.Faults.{AnswerCause, IsReadFault};
 use crate::arrival::Arrivals;
 use crate::fault::BundleFault;
 use crate::gather::Gathered;
+use crate::payload::Payload;
 use crate::place::{Group, Place};
 use bridge_io::Source;
 use hg_chunk::ChunkReader;
@@ -16,7 +17,8 @@ use hg_store::HgStore;
 use std::alloc::Global;
 
 /// Reads a bundle to the end of its source into a store, and lists its entries, in the order of the bundle. The texts are
-/// made of the deltas, and each revision is checked and added as it comes.
+/// made of the deltas, and each revision is checked and added as it comes. A text that stands whole in what the source lends isn't
+/// copied.
 ///
 /// A bundle is that of Mercurial's help topics `internals.bundles` and `internals.changegroups` (HG10UN, changegroup
 /// version 1). The delta of the first entry of a group is against its first parent's text, empty for the null id, and each
@@ -50,8 +52,10 @@ pub fn read_into<S: Source>(
     let mut payload = Vec::new(alloc);
     'chunks: while let Some(place) = next {
         let at = reader.offset();
-        reader.next(src, place.most(), &mut payload)?;
-        next = gathered.take(alloc, place, at, &payload)?;
+        let lent = reader.next_text(src, place.most(), &mut payload)?;
+        next = gathered.take(alloc, place, at, &Payload::of(&lent, &payload))?;
+        // The store owns what it keeps of this.
+        drop(lent);
     }
     reader.finish(src)?;
     Ok((gathered.store, gathered.arrivals))

@@ -7,13 +7,14 @@ ghost use Rattle.byteorder.specs.Endian.{big_bytes};
 ghost use Rattle.hg_model.specs.Bundle.{delta_limit};
 ghost use Rattle.hg_model.specs.Chunk.{field_of, chunk_text, magic_text, chunk_fault, magic_fault, other_magic, trailing_fault, or_else};
 ghost use Rattle.hg_chunk.specs.Faults.{Judges, IsFault, IsMagicFault, IsEndFault, IsItemFault, IsChunkFault};
-ghost use Rattle.hg_chunk.specs.Reader.{AnswerCause, FaultCause};
+ghost use Rattle.hg_chunk.specs.Reader.{AnswerCause, FaultCause, payload_of};
 
 use crate::ChunkFault;
 use crate::item::whole;
 use crate::number::number_of;
 use bridge_io::{Source, fill, fill_vec, skip};
 use bridge_text::INPUT_LIMIT;
+use shared_text::Text;
 use std::marker::Model;
 
 const MAGIC: &[u8; 6] = b"HG10UN";
@@ -129,6 +130,43 @@ impl ChunkReader {
         self.offset = at + u64::from(size);
         Ok(Piece::Full(at))
     }
+
+    /// Reads the next chunk in the same way. Its payload is the text that is answered, a part of what the source lends, or else what was put
+    /// into `into`.
+    #[tactic(auto, unfolding(hg_model::specs::Chunk::chunk_fault))]
+    pub fn next_text<S: Source>(
+        &mut self,
+        src: &mut S,
+        most: u32,
+        into: &mut Vec<u8>,
+    ) -> Result<Option<Text>, ChunkFault>
+        requires { most ≤ delta_limit }
+        ensures bytes { IfOk result (λ lent. Consumes (S.left src.old) (S.left src.new) (chunk_text (payload_of lent into.new.items))) }
+        ensures field { IfOk result (λ lent. field_of (payload_of lent into.new.items) ≤ most) }
+        ensures limit { OnOk result (self.new ≤ input_limit) }
+        ensures offset { IfOk result (λ lent. self.new ≡ self.old + (length (payload_of lent into.new.items) + 4)) }
+        ensures judged { IfSome (S.left src.old) (λ bytes. Judges (chunk_fault most self.old bytes) result) }
+        ensures names { IfErr result IsChunkFault }
+        ensures err { OnErr result (into.new.items ≡ []) }
+        ensures cause { AnswerCause (S.faults src.old) (S.faults src.new) result }
+    {
+        into.clear();
+        let at = self.offset;
+        let size = read_field(src, at)?;
+        if size == 0 {
+            self.offset = at + 4;
+            return Ok(None);
+        }
+        if size >= 1 << 31 || size < 5 {
+            return Err(ChunkFault::Length(at));
+        }
+        if size > most {
+            return Err(over_limit(src, at, size));
+        }
+        let lent = text_payload(src, at, size, into)?;
+        self.offset = at + u64::from(size);
+        Ok(lent)
+    }
 }
 
 // Reads the length field at an offset.
@@ -170,6 +208,32 @@ fn read_payload<S: Source>(
         into.clear();
     }
     judged
+}
+
+// The same, where the payload is lent if the source lends it.
+fn text_payload<S: Source>(
+    src: &mut S,
+    at: u64,
+    size: u32,
+    into: &mut Vec<u8>,
+) -> Result<Option<Text>, ChunkFault>
+    requires size { (5 ≤ size) × (size < 2 ^ 31) }
+    requires at { at + 4 ≤ input_limit }
+    requires empty { into.old.items ≡ [] }
+    ensures bytes { IfOk result (λ lent. Consumes (S.left src.old) (S.left src.new) (payload_of lent into.new.items)) }
+    ensures len { IfOk result (λ lent. length (payload_of lent into.new.items) ≡ size - 4) }
+    ensures fits { OnOk result (at + size ≤ input_limit) }
+    ensures judged { IfSome (S.left src.old) (λ rest. Judges (reach (at + (4 + length rest)) (at + size)) result) }
+    ensures names { IfErr result IsItemFault }
+    ensures err { OnErr result (into.new.items ≡ []) }
+    ensures cause { AnswerCause (S.faults src.old) (S.faults src.new) result }
+{
+    if let Some(text) = src.lend((size - 4) as usize) {
+        whole(at, u64::from(size), u64::from(size))?;
+        return Ok(Some(text));
+    }
+    read_payload(src, at, size, into)?;
+    Ok(None)
 }
 
 // The fault of a chunk whose length is over its limit, behind its length field.

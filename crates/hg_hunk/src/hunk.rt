@@ -1,5 +1,6 @@
-ghost use Rattle.std.specs.Prelude.{◌≡◌, ◌≤◌, length, option_map};
+ghost use Rattle.std.specs.Prelude.{◌≡◌, ◌≤◌, ◌↔◌, true, length, option_map};
 ghost use Rattle.hg_model.specs.Delta.{first_number32, first_hunk, is_hunk_within};
+ghost use Rattle.hg_hunk.specs.Wholes.{IsAlone};
 
 use byteorder::{BigEndian, ByteOrder};
 
@@ -22,6 +23,13 @@ impl Hunk<'_> {
         ensures { result ≡ is_hunk_within from base_len (record { start = self.now.start; finish = self.now.end; bytes = self.now.bytes.now }) }
     {
         from <= self.start && self.start <= self.end && self.end <= base_len
+    }
+
+    /// Whether it replaces a whole base of this length, where so many bytes follow it: none.
+    pub fn is_alone(&self, behind: usize, base_len: usize) -> bool
+        ensures { (result ≡ true) ↔ IsAlone behind base_len self.now.start self.now.end }
+    {
+        behind == 0 && self.start == 0 && self.end == base_len
     }
 }
 

@@ -9,5 +9,5 @@ mod replace;
 mod room;
 
 pub use fault::HunkFault;
-pub use patch::{apply, fill, patched_len, reads_patches};
+pub use patch::{apply, fill, is_whole, patched_len, reads_patches};
 pub use replace::{replace_into, replaces};

@@ -1,7 +1,8 @@
-ghost use Rattle.std.specs.Prelude.{◌≡◌, ◌≤◌, [], List, ℕ, Ok, length, IfOk, IfErr, OnOk, vec_capacity};
+ghost use Rattle.std.specs.Prelude.{◌≡◌, ◌≤◌, ◌↔◌, [], List, ℕ, Ok, true, length, drop, IfOk, IfErr, OnOk, vec_capacity};
 ghost use Rattle.text_model.specs.Text.{Bytes, IsBytes};
 ghost use Rattle.hg_model.specs.Delta.{Hunk, Hunks, Patches, hunks_of, delta_reading, patched_size, patched_text};
 ghost use Rattle.hg_hunk.specs.Faults.{HasPatchedSize, HasPatchedText, HasPlaceIn, IsFault, IsFaultOrMemory};
+ghost use Rattle.hg_hunk.specs.Wholes.{IsWhole};
 
 use crate::fault::HunkFault;
 use crate::hunk::next_hunk;
@@ -88,6 +89,20 @@ pub fn apply(alloc: Global, base: &[u8], delta: &[u8], most: usize) -> Result<Ve
     let mut text = Vec::with_capacity(alloc, len)?;
     fill(&mut text, base, delta);
     Ok(text)
+}
+
+/// Whether a delta is one hunk that replaces a whole base of this length. Then the text that it makes of any such base is the delta without its
+/// first twelve bytes, the hunk's numbers.
+pub fn is_whole(base_len: usize, delta: &[u8]) -> bool
+    ensures whole { (result ≡ true) ↔ IsWhole base_len delta.now }
+    ensures long { result ≡ true → 12 ≤ length delta.now }
+    ensures text { result ≡ true → (base : Bytes) → length base ≡ base_len → HasPatchedText base delta.now (drop 12 delta.now) }
+    ensures patches { result ≡ true → (base : Bytes) → length base ≡ base_len → Patches base delta.now (drop 12 delta.now) }
+{
+    let Some((hunk, rest)) = next_hunk(delta) else {
+        return false;
+    };
+    hunk.is_alone(rest.len(), base_len)
 }
 
 /// A law: the hunks of a delta that turns a base into a text are those that are read, and the other

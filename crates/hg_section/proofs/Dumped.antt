@@ -102,7 +102,7 @@ module _ (known : List Revision) (added : AreAdded known) where
 
 pub is-section : (bytes : Bytes) (store : List Revision) (listed : List Arrival) → IsRead bytes store listed → AreAdded store → list_any is_again listed ≡ false
     → (nodes : List Id) → nodes ≡ nodes_of listed → length nodes ≤ changeset_limit → (hs : List ChangesetView) → IsWrittenOf store nodes bytes hs
-    → IsSectionOf bytes (record { store = store; nodes = nodes })
+    → IsSectionOf bytes (record { store = store; nodes = nodes; arrivals = listed })
 is-section bytes store listed read added once nodes are few hs written =
     let views = held-views store added nodes hs written.0 in
     let ok : IsTrue (is_ok (bundle_reading [] (hg_increment store [] hs))) = ap (λ (b : Bytes). is_ok (bundle_reading [] b)) written.1 ∙ ap is_ok read.reads.1 in

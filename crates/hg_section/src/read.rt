@@ -4,14 +4,15 @@ ghost use Rattle.hg_section.specs.Section.{IsRead, IsRefused};
 use bridge_text::NoMemory;
 use hg_bundle::{Arrivals, BundleFault, read_into};
 use hg_store::HgStore;
-use state_part::Part;
+use shared_text::{Text, again};
+use state_part::SharedPart;
 use std::alloc::Global;
 
-// What a bundle brings over nothing; `None` exactly where it is refused.
-pub fn read_bundle(alloc: Global, bytes: &[u8]) -> Result<Option<(HgStore, Arrivals)>, NoMemory>
+// What a bundle brings over nothing; `None` exactly where it is refused. Texts that stand whole in it are parts of it.
+pub fn read_bundle(alloc: Global, bytes: &Text) -> Result<Option<(HgStore, Arrivals)>, NoMemory>
     ensures { IfOk result (λ found. MatchOption found (IsRefused bytes.now) (λ read. IsRead bytes.now read.0 read.1)) }
 {
-    let mut source = Part::new(bytes);
+    let mut source = SharedPart::new(again(bytes)?);
     match read_into(alloc, &mut source, HgStore::new(alloc)) {
         Ok(read) => Ok(Some(read)),
         Err(BundleFault::Refused(_)) => Ok(None),

@@ -8,7 +8,9 @@ use crate::nodes::changeset_nodes;
 use crate::read::read_bundle;
 use crate::written::is_written;
 use bridge_text::{CHANGESET_LIMIT, IdList, NoMemory};
+use hg_bundle::Arrivals;
 use hg_store::HgStore;
+use shared_text::Text;
 use std::alloc::Global;
 
 /// The changesets of a saved state.
@@ -18,10 +20,12 @@ pub struct HgSection {
     pub store: HgStore,
     /// Their nodes, in their order.
     pub nodes: IdList,
+    /// All the entries of their dump.
+    pub arrivals: Arrivals,
 }
 
 /// The changesets whose dump these bytes are; `None` exactly where no list of changesets that can be saved has this dump.
-pub fn read_changesets(alloc: Global, bytes: &[u8]) -> Result<Option<HgSection>, NoMemory>
+pub fn read_changesets(alloc: Global, bytes: &Text) -> Result<Option<HgSection>, NoMemory>
     ensures { IfOk result (λ found. MatchOption found ((hs : List ChangesetView) → AreDumped hs → hg_dump hs ≢ bytes.now)
         (λ s. (hs : List ChangesetView) × AreDumped hs × (hg_dump hs ≡ bytes.now) × HoldsChangesets s hs)) }
 {
@@ -34,8 +38,12 @@ pub fn read_changesets(alloc: Global, bytes: &[u8]) -> Result<Option<HgSection>,
     if nodes.len() > CHANGESET_LIMIT {
         return Ok(None);
     }
-    if !is_written(alloc, &store, &nodes, bytes)? {
+    if !is_written(alloc, &store, &nodes, bytes.as_slice())? {
         return Ok(None);
     }
-    Ok(Some(HgSection { store, nodes }))
+    Ok(Some(HgSection {
+        store,
+        nodes,
+        arrivals,
+    }))
 }

@@ -28,7 +28,7 @@ group_value (group.FilesAt path) = model.FilesAt path.now
 
 -- the revision that is to be added
 abbrev pub revision_value : Addition → Revision
-revision_value a = record { group = group_value a.group; node = a.node; p = a.p; q = a.q; link = a.link; text = a.text.items }
+revision_value a = record { group = group_value a.group; node = a.node; p = a.p; q = a.q; link = a.link; text = a.text }
 
 -- paths as lists of bytes
 abbrev pub paths_in : List (Vec ℕ) → List Bytes

@@ -14,6 +14,7 @@ use crate::held::Parsed;
 use crate::parse::parse;
 use crate::store::HgStore;
 use bridge_text::{Added, Id, node_id};
+use shared_text::Text;
 
 impl HgStore {
     /// Adds a changeset with its two parents in order, its link, which is its own node, and its text of at most 2^26 bytes.
@@ -25,13 +26,13 @@ impl HgStore {
         p1: Id,
         p2: Id,
         link: Id,
-        text: Vec<u8>,
+        text: Text,
     ) -> Result<Added, AddFault>
-        requires short { length text.items ≤ text_limit }
-        ensures faultless { OnOk result (addition_fault self.old (changeset_revision node p1 p2 link text.items) ≡ None) }
-        ensures answer { IfOk result (λ added. added ≡ answer_of self.old (changeset_revision node p1 p2 link text.items)) }
-        ensures ok { OnOk result (self.new ≡ known_after self.old (changeset_revision node p1 p2 link text.items)) }
-        ensures fault { IfErr result (IsFault (addition_fault self.old (changeset_revision node p1 p2 link text.items))) }
+        requires short { length text ≤ text_limit }
+        ensures faultless { OnOk result (addition_fault self.old (changeset_revision node p1 p2 link text) ≡ None) }
+        ensures answer { IfOk result (λ added. added ≡ answer_of self.old (changeset_revision node p1 p2 link text)) }
+        ensures ok { OnOk result (self.new ≡ known_after self.old (changeset_revision node p1 p2 link text)) }
+        ensures fault { IfErr result (IsFault (addition_fault self.old (changeset_revision node p1 p2 link text))) }
         ensures err { OnErr result (self.new ≡ self.old) }
     {
         self.add(Addition {
@@ -53,13 +54,13 @@ impl HgStore {
         p: Id,
         q: Id,
         link: Id,
-        text: Vec<u8>,
+        text: Text,
     ) -> Result<Added, AddFault>
-        requires short { length text.items ≤ text_limit }
-        ensures faultless { OnOk result (addition_fault self.old (manifest_revision node p q link text.items) ≡ None) }
-        ensures answer { IfOk result (λ added. added ≡ answer_of self.old (manifest_revision node p q link text.items)) }
-        ensures ok { OnOk result (self.new ≡ known_after self.old (manifest_revision node p q link text.items)) }
-        ensures fault { IfErr result (IsFault (addition_fault self.old (manifest_revision node p q link text.items))) }
+        requires short { length text ≤ text_limit }
+        ensures faultless { OnOk result (addition_fault self.old (manifest_revision node p q link text) ≡ None) }
+        ensures answer { IfOk result (λ added. added ≡ answer_of self.old (manifest_revision node p q link text)) }
+        ensures ok { OnOk result (self.new ≡ known_after self.old (manifest_revision node p q link text)) }
+        ensures fault { IfErr result (IsFault (addition_fault self.old (manifest_revision node p q link text))) }
         ensures err { OnErr result (self.new ≡ self.old) }
     {
         self.add(Addition {
@@ -83,14 +84,14 @@ impl HgStore {
         p: Id,
         q: Id,
         link: Id,
-        text: Vec<u8>,
+        text: Text,
     ) -> Result<Added, AddFault>
         requires fit { IsTrue (is_fit_path path.now) }
-        requires short { length text.items ≤ text_limit }
-        ensures faultless { OnOk result (addition_fault self.old (file_revision path.now node p q link text.items) ≡ None) }
-        ensures answer { IfOk result (λ added. added ≡ answer_of self.old (file_revision path.now node p q link text.items)) }
-        ensures ok { OnOk result (self.new ≡ known_after self.old (file_revision path.now node p q link text.items)) }
-        ensures fault { IfErr result (IsFault (addition_fault self.old (file_revision path.now node p q link text.items))) }
+        requires short { length text ≤ text_limit }
+        ensures faultless { OnOk result (addition_fault self.old (file_revision path.now node p q link text) ≡ None) }
+        ensures answer { IfOk result (λ added. added ≡ answer_of self.old (file_revision path.now node p q link text)) }
+        ensures ok { OnOk result (self.new ≡ known_after self.old (file_revision path.now node p q link text)) }
+        ensures fault { IfErr result (IsFault (addition_fault self.old (file_revision path.now node p q link text))) }
         ensures err { OnErr result (self.new ≡ self.old) }
     {
         self.add(Addition {
@@ -107,7 +108,7 @@ impl HgStore {
     /// The faults are those of `AddFault`, in their order, each exactly where it says; after a fault the store is as it was.
     /// Known is the answer where the same revision is there, and then nothing changes.
     pub fn add(&mut self, addition: Addition<'_>) -> Result<Added, AddFault>
-        requires short { length addition.text.items ≤ text_limit }
+        requires short { length addition.text ≤ text_limit }
         requires path { HasFitPath (group_value addition.group) }
         ensures faultless { OnOk result (addition_fault self.old (revision_value addition.entry) ≡ None) }
         ensures answer { IfOk result (λ added. added ≡ answer_of self.old (revision_value addition.entry)) }
@@ -131,9 +132,9 @@ impl HgStore {
         addition: Addition<'_>,
         blob: Option<Id>,
     ) -> Result<Added, AddFault>
-        requires its_node { node_id addition.p addition.q addition.text.items ≡ addition.node }
-        requires its_blob { IfSome blob (HasBlob addition.text.items) }
-        requires short { length addition.text.items ≤ text_limit }
+        requires its_node { node_id addition.p addition.q addition.text ≡ addition.node }
+        requires its_blob { IfSome blob (HasBlob addition.text) }
+        requires short { length addition.text ≤ text_limit }
         requires path { HasFitPath (group_value addition.group) }
         ensures faultless { OnOk result (addition_fault self.old (revision_value addition.entry) ≡ None) }
         ensures answer { IfOk result (λ added. added ≡ answer_of self.old (revision_value addition.entry)) }
@@ -210,10 +211,10 @@ impl HgStore {
         requires other { knows_same self.now (revision_value addition.now) ≡ false }
         ensures ok { OnOk result (text_fault self.now (revision_value addition.now) ≡ None) }
         ensures fresh { OnOk result (knows self.now (group_value addition.now.group) addition.now.node ≡ false) }
-        ensures value { IfOk result (HasValue (group_value addition.now.group) addition.now.text.items) }
+        ensures value { IfOk result (HasValue (group_value addition.now.group) addition.now.text) }
         ensures fault { IfErr result (IsFault (text_fault self.now (revision_value addition.now))) }
     {
-        if node_id(&addition.p, &addition.q, &addition.text) != addition.node {
+        if node_id(&addition.p, &addition.q, addition.text.as_slice()) != addition.node {
             return Err(AddFault::NodeWrong);
         }
         self.parse_hashed(addition, None)
@@ -224,14 +225,14 @@ impl HgStore {
     #[tactic(auto, unfolding(hg_model::specs::Revision::text_fault))]
     fn parse_hashed(&self, addition: &Addition<'_>, blob: Option<Id>) -> Result<Parsed, AddFault>
         requires other { knows_same self.now (revision_value addition.now) ≡ false }
-        requires its_node { node_id addition.now.p addition.now.q addition.now.text.items ≡ addition.now.node }
-        requires its_blob { IfSome blob (HasBlob addition.now.text.items) }
+        requires its_node { node_id addition.now.p addition.now.q addition.now.text ≡ addition.now.node }
+        requires its_blob { IfSome blob (HasBlob addition.now.text) }
         ensures ok { OnOk result (text_fault self.now (revision_value addition.now) ≡ None) }
         ensures fresh { OnOk result (knows self.now (group_value addition.now.group) addition.now.node ≡ false) }
-        ensures value { IfOk result (HasValue (group_value addition.now.group) addition.now.text.items) }
+        ensures value { IfOk result (HasValue (group_value addition.now.group) addition.now.text) }
         ensures fault { IfErr result (IsFault (text_fault self.now (revision_value addition.now))) }
     {
-        let parsed = parse(self.alloc(), addition.group, &addition.text, blob)?;
+        let parsed = parse(self.alloc(), addition.group, addition.text.as_slice(), blob)?;
         if self.is_taken(addition) {
             return Err(AddFault::Collision);
         }

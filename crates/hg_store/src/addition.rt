@@ -9,6 +9,7 @@ ghost use Rattle.hg_store.specs.Known.{HasPathOfBytes};
 use crate::group::Group;
 use crate::held::Held;
 use bridge_text::{Id, each_is_byte};
+use shared_text::Text;
 
 /// A revision that is to be added, with its parents as they were written (help topic `internals.changegroups`).
 #[derive(Drop)]
@@ -23,8 +24,8 @@ pub struct Addition<'a> {
     pub q: Id,
     /// The changeset that brought the revision; for a changeset its own node.
     pub link: Id,
-    /// The whole text, of which the node is the hash behind the parents.
-    pub text: Vec<u8>,
+    /// The whole text, of which the node is the hash behind the parents. It is kept, not copied.
+    pub text: Text,
 }
 
 impl<'a> Addition<'a> {
@@ -41,7 +42,7 @@ impl<'a> Addition<'a> {
 
     // Whether a revision of the same node has this text and these parents.
     pub(crate) fn is_like(&self, held: &Held) -> bool
-        ensures { result ≡ (bytes_eq self.now.text.items held.now.text
+        ensures { result ≡ (bytes_eq self.now.text held.now.text
             && same_parents (group_value self.now.group) self.now.p self.now.q held.now.p held.now.q) }
     {
         self.text.as_slice() == held.text.as_slice() && self.has_parents_of(held)
@@ -69,14 +70,14 @@ impl<'a> Addition<'a> {
         ensures p { IsId self.now.p }
         ensures q { IsId self.now.q }
         ensures link { IsId self.now.link }
-        ensures text { IsBytes self.now.text.items }
+        ensures text { IsBytes self.now.text }
         ensures path { HasPathOfBytes (group_value self.now.group) }
     {
         let _node = self.node.bytes();
         let _p = self.p.bytes();
         let _q = self.q.bytes();
         let _link = self.link.bytes();
-        each_is_byte(&self.text);
+        each_is_byte(self.text.as_slice());
         match self.group {
             Group::Changesets => {}
             Group::Manifests => {}

@@ -1,7 +1,8 @@
 use crate::group::KeyGroup;
-use bridge_text::{Bytes, Id};
+use bridge_text::Id;
 use hg_changeset::Changeset;
 use hg_manifest::Manifest;
+use shared_text::Text;
 
 /// What tells a revision from the others.
 #[derive(Clone, Copy, Debug, PartialEq, Eq, Hash)]
@@ -19,12 +20,13 @@ pub enum Parsed {
     File(Id),
 }
 
-/// A revision that is held: its parents as they were written, its link, its text and what the text says.
+/// A revision that is held: its parents as they were written, its link, its text, which others may own too, and what the
+/// text says.
 #[derive(Drop)]
 pub struct Held {
     pub p: Id,
     pub q: Id,
     pub link: Id,
-    pub text: Bytes,
+    pub text: Text,
     pub parsed: Parsed,
 }

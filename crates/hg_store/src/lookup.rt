@@ -10,6 +10,7 @@ use crate::held::{Held, Parsed};
 use crate::store::HgStore;
 use bridge_text::Id;
 use hg_filelog::{canonical_pair, file_order, split};
+use shared_text::Text;
 
 impl HgStore {
     /// The text of a changeset; `None` where the node is unknown.
@@ -46,6 +47,16 @@ impl HgStore {
         ensures known { AreAdded self.now }
     {
         text_in(self.get(Group::FilesAt(path), node))
+    }
+
+    /// The text of a revision of the file at a path, which the caller may own too; `None` where it is unknown. It takes no
+    /// memory.
+    pub fn shared_file_text(&self, path: &[u8], node: &Id) -> Option<&Text>
+        ensures value { option_copied result ≡ text_of self.now (FilesAt path.now) node.now }
+        ensures known { AreAdded self.now }
+    {
+        let held = self.get(Group::FilesAt(path), node)?;
+        Some(&held.text)
     }
 
     /// The first and the second parent of a changeset; `None` where the node is unknown.

@@ -7,7 +7,7 @@ ghost use Rattle.hg_store.specs.Known.{text_limit, AreAdded, HasFitPath};
 use crate::addition::Addition;
 use crate::group::{Group, key_group, number_group};
 use crate::held::{Held, Key, Parsed};
-use bridge_text::{Bytes, Id, NoMemory};
+use bridge_text::{Id, NoMemory};
 use hg_manifest::Manifest;
 use indexmap::{IndexMap, IndexSet};
 use std::alloc::Global;
@@ -100,8 +100,8 @@ impl HgStore {
     pub(crate) fn keep(&mut self, addition: Addition<'_>, parsed: Parsed) -> Result<(), NoMemory>
         requires faultless { addition_fault self.old (revision_value addition) ≡ None }
         requires fresh { knows self.old (group_value addition.group) addition.node ≡ false }
-        requires value { HasValue (group_value addition.group) addition.text.items parsed }
-        requires short { length addition.text.items ≤ text_limit }
+        requires value { HasValue (group_value addition.group) addition.text parsed }
+        requires short { length addition.text ≤ text_limit }
         requires path { HasFitPath (group_value addition.group) }
         ensures ok { OnOk result (self.new ≡ self.old ++ revision_value addition.entry ∷ []) }
         ensures err { OnErr result (self.new ≡ self.old) }
@@ -116,7 +116,7 @@ impl HgStore {
             p: addition.p,
             q: addition.q,
             link: addition.link,
-            text: Bytes::keep(addition.text),
+            text: addition.text,
             parsed,
         };
         self.revisions.insert(key, held)?;

@@ -3,6 +3,8 @@ use bridge_io::MemSource;
 use bridge_text::{Fault, Id, Refusal};
 use hg_bundle::{Arrival, Arrivals, BundleFault, RevKind, count_entries, read_into};
 use hg_store::HgStore;
+use shared_text::keep;
+use state_part::SharedPart;
 use std::alloc::Global;
 use std::test::Fail;
 
@@ -217,6 +219,22 @@ fn a_bundle_is_read(rt: HostRuntime) -> Result<(), Fail> {
     let at_once = is_read(rt.alloc(), &bytes, 0)?;
     let byte_by_byte = is_read(rt.alloc(), &bytes, 1)?;
     assert!(rt; at_once && byte_by_byte);
+    Ok(())
+}
+
+// Texts that stand whole in the bundle are parts of it. It is given up before they are looked at.
+fn is_read_shared(alloc: Global, bytes: Vec<u8>) -> Result<bool, Fail> {
+    let mut src = SharedPart::new(keep(bytes)?);
+    let (store, arrivals) = read_into(alloc, &mut src, HgStore::new(alloc))?;
+    drop(src);
+    Ok(has_texts(&store)? && are_wanted(arrivals.as_slice()) && have_counts(&arrivals))
+}
+
+#[test]
+fn a_bundle_is_read_of_shared_bytes(rt: HostRuntime) -> Result<(), Fail> {
+    let bytes = whole(rt.alloc())?;
+    let is_read = is_read_shared(rt.alloc(), bytes)?;
+    assert!(rt; is_read);
     Ok(())
 }
 

@@ -1,6 +1,8 @@
 // Chunks of bundles.
-use bridge_io::MemSource;
+use bridge_io::{MemSource, Source};
 use hg_chunk::{ChunkFault, ChunkReader, Piece, put_chunk, put_empty};
+use shared_text::{Text, keep};
+use state_part::SharedPart;
 use std::alloc::Global;
 use std::test::Fail;
 
@@ -95,6 +97,69 @@ fn each_fault_has_its_place(rt: HostRuntime) -> Result<(), Fail> {
     for (place, (input, want)) in FAULTS.iter().enumerate() {
         let is_refused = is_refused(rt.alloc(), input, *want)?;
         assert!(rt; is_refused, "at {place}");
+    }
+    Ok(())
+}
+
+// The same input, where the payload is lent if the source lends it.
+fn read_text<S: Source>(
+    src: &mut S,
+    into: &mut Vec<u8>,
+) -> Result<(Option<Text>, u64), ChunkFault> {
+    let mut reader = ChunkReader::new();
+    reader.magic(src)?;
+    let lent = reader.next_text(src, 12, into)?;
+    reader.finish(src)?;
+    Ok((lent, reader.offset()))
+}
+
+fn shared(alloc: Global, bytes: &[u8]) -> Result<SharedPart, Fail> {
+    Ok(SharedPart::new(keep(bytes.to_vec(alloc)?)?))
+}
+
+// Whether a source that lends gives this payload as a text that is lent, unless it is empty, and this end.
+fn is_lent(alloc: Global, input: &[u8], payload: &[u8], end: u64) -> Result<bool, Fail> {
+    let mut src = shared(alloc, input)?;
+    let mut into = b"left".to_vec(alloc)?;
+    let (lent, at) = read_text(&mut src, &mut into)?;
+    let is_payload = match lent {
+        Some(text) => text.as_slice() == payload && !payload.is_empty(),
+        None => payload.is_empty(),
+    };
+    Ok(is_payload && into.is_empty() && at == end)
+}
+
+// Whether a source that lends nothing puts this payload into the vector.
+fn is_put(alloc: Global, input: &[u8], payload: &[u8], end: u64) -> Result<bool, Fail> {
+    let mut src = source(alloc, input, 1, &[])?;
+    let mut into = b"left".to_vec(alloc)?;
+    let (lent, at) = read_text(&mut src, &mut into)?;
+    Ok(lent.is_none() && into.as_slice() == payload && at == end)
+}
+
+#[test]
+fn a_payload_is_lent_or_put(rt: HostRuntime) -> Result<(), Fail> {
+    for (input, payload, _, end) in CHUNKS {
+        let is_lent = is_lent(rt.alloc(), input, payload, *end)?;
+        let is_put = is_put(rt.alloc(), input, payload, *end)?;
+        assert!(rt; is_lent && is_put, "at {end}");
+    }
+    Ok(())
+}
+
+// Whether the input has this fault where its payload may be lent, and where it isn't.
+fn is_no_text(alloc: Global, input: &[u8], want: ChunkFault) -> Result<bool, Fail> {
+    let mut into = Vec::new(alloc);
+    let lends = read_text(&mut shared(alloc, input)?, &mut into).err();
+    let gives = read_text(&mut source(alloc, input, 1, &[])?, &mut into).err();
+    Ok(lends == Some(want) && gives == Some(want))
+}
+
+#[test]
+fn each_fault_of_a_text_has_its_place(rt: HostRuntime) -> Result<(), Fail> {
+    for (place, (input, want)) in FAULTS.iter().enumerate() {
+        let is_no_text = is_no_text(rt.alloc(), input, *want)?;
+        assert!(rt; is_no_text, "at {place}");
     }
     Ok(())
 }

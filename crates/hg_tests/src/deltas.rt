@@ -1,5 +1,5 @@
 // Deltas: what hunks make of a base.
-use hg_hunk::{HunkFault, apply, patched_len, replace_into};
+use hg_hunk::{HunkFault, apply, is_whole, patched_len, replace_into};
 use std::alloc::Global;
 use std::test::Fail;
 
@@ -100,6 +100,37 @@ fn replaces_a_base(rt: HostRuntime) -> Result<(), Fail> {
     for (base_len, text, want) in REPLACEMENTS {
         let is_appended = is_appended(rt.alloc(), *base_len, text, want)?;
         assert!(rt; is_appended);
+    }
+    Ok(())
+}
+
+/// Lengths of bases, deltas, and whether they are one hunk that replaces the whole base.
+const WHOLES: &[(usize, &[u8], bool)] = &[
+    (0, b"\0\0\0\0\0\0\0\0\0\0\0\x02hi", true),
+    (6, b"\0\0\0\0\0\0\0\x06\0\0\0\x02hi", true),
+    (6, b"\0\0\0\0\0\0\0\x06\0\0\0\0", true),
+    // no hunk
+    (0, b"", false),
+    // before all of the base, behind it, over a part of it, and out of range
+    (6, b"\0\0\0\0\0\0\0\0\0\0\0\x02hi", false),
+    (6, b"\0\0\0\x06\0\0\0\x06\0\0\0\x02hi", false),
+    (6, b"\0\0\0\x01\0\0\0\x06\0\0\0\x02hi", false),
+    (6, b"\0\0\0\0\0\0\0\x07\0\0\0\x02hi", false),
+    // a byte is missing, and one is too many
+    (6, b"\0\0\0\0\0\0\0\x06\0\0\0\x02h", false),
+    (6, b"\0\0\0\0\0\0\0\x06\0\0\0\x02hi!", false),
+    // two hunks
+    (
+        6,
+        b"\0\0\0\0\0\0\0\x06\0\0\0\0\0\0\0\x06\0\0\0\x06\0\0\0\0",
+        false,
+    ),
+];
+
+#[test]
+fn replaces_the_whole_base(rt: HostRuntime) -> Result<(), Fail> {
+    for (place, (base_len, delta, want)) in WHOLES.iter().enumerate() {
+        assert!(rt; is_whole(*base_len, delta) == *want, "at {place}");
     }
     Ok(())
 }

@@ -2,6 +2,7 @@
 use bridge_text::{Id, IdList, fit_path};
 use hg_dump::{Dump, are_held, is_dump, write, written_len};
 use hg_store::{Group, HgStore};
+use shared_text::{Text, keep};
 use std::alloc::Global;
 use std::process::Abort;
 use std::test::Fail;
@@ -116,7 +117,7 @@ fn ids(step: &Step) -> Result<[Id; 4], Fail> {
     Ok([id(node)?, id(p)?, id(q)?, id(link)?])
 }
 
-fn add(rt: &impl Abort, store: &mut HgStore, group: Group, ids: [Id; 4], text: Vec<u8>) -> bool {
+fn add(rt: &impl Abort, store: &mut HgStore, group: Group, ids: [Id; 4], text: Text) -> bool {
     assert!(rt; text.len() <= 1 << 26);
     let [node, p, q, link] = ids;
     let added = match group {
@@ -339,7 +340,7 @@ fn is_added(
     step: &Step,
 ) -> Result<bool, Fail> {
     let ids = ids(step)?;
-    let text = step.4.to_vec(alloc)?;
+    let text = keep(step.4.to_vec(alloc)?)?;
     Ok(add(rt, store, step.0, ids, text))
 }
 

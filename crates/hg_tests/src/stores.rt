@@ -6,6 +6,7 @@ use hg_store::AddFault::{
     ParentUnknown, PathUnfit,
 };
 use hg_store::{AddFault, Addition, Group, HgStore, ViewFault};
+use shared_text::{Text, keep};
 use std::alloc::Global;
 use std::process::Abort;
 use std::test::Fail;
@@ -172,7 +173,7 @@ fn add(
     store: &mut HgStore,
     group: Group,
     ids: [Id; 4],
-    text: Vec<u8>,
+    text: Text,
 ) -> Result<Added, AddFault> {
     assert!(rt; text.len() <= 1 << 26);
     let [node, p, q, link] = ids;
@@ -194,7 +195,7 @@ fn is_answered(
 ) -> Result<bool, Fail> {
     let (group, node, parents, link, text, want) = step;
     let ids = ids(node, parents, link)?;
-    let text = Vec::from_slice(alloc, text)?;
+    let text = keep(Vec::from_slice(alloc, text)?)?;
     Ok(add(rt, store, *group, ids, text) == *want)
 }
 
@@ -236,7 +237,7 @@ const CHECKS: &[Check] = &[
 ];
 
 // An addition without text.
-fn addition_of(alloc: Global, check: &Check) -> Result<Addition<'static>, Fail> {
+fn addition_of(check: &Check) -> Result<Addition<'static>, Fail> {
     let (group, node, parents, link, _, _) = check;
     let [node, p, q, link] = ids(node, parents, link)?;
     Ok(Addition {
@@ -245,17 +246,12 @@ fn addition_of(alloc: Global, check: &Check) -> Result<Addition<'static>, Fail> 
         p,
         q,
         link,
-        text: Vec::new(alloc),
+        text: Text::new(),
     })
 }
 
-fn is_checked(
-    rt: &impl Abort,
-    alloc: Global,
-    store: &mut HgStore,
-    check: &Check,
-) -> Result<bool, Fail> {
-    let addition = addition_of(alloc, check)?;
+fn is_checked(rt: &impl Abort, store: &mut HgStore, check: &Check) -> Result<bool, Fail> {
+    let addition = addition_of(check)?;
     if let Group::FilesAt(path) = addition.group {
         assert!(rt; fit_path(path));
     }
@@ -268,7 +264,7 @@ fn is_checked(
 fn additions(rt: HostRuntime) -> Result<(), Fail> {
     let mut store = filled(&rt, rt.alloc())?;
     for (i, check) in CHECKS.iter().enumerate() {
-        let is_checked = is_checked(&rt, rt.alloc(), &mut store, check)?;
+        let is_checked = is_checked(&rt, &mut store, check)?;
         assert!(rt; is_checked, "at {i}");
     }
     Ok(())
@@ -341,6 +337,17 @@ fn text_at<'a>(store: &'a HgStore, group: Group, node: &Id) -> Option<&'a [u8]> 
     }
 }
 
+// Whether the text of a file revision, as it is lent to be owned again, is this one. No other text is lent so.
+fn is_shared(store: &HgStore, group: Group, node: &Id, text: Option<&[u8]>) -> bool {
+    let Group::FilesAt(path) = group else {
+        return true;
+    };
+    match store.shared_file_text(path, node) {
+        Some(shared) => text == Some(shared.as_slice()),
+        None => text.is_none(),
+    }
+}
+
 fn parents_at(store: &HgStore, group: Group, node: &Id) -> Option<(Id, Id)> {
     match group {
         Group::Changesets => store.parents_of(node),
@@ -379,7 +386,8 @@ fn is_found(store: &HgStore, found: &Found) -> Result<bool, Fail> {
     let has_parents = parents_at(store, group, &node) == pair;
     let has_blob = is_blob(blob_at(store, group, &node), blob);
     let has_revision = node.is_null() || store.revision_text(group, &node) == text;
-    Ok(has_text && has_parents && has_blob && has_revision)
+    let has_shared = is_shared(store, group, &node, text);
+    Ok(has_text && has_shared && has_parents && has_blob && has_revision)
 }
 
 #[test]
@@ -481,10 +489,10 @@ fn is_added(
     if let Group::FilesAt(path) = group {
         assert!(rt; fit_path(path));
     }
-    let text = Vec::from_slice(alloc, text)?;
+    let text = keep(Vec::from_slice(alloc, text)?)?;
     let addition = Addition {
         group,
-        node: node_id(&Id::NULL, &Id::NULL, &text),
+        node: node_id(&Id::NULL, &Id::NULL, text.as_slice()),
         p: Id::NULL,
         q: Id::NULL,
         link: id(link)?,

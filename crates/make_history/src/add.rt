@@ -60,7 +60,7 @@ fn add_next(
     let (p1, p2) = parents_behind(numbers.parents, history.nodes.as_slice());
     let Next { draft, lines } = make_draft(alloc, &history.store, p1, p2, numbers, number)?;
     let text = text_of(alloc, &draft.changeset)?;
-    let node = node_id(&p1, &p2, &text);
+    let node = node_id(&p1, &p2, text.as_slice());
     add_changeset(alloc, &mut history.store, &draft, node, text, lines)?;
     history.nodes.push(node)?;
     Ok(())

@@ -10,6 +10,7 @@ use crate::numbers::Numbers;
 use crate::paths::description_of;
 use bridge_text::{Bytes, Id, NoMemory, Paths};
 use hg_changeset::{Changeset, DateLine, ExtraItem, Extras};
+use shared_text::{Text, keep};
 use std::alloc::Global;
 
 /// The fields of the changeset with this number, which is at most 20,000, over this manifest and these files.
@@ -79,10 +80,10 @@ fn extras_of(alloc: Global, number: u64) -> Result<Extras, NoMemory>
 }
 
 /// The text of a changeset.
-pub fn text_of(alloc: Global, changeset: &Changeset) -> Result<Vec<u8>, NoMemory>
-    ensures { IfOk result (λ text. text.items ≡ changeset_text (changeset_value changeset.now)) }
+pub fn text_of(alloc: Global, changeset: &Changeset) -> Result<Text, NoMemory>
+    ensures { IfOk result (λ text. text ≡ changeset_text (changeset_value changeset.now)) }
 {
     let mut text = Vec::new(alloc);
     changeset.write_into(&mut text)?;
-    Ok(text)
+    keep(text)
 }

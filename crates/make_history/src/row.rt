@@ -24,6 +24,7 @@ use git_object::Mode;
 use hg_filelog::plain_into;
 use hg_manifest::{Entry, Manifest};
 use hg_store::HgStore;
+use shared_text::{Text, keep};
 use std::alloc::Global;
 use tree_shape::FileRow;
 
@@ -35,7 +36,7 @@ const MARK: &[u8; 2] = b"\x01\n";
 struct Made {
     p: Id,
     q: Id,
-    text: Bytes,
+    text: Text,
 }
 
 /// The file that the changeset with this number changes or copies.
@@ -136,7 +137,7 @@ fn make_new(
     Ok(Made {
         p,
         q,
-        text: Bytes::keep(text),
+        text: keep(text)?,
     })
 }
 
@@ -172,7 +173,7 @@ fn make_copy(alloc: Global, source: &Entry, body: &[u8]) -> Result<Made, NoMemor
     Ok(Made {
         p: Id::NULL,
         q: Id::NULL,
-        text: Bytes::keep(text),
+        text: keep(text)?,
     })
 }
 

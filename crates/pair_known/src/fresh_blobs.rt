@@ -2,8 +2,9 @@ ghost use Rattle.std.specs.Prelude.{◌≡◌, ◌==◌, ◌<◌, ◌++◌, [], 
 ghost use Rattle.git_model.specs.Object.{object_at, knows_object};
 ghost use Rattle.pair_known.specs.Fresh.{fresh_object};
 
-use bridge_text::{Bytes, Id, NoMemory};
+use bridge_text::{Id, NoMemory};
 use indexmap::IndexSet;
+use shared_text::Text;
 use std::alloc::Global;
 use std::marker::Model;
 
@@ -12,8 +13,8 @@ use std::marker::Model;
 pub struct FreshBlob {
     /// Its id.
     pub id: Id,
-    /// Its content.
-    pub content: Bytes,
+    /// Its content, which others may own too.
+    pub content: Text,
 }
 
 /// Blobs, no two of one id. Contracts see the objects.

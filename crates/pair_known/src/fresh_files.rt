@@ -5,6 +5,7 @@ ghost use Rattle.hg_model.specs.Revision.{FilesAt, revision_of};
 ghost use Rattle.pair_known.specs.Fresh.{fresh_revision, group_path, AreFreshFiles};
 
 use bridge_text::{Bytes, Id, NoMemory};
+use shared_text::Text;
 use std::alloc::Global;
 use std::cmp::Ordering;
 use std::marker::Model;
@@ -20,8 +21,8 @@ pub struct FreshFile {
     pub p: Id,
     /// The second parent, or the null id.
     pub q: Id,
-    /// The text: the body, or the metadata between two marks and the body.
-    pub text: Bytes,
+    /// The text, which others may own too: the body, or the metadata between two marks and the body.
+    pub text: Text,
 }
 
 /// File revisions, of each file at most one, in rising order of the paths. Contracts see the revisions, each with the

@@ -9,31 +9,25 @@ ghost use Rattle.pair_state.specs.declared.fault.PushFault.TheVariants.{Collisio
 use crate::fault::PushFault;
 use crate::order::parents_of;
 use crate::revisions::add_revision;
-use bridge_text::{Bytes, Id};
+use bridge_text::Id;
 use hg_store::{Addition, Group, HgStore};
 use pair_known::{FreshFiles, HgDraft, HgRow};
-use std::alloc::Global;
+use shared_text::again;
 
 // Adds the revisions of files that the store lacks; those of the others change nothing.
-pub fn add_files(alloc: Global, hg: &mut HgStore, d: &HgDraft, link: Id) -> Result<(), PushFault>
+pub fn add_files(hg: &mut HgStore, d: &HgDraft, link: Id) -> Result<(), PushFault>
     requires asked { (base : List Revision) × (k : ChangesetView) × IsAskedOver base hg.old d.now link k }
     ensures ok { OnOk result ((base : List Revision) (k : ChangesetView) → IsAskedOver base hg.old d.now link k → HaveCome hg.old hg.new (map (file_revision link) k.rows)) }
     ensures collision { result ≡ Err Collision → (base : List Revision) (k : ChangesetView) → IsAskedOver base hg.old d.now link k → HasBad hg.old (map (file_revision link) k.rows) }
 {
     let list = d.rows.as_slice();
     for row in list {
-        add_file(alloc, hg, &d.fresh, row, link)?;
+        add_file(hg, &d.fresh, row, link)?;
     }
     Ok(())
 }
 
-fn add_file(
-    alloc: Global,
-    hg: &mut HgStore,
-    fresh: &FreshFiles,
-    row: &HgRow,
-    link: Id,
-) -> Result<(), PushFault>
+fn add_file(hg: &mut HgStore, fresh: &FreshFiles, row: &HgRow, link: Id) -> Result<(), PushFault>
     requires asked { (x : Row) × IsFileAsked hg.old fresh.now row.now link x }
     ensures ok { OnOk result ((x : Row) → IsFileAsked hg.old fresh.now row.now link x → HaveCome hg.old hg.new (file_revision link x ∷ [])) }
     ensures collision { result ≡ Err Collision → (x : Row) → IsFileAsked hg.old fresh.now row.now link x → is_bad hg.old (file_revision link x) ≡ true }
@@ -45,14 +39,14 @@ fn add_file(
         None => return Ok(()),
     };
     let (p, q) = parents_of(file);
-    let text = Bytes::of(alloc, file.text.as_slice())?;
+    let text = again(&file.text)?;
     let addition = Addition {
         group: Group::FilesAt(path),
         node: row.node,
         p,
         q,
         link,
-        text: text.into_vec(),
+        text,
     };
     add_revision(hg, addition, Some(row.blob))
 }

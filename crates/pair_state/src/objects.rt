@@ -13,15 +13,16 @@ use crate::fault::PushFault;
 use bridge_text::{Id, Kind};
 use git_store::{GitAddFault, GitStore};
 use pair_known::FreshBlobs;
+use shared_text::{Text, keep};
 use tree_shape::TreeList;
 
 // Adds an object, whose content is right.
-pub fn add_object(git: &mut GitStore, id: Id, kind: Kind, content: Vec<u8>) -> Result<(), PushFault>
-    requires its_id { object_id (object_kind kind) content.items ≡ id }
-    requires fits { content_fault (object_kind kind) content.items ≡ None }
-    ensures ok { OnOk result (HasGrown git.old git.new (object_with id kind content.items ∷ [])) }
+pub fn add_object(git: &mut GitStore, id: Id, kind: Kind, content: Text) -> Result<(), PushFault>
+    requires its_id { object_id (object_kind kind) content ≡ id }
+    requires fits { content_fault (object_kind kind) content ≡ None }
+    ensures ok { OnOk result (HasGrown git.old git.new (object_with id kind content ∷ [])) }
     ensures sound { OnOk result (AreKnown git.new) }
-    ensures collision { result ≡ Err Collision → Clash git.old (object_with id kind content.items ∷ []) }
+    ensures collision { result ≡ Err Collision → Clash git.old (object_with id kind content ∷ []) }
 {
     match git.add(id, kind, content) {
         Ok(_) => Ok(()),
@@ -42,7 +43,7 @@ pub fn add_blobs(git: &mut GitStore, blobs: FreshBlobs) -> Result<(), PushFault>
     ensures collision { result ≡ Err Collision → Clash git.old blobs }
 {
     for blob in blobs.into_vec() {
-        add_object(git, blob.id, Kind::Blob, blob.content.into_vec())?;
+        add_object(git, blob.id, Kind::Blob, blob.content)?;
     }
     Ok(())
 }
@@ -54,7 +55,8 @@ pub fn add_trees(git: &mut GitStore, trees: TreeList) -> Result<(), PushFault>
     ensures collision { result ≡ Err Collision → Clash git.old trees }
 {
     for tree in trees.into_vec() {
-        add_object(git, tree.id, Kind::Tree, tree.content.into_vec())?;
+        let content = keep(tree.content.into_vec())?;
+        add_object(git, tree.id, Kind::Tree, content)?;
     }
     Ok(())
 }

@@ -16,6 +16,7 @@ use bridge_text::{Bytes, Id, IdList, NoMemory, node_id};
 use hg_changeset::Changeset;
 use hg_store::HgStore;
 use pair_known::{DraftTexts, HgBlock, HgDraft};
+use shared_text::{Text, keep};
 use std::alloc::Global;
 
 /// The nodes of a block's changesets.
@@ -71,7 +72,7 @@ fn add_part(
     ensures collision { result ≡ Err Collision → (base : List Revision) (k : ChangesetView) → IsPartOver base hg.old d.now k → PartsCollide hg.old saved.now (k ∷ []) }
 {
     let text = text_of_changeset(alloc, &d.changeset, texts.changeset)?;
-    let node = node_id(&d.p1, &d.p2, &text);
+    let node = node_id(&d.p1, &d.p2, text.as_slice());
     if saved.contains(&node) {
         return Err(PushFault::Collision);
     }
@@ -84,14 +85,14 @@ fn text_of_changeset(
     alloc: Global,
     changeset: &Changeset,
     made: Option<Bytes>,
-) -> Result<Vec<u8>, NoMemory>
+) -> Result<Text, NoMemory>
     requires made { IfSome made (λ text. text ≡ changeset_text (changeset_value changeset.now)) }
-    ensures { IfOk result (λ text. text.items ≡ changeset_text (changeset_value changeset.now)) }
+    ensures { IfOk result (λ text. text ≡ changeset_text (changeset_value changeset.now)) }
 {
     if let Some(text) = made {
-        return Ok(text.into_vec());
+        return keep(text.into_vec());
     }
     let mut text = Vec::new(alloc);
     changeset.write_into(&mut text)?;
-    Ok(text)
+    keep(text)
 }

@@ -28,6 +28,7 @@ use git_store::GitStore;
 use git_view::commits_are_held;
 use hg_view::views_are_held;
 use pair_known::{DraftTexts, GitDraft, HgBlock, HgDraft};
+use shared_text::{Text, keep};
 use std::alloc::Global;
 
 impl State {
@@ -91,7 +92,7 @@ impl StateParts {
             → IsTrue (block_collides self.old.known.hg self.old.known.git blocks b) }
     {
         let text = text_of_commit(self.alloc, &commit.commit)?;
-        let id = object_id(Kind::Commit, &text);
+        let id = object_id(Kind::Commit, text.as_slice());
         if self.known.partners.hg_of(&id).is_some() {
             return Err(PushFault::Collision);
         }
@@ -130,7 +131,7 @@ impl StateParts {
             return Err(PushFault::Collision);
         }
         let text = text_of_commit(self.alloc, &commit.commit)?;
-        let id = object_id(Kind::Commit, &text);
+        let id = object_id(Kind::Commit, text.as_slice());
         if self.known.partners.hg_of(&id).is_some() {
             return Err(PushFault::Collision);
         }
@@ -227,23 +228,23 @@ fn push_all(list: &mut NodeList, nodes: &[Id]) -> Result<(), NoMemory>
     Ok(())
 }
 
-fn text_of_commit(alloc: Global, commit: &Commit) -> Result<Vec<u8>, NoMemory>
-    ensures { IfOk result (λ text. text.items ≡ commit_text commit.now) }
+fn text_of_commit(alloc: Global, commit: &Commit) -> Result<Text, NoMemory>
+    ensures { IfOk result (λ text. text ≡ commit_text commit.now) }
 {
     let mut text = Vec::new(alloc);
     commit.write_into(&mut text)?;
-    Ok(text)
+    keep(text)
 }
 
 // Adds the blobs and trees of a commit, and the commit with this id and text.
-fn add_commit(git: &mut GitStore, commit: GitDraft, id: Id, text: Vec<u8>) -> Result<(), PushFault>
+fn add_commit(git: &mut GitStore, commit: GitDraft, id: Id, text: Text) -> Result<(), PushFault>
     requires blobs { Each IsRight commit.fresh }
     requires trees { Each IsRight commit.trees }
-    requires its_id { object_id kinds.commit text.items ≡ id }
-    requires fits { content_fault kinds.commit text.items ≡ None }
-    ensures ok { OnOk result (HasGrown git.old git.new (commit.fresh ++ commit.trees ++ record { id = id; kind = kinds.commit; content = text.items } ∷ [])) }
+    requires its_id { object_id kinds.commit text ≡ id }
+    requires fits { content_fault kinds.commit text ≡ None }
+    ensures ok { OnOk result (HasGrown git.old git.new (commit.fresh ++ commit.trees ++ record { id = id; kind = kinds.commit; content = text } ∷ [])) }
     ensures sound { OnOk result (AreKnown git.new) }
-    ensures collision { result ≡ Err Collision → Clash git.old (commit.fresh ++ commit.trees ++ record { id = id; kind = kinds.commit; content = text.items } ∷ []) }
+    ensures collision { result ≡ Err Collision → Clash git.old (commit.fresh ++ commit.trees ++ record { id = id; kind = kinds.commit; content = text } ∷ []) }
 {
     let (fresh, trees) = commit.into_objects();
     add_blobs(git, fresh)?;

@@ -16,6 +16,7 @@ use bridge_text::{Bytes, Id, NoMemory};
 use hg_manifest::{ManifestRev, line_len, put_line};
 use hg_store::{AddFault, Addition, Group, HgStore};
 use pair_known::{HgDraft, HgRow, HgRows};
+use shared_text::{Text, keep};
 use std::alloc::Global;
 
 // Adds a revision with which nothing can be wrong but that it is bad.
@@ -25,8 +26,8 @@ pub fn add_revision(
     blob: Option<Id>,
 ) -> Result<(), PushFault>
     requires ready { IsReady hg.old (revision_value addition) }
-    requires its_blob { IfSome blob (HasBlob addition.text.items) }
-    requires short { length addition.text.items ≤ text_limit }
+    requires its_blob { IfSome blob (HasBlob addition.text) }
+    requires short { length addition.text ≤ text_limit }
     requires path { HasFitPath (group_value addition.group) }
     ensures ok { OnOk result (HaveCome hg.old hg.new (revision_value addition.entry ∷ [])) }
     ensures collision { result ≡ Err Collision → is_bad hg.old (revision_value addition.entry) ≡ true }
@@ -46,20 +47,20 @@ pub fn add_revision(
     }
 }
 
-/// Adds the revisions of a changeset: its own with this node and text, its manifest's and its files'. The lines are those of the
+/// Adds the revisions of a changeset: its own with this node and text, which is kept, its manifest's and its files'. The lines are those of the
 /// manifest, where they were made. Collision comes where one of them has the null id, or is known with another text or other parents.
 pub fn add_changeset(
     alloc: Global,
     hg: &mut HgStore,
     d: &HgDraft,
     node: Id,
-    text: Vec<u8>,
+    text: Text,
     lines: Option<Bytes>,
 ) -> Result<(), PushFault>
-    requires asked { (base : List Revision) × (k : ChangesetView) × IsAsked base hg.old d.now node text.items k }
+    requires asked { (base : List Revision) × (k : ChangesetView) × IsAsked base hg.old d.now node text k }
     requires lines { IfSome lines (λ made. made ≡ flat_map line_of d.now.rows) }
-    ensures ok { OnOk result ((base : List Revision) (k : ChangesetView) → IsAsked base hg.old d.now node text.items k → HaveCome hg.old hg.new (revisions_of k)) }
-    ensures collision { result ≡ Err Collision → (base : List Revision) (k : ChangesetView) → IsAsked base hg.old d.now node text.items k
+    ensures ok { OnOk result ((base : List Revision) (k : ChangesetView) → IsAsked base hg.old d.now node text k → HaveCome hg.old hg.new (revisions_of k)) }
+    ensures collision { result ≡ Err Collision → (base : List Revision) (k : ChangesetView) → IsAsked base hg.old d.now node text k
         → HasBad hg.old (revisions_of k) }
 {
     let own = Addition {
@@ -72,7 +73,7 @@ pub fn add_changeset(
     };
     add_revision(hg, own, None)?;
     add_manifest(alloc, hg, d, node, lines)?;
-    add_files(alloc, hg, d, node)
+    add_files(hg, d, node)
 }
 
 // Adds the manifest of a changeset, where it has one, with its lines where they were made.
@@ -109,19 +110,19 @@ pub fn add_manifest(
 }
 
 // The lines of files: those that were made, or else new ones.
-fn lines_of(alloc: Global, rows: &HgRows, made: Option<Bytes>) -> Result<Vec<u8>, NoMemory>
+fn lines_of(alloc: Global, rows: &HgRows, made: Option<Bytes>) -> Result<Text, NoMemory>
     requires made { IfSome made (λ text. text ≡ flat_map line_of rows.now) }
-    ensures { IfOk result (λ text. text.items ≡ flat_map line_of rows.now) }
+    ensures { IfOk result (λ text. text ≡ flat_map line_of rows.now) }
 {
     if let Some(text) = made {
-        return Ok(text.into_vec());
+        return keep(text.into_vec());
     }
     let list = rows.as_slice();
     let mut text = room_for(alloc, list)?;
     for row in list {
         put_line(&mut text, row.path.as_slice(), &row.node, row.flag)?;
     }
-    Ok(text)
+    keep(text)
 }
 
 // No bytes, with room for the lines of files, so that none are moved while others are added.

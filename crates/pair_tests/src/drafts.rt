@@ -1,6 +1,7 @@
 // Drafts of a changeset and of a commit that are held.
-use crate::sides::{PLAIN, PLAIN_COMMIT, id, with_changeset, with_commit};
+use crate::sides::{BLOB, PLAIN, PLAIN_COMMIT, id, with_changeset, with_commit};
 use bridge_text::Id;
+use file_rule::content_text;
 use git_view::commits_are_held;
 use hg_manifest::ManifestRev;
 use hg_store::ViewFault;
@@ -65,22 +66,34 @@ fn is_commit(c: &GitDraft) -> bool {
         && c.trees.is_empty()
 }
 
+// Whether this is the content of a blob that the store holds and the draft doesn't bring.
+fn lends_content(known: &Known, c: &GitDraft, id: &Id, want: &[u8]) -> bool {
+    if c.fresh.get(id).is_some() {
+        return false;
+    }
+    if known.git.shared_content(id).is_none() {
+        return false;
+    }
+    content_text(known, c, id).as_slice() == want
+}
+
 // Reads it twice: as one whose tree may stand for no files, and as one whose tree does.
-fn reads_commit(alloc: Global, known: &Known, id: &Id) -> Result<bool, Fail> {
+fn reads_commit(alloc: Global, known: &Known, id: &Id, blob: &Id) -> Result<bool, Fail> {
     commits_are_held(&known.git, id);
     if known.git.commit(id).is_none() {
         return Ok(false);
     }
     let read = read_commit_draft(alloc, known, id)?;
     let c = draft_of_commit(alloc, known, id)?;
-    Ok(is_commit(&read) && is_commit(&c))
+    Ok(is_commit(&read) && is_commit(&c) && lends_content(known, &c, blob, b"hello\n"))
 }
 
 #[test]
 fn drafts_of_commits(rt: HostRuntime) -> Result<(), Fail> {
     let known = with_commit(&rt, rt.alloc())?;
     let commit = id(PLAIN_COMMIT)?;
-    let reads = reads_commit(rt.alloc(), &known, &commit)?;
+    let blob = id(BLOB)?;
+    let reads = reads_commit(rt.alloc(), &known, &commit, &blob)?;
     assert!(rt; reads);
     Ok(())
 }

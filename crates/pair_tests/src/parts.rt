@@ -6,6 +6,7 @@ use pair_known::{
     DraftTexts, FreshBlob, FreshBlobs, FreshFile, FreshFiles, HgDraft, HgDrafts, HgRow, HgRows,
     Partners,
 };
+use shared_text::keep;
 use std::alloc::Global;
 use std::test::Fail;
 
@@ -51,12 +52,13 @@ fn partners(rt: HostRuntime) -> Result<(), Fail> {
 
 fn fresh_file(alloc: Global) -> Result<FreshFile, Fail> {
     let path = Bytes::of(alloc, b"a")?;
+    let text = keep(Vec::new(alloc))?;
     Ok(FreshFile {
         path,
         node: id(1),
         p: Id::NULL,
         q: Id::NULL,
-        text: Bytes::new(alloc),
+        text,
     })
 }
 
@@ -74,10 +76,8 @@ fn fresh_files(rt: HostRuntime) -> Result<(), Fail> {
 #[test]
 fn fresh_blobs(rt: HostRuntime) -> Result<(), Fail> {
     let mut blobs = FreshBlobs::new(rt.alloc());
-    blobs.push(FreshBlob {
-        id: id(1),
-        content: Bytes::new(rt.alloc()),
-    })?;
+    let content = keep(Vec::new(rt.alloc()))?;
+    blobs.push(FreshBlob { id: id(1), content })?;
     assert!(rt; blobs.len() == 1 && !blobs.is_empty() && blobs.at(0).id == id(1));
     assert!(rt; blobs.get(&id(1)).is_some() && blobs.get(&id(2)).is_none());
     Ok(())

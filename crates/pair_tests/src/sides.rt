@@ -3,6 +3,7 @@ use bridge_text::{Added, Id, Kind, fit_path, object_id};
 use git_store::GitStore;
 use hg_store::{Group, HgStore};
 use pair_known::{Known, Partners};
+use shared_text::{Text, keep};
 use std::alloc::Global;
 use std::process::Abort;
 use std::test::Fail;
@@ -13,6 +14,9 @@ pub const NULL: &[u8] = b"0000000000000000000000000000000000000000";
 pub const PLAIN: &[u8] = b"a4ea4b987a267e07d9e0d37626d8ca8509814b76";
 
 pub const PLAIN_COMMIT: &[u8] = b"fb8491d27293299d600326567e91d35289f99b8d";
+
+/// The blob of its file.
+pub const BLOB: &[u8] = b"ce013625030ba8dba906f756967f9e9ca394464a";
 
 /// A revision: the group, the node with the parents, the changeset that brought it, and the text.
 pub struct Revision(
@@ -47,11 +51,7 @@ const REVISIONS: &[Revision] = &[
 struct Object(Kind, &'static [u8], &'static [u8]);
 
 const OBJECTS: &[Object] = &[
-    Object(
-        Kind::Blob,
-        b"ce013625030ba8dba906f756967f9e9ca394464a",
-        b"hello\n",
-    ),
+    Object(Kind::Blob, BLOB, b"hello\n"),
     Object(
         Kind::Tree,
         b"0976950c1fdbcb52435a433913017bf044b3a58f",
@@ -80,7 +80,7 @@ fn add(
     group: Group,
     ids: [Id; 3],
     link: Id,
-    text: Vec<u8>,
+    text: Text,
 ) -> bool {
     assert!(rt; text.len() <= 1 << 26);
     let [node, p, q] = ids;
@@ -104,7 +104,7 @@ fn add_revision(
     let Revision(group, digits, link, text) = revision;
     let ids = ids(digits)?;
     let link = id(link)?;
-    let text = text.to_vec(alloc)?;
+    let text = keep(text.to_vec(alloc)?)?;
     Ok(add(rt, store, *group, ids, link, text))
 }
 
@@ -122,7 +122,7 @@ pub fn store_of(rt: &impl Abort, alloc: Global, revisions: &[Revision]) -> Resul
 fn add_object(alloc: Global, store: &mut GitStore, object: &Object) -> Result<bool, Fail> {
     let Object(kind, digits, content) = object;
     let its_id = object_id(*kind, content);
-    let content = content.to_vec(alloc)?;
+    let content = keep(content.to_vec(alloc)?)?;
     let is_new = store.add(its_id, *kind, content) == Ok(Added::New);
     Ok(is_new && its_id.hex().as_slice() == *digits)
 }

@@ -3,6 +3,7 @@ ghost use Rattle.std.specs.Prelude.{◌≡◌, ◌<◌};
 
 use crate::values::{BUNDLE, COMMIT, STREAM, id};
 use bridge_io::Steps;
+use shared_text::keep;
 use state_audit::{Verdict, verify};
 use state_text::read;
 use std::alloc::{AllocError, Global};
@@ -39,8 +40,8 @@ fn verdict_of<L: Ledger>(alloc: Global, parts: &[&[u8]], blank: Blank) -> Result
     requires parts { blank.parts ≡ L.parts }
     requires some { 0 < blank.parts }
 {
-    let text = text_of(alloc, parts)?;
-    let state = read(alloc, text.as_slice())?;
+    let text = keep(text_of(alloc, parts)?)?;
+    let state = read(alloc, &text)?;
     let mut steps = Steps::<L>::new(blank);
     Ok(verify(&state, &mut steps)?)
 }

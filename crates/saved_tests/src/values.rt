@@ -1,5 +1,7 @@
 // The bundle of one changeset, the stream of its commit, and ids.
 use bridge_text::Id;
+use shared_text::{Text, keep};
+use std::alloc::Global;
 use std::test::Fail;
 
 /// A changeset with the file `a`, as `hg bundle` writes it.
@@ -27,6 +29,14 @@ pub const NODE: &[u8] = b"a4ea4b987a267e07d9e0d37626d8ca8509814b76";
 
 pub const COMMIT: &[u8] = b"fb8491d27293299d600326567e91d35289f99b8d";
 
+/// The blob of its file.
+pub const BLOB: &[u8] = b"ce013625030ba8dba906f756967f9e9ca394464a";
+
 pub fn id(digits: &[u8]) -> Result<Id, Fail> {
     Ok(Id::from_hex(digits).ok_or("40 digits")?)
+}
+
+/// These bytes as a text.
+pub fn text(alloc: Global, bytes: &[u8]) -> Result<Text, Fail> {
+    Ok(keep(bytes.to_vec(alloc)?)?)
 }

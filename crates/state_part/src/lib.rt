@@ -14,5 +14,5 @@ pub use head::{HeadFault, put_head, read_head};
 pub use laws::section_laws;
 pub use map::{MapSection, put_map, put_pair, put_sorted_map, read_map};
 pub use pairs::{IdPair, IdPairs};
-pub use part::Part;
+pub use part::{Part, SharedPart};
 pub use section::{Section, put_section, read_section};

@@ -10,6 +10,7 @@ mod nameable;
 mod names;
 mod reading;
 mod sections;
+mod shared;
 mod write;
 
 pub use fault::StateFault;

@@ -10,30 +10,32 @@ use crate::blocks::blocks_of;
 use crate::fault::StateFault;
 use crate::names::read_named;
 use crate::sections::{read_git, read_hg, read_pairs, read_tagged};
+use crate::shared::shared_rest;
 use bridge_text::SLOT_LIMIT;
 use pair_state::State;
-use state_part::read_head;
+use shared_text::Text;
 use std::alloc::Global;
 
-/// The state whose text these bytes are. `StateVersion` comes exactly where the first line names another version, and else `StateShape`
-/// with the number of the first section that doesn't fit.
-pub fn read(alloc: Global, bytes: &[u8]) -> Result<State, StateFault>
-    ensures ok { IfOk result (λ s. (m : model.State) × IsStateText bytes.now m × Stands s m × HoldsExactly s m) }
-    ensures fault { IfErr result (IsStateFault bytes.now) }
+/// The state whose text this is, of which the state keeps parts. `StateVersion` comes exactly where the first line names another
+/// version, and else `StateShape` with the number of the first section that doesn't fit.
+pub fn read(alloc: Global, text: &Text) -> Result<State, StateFault>
+    ensures ok { IfOk result (λ s. (m : model.State) × IsStateText text.now m × Stands s m × HoldsExactly s m) }
+    ensures fault { IfErr result (IsStateFault text.now) }
 {
-    let rest = read_head(bytes)?;
-    let hg = read_hg(alloc, rest)?.ok_or(StateFault::StateShape(1))?;
-    let git = read_git(alloc, hg.rest)?.ok_or(StateFault::StateShape(2))?;
+    let rest = shared_rest(text)?;
+    let hg = read_hg(alloc, &rest)?.ok_or(StateFault::StateShape(1))?;
+    let git = read_git(alloc, &hg.rest, &hg.section)?.ok_or(StateFault::StateShape(2))?;
     if hg.heads.as_slice().len() != git.section.ids.len() {
         return Err(StateFault::StateShape(3));
     }
     let blocks = blocks_of(alloc, hg.heads.as_slice(), git.section.ids.as_slice())?;
-    let rest = read_pairs(alloc, &blocks, git.rest)?.ok_or(StateFault::StateShape(3))?;
+    let after = git.rest;
+    let rest = read_pairs(alloc, &blocks, after.as_slice())?.ok_or(StateFault::StateShape(3))?;
     let tags = read_tagged(alloc, git.section, git.used, rest)?.ok_or(StateFault::StateShape(4))?;
     let named = read_named(alloc, &blocks, tags.section.tags.as_slice(), tags.rest)?.ok_or(
         StateFault::StateShape(5),
     )?;
-    if bytes.len() > SLOT_LIMIT {
+    if text.len() > SLOT_LIMIT {
         return Err(StateFault::StateShape(5));
     }
     Ok(assemble(alloc, hg.section, blocks, tags.section, named)?)

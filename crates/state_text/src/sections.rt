@@ -9,10 +9,13 @@ ghost use Rattle.state_text.specs.Sections.{NoHg, HasHg, NoGit, HasGit, NoTags, 
 
 use crate::blocks::pairs_of;
 use crate::heads::{Heads, heads_among};
+use crate::shared::shared_section;
 use bridge_text::NoMemory;
 use git_section::{GitSection, read_commits};
 use hg_section::{HgSection, read_changesets};
+use known_blobs::KnownBlobs;
 use pair_state::Blocks;
+use shared_text::Text;
 use state_part::{put_map, read_section};
 use std::alloc::Global;
 use tag_section::{TagSection, read_tags};
@@ -28,24 +31,24 @@ pub const TAGS: &[u8] = b"tags";
 
 /// The section of the changesets that bytes begin with.
 #[derive(Drop)]
-pub struct HgPart<'a> {
+pub struct HgPart {
     /// The changesets.
     pub section: HgSection,
     /// Those that are no links.
     pub heads: Heads,
     /// What follows the section.
-    pub rest: &'a [u8],
+    pub rest: Text,
 }
 
 /// The section of the commits that bytes begin with.
 #[derive(Drop)]
-pub struct GitPart<'a> {
+pub struct GitPart {
     /// The commits.
     pub section: GitSection,
     /// The size of their dump.
     pub used: usize,
     /// What follows the section.
-    pub rest: &'a [u8],
+    pub rest: Text,
 }
 
 /// The section of the kept tags that bytes begin with.
@@ -58,14 +61,14 @@ pub struct TagPart<'a> {
 }
 
 /// The changesets whose section begins the bytes; `None` exactly where no changesets that can be saved have such a section.
-pub fn read_hg(alloc: Global, bytes: &[u8]) -> Result<Option<HgPart<'_>>, NoMemory>
+pub fn read_hg(alloc: Global, bytes: &Text) -> Result<Option<HgPart>, NoMemory>
     ensures { IfOk result (λ found. MatchOption found (NoHg bytes.now)
-        (λ p. (hs : List ChangesetView) × HasHg bytes.now p.section p.heads p.rest.now hs)) }
+        (λ p. (hs : List ChangesetView) × HasHg bytes.now p.section p.heads p.rest hs)) }
 {
-    let Some(part) = read_section(HG, bytes) else {
+    let Some(part) = shared_section(HG, bytes)? else {
         return Ok(None);
     };
-    let Some(section) = read_changesets(alloc, part.text)? else {
+    let Some(section) = read_changesets(alloc, &part.text)? else {
         return Ok(None);
     };
     let Some(heads) = heads_among(alloc, &section.store, section.nodes.as_slice())? else {
@@ -78,15 +81,17 @@ pub fn read_hg(alloc: Global, bytes: &[u8]) -> Result<Option<HgPart<'_>>, NoMemo
     }))
 }
 
-/// The commits whose section begins the bytes; `None` exactly where no commits that can be saved have such a section.
-pub fn read_git(alloc: Global, bytes: &[u8]) -> Result<Option<GitPart<'_>>, NoMemory>
+/// The commits whose section begins the bytes; `None` exactly where no commits that can be saved have such a section. Blobs that
+/// are bodies of the changesets' files aren't hashed again.
+pub fn read_git(alloc: Global, bytes: &Text, hg: &HgSection) -> Result<Option<GitPart>, NoMemory>
     ensures { IfOk result (λ found. MatchOption found (NoGit bytes.now)
-        (λ p. (cs : List CommitView) × HasGit bytes.now p.section p.used p.rest.now cs)) }
+        (λ p. (cs : List CommitView) × HasGit bytes.now p.section p.used p.rest cs)) }
 {
-    let Some(part) = read_section(GIT, bytes) else {
+    let Some(part) = shared_section(GIT, bytes)? else {
         return Ok(None);
     };
-    let Some(section) = read_commits(alloc, part.text)? else {
+    let known = KnownBlobs::new(alloc, &hg.store, &hg.arrivals)?;
+    let Some(section) = read_commits(alloc, &part.text, &known)? else {
         return Ok(None);
     };
     Ok(Some(GitPart {

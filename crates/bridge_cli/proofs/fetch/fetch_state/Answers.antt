@@ -3,7 +3,7 @@ use Rattle.bridge_cli.proofs.fetch.fetch_state.Goals as goal
 
 pub returns-in-Ok-true-clause-state : goal.returns-in-Ok-true-clause-state
 returns-in-Ok-true-clause-state g c =
-    text-fetched _ _ _ c.as_slice.result.now _ c.state_of.result c.in-Ok-true.ensures.gives c.in-Ok-true.field-0-test c.as_slice.ensures.value c.state_of.ensures.bytes c.state_of.ensures.reads
+    text-fetched _ _ _ _ c.state_of.result c.in-Ok-true.ensures.gives c.in-Ok-true.field-0-test c.state_of.ensures.bytes c.state_of.ensures.reads
 
 pub returns-in-Ok-true-clause-cause : goal.returns-in-Ok-true-clause-cause
 returns-in-Ok-true-clause-cause g c = leaves-count _ _ _ _ c.state_of.ensures.reads c.in-Ok-true.ensures.cause

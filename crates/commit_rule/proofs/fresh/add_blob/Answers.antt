@@ -26,7 +26,7 @@ returns c = λ rows r was is.
     let known = c.args.known.now.git in
     let id : c.row.inside.blob ≡ (tree_row_of r).id = ap (λ (v : RowValue). v.blob) (c.row.view_is ∙ sym is.0) in
     let new : false ≡ knows_object known c.row.inside.blob = sym c.if-is_some.false ∙ c.is_some.ensures ∙ both-some _ _ c.content.result (object_at known c.row.inside.blob) c.content.ensures.content in
-    let body : c.in_ok-content.content ≡ (tree_row_of r).content = c.in_ok-content.ensures ∙ c.body_of.ensures r is in
+    let body : c.in_ok-content.content ≡ (tree_row_of r).content = c.in_ok-content.ensures r is in
     subst (λ (os : List Object). AreBrought known os (map tree_row_of rows ++ tree_row_of r ∷ []))
     (sym (c.in_ok-push.ensures.ok ∙ (λ i. c.args.fresh.now ++ record { id = id i; kind = blob; content = body i } ∷ [])))
     (brought-one known c.args.fresh.now (map tree_row_of rows) (tree_row_of r) was (sym (new ∙ ap (knows_object known) id)))

@@ -1,4 +1,4 @@
-use Rattle.std.proofs.Common.{true≢false, ◌++◌, refl, sym, ap, subst, ◌∙◌}
+use Rattle.std.proofs.Common.{true≢false, refl, sym, ap, subst, ◌∙◌}
 use Rattle.std.specs.Option.{option_copied}
 use Rattle.text_model.specs.Text.{Bytes}
 use Rattle.hg_model.specs.FileText.{file_text}
@@ -8,15 +8,15 @@ use Rattle.commit_unmark.proofs.revision.row_with_revision.Goals as goal
 
 pub returns-then-not-is_revision-clause-found : goal.returns-then-not-is_revision-clause-found
 returns-then-not-is_revision-clause-found c = λ t is right.
-    let body = c.content_of-body.ensures t (ap (λ x. x.id) is.of_file ∙ sym c.blob.ensures) is.content in
+    let body = c.as_slice.ensures ∙ c.content_text-body.ensures t (ap (λ x. x.id) is.of_file ∙ sym c.blob.ensures) is.content in
     true≢false (sym (c.is_revision.ensures.1 (subst (λ (b : Bytes). IsRevision (revision_with c.args.parents (option_copied c.args.meta) b)) (sym body) right)) ∙ c.if-not-is_revision.true)
 
 pub returns-clause-found : goal.returns-clause-found
 returns-clause-found c = λ t is.
-    let body = c.content_of-body.ensures t (ap (λ x. x.id) is.of_file ∙ sym c.blob.ensures) is.content in
+    let body = c.content_text-body.ensures t (ap (λ x. x.id) is.of_file ∙ sym c.blob.ensures) is.content in
     let right : IsRevision (revision_with c.args.parents (option_copied c.args.meta) t.content) =
-    subst (λ (b : Bytes). IsRevision (revision_with c.args.parents (option_copied c.args.meta) b)) body (c.is_revision.ensures.0 c.if-not-is_revision.false) in
-    let text = c.keep.ensures ∙ c.in_ok-join_into.ensures.ok ∙ ap (λ (x : Bytes). x ++ file_text (option_copied c.args.meta) c.content_of-body.result.now) c.new-text.ensures.items ∙ ap (file_text (option_copied c.args.meta)) body in (
+    subst (λ (b : Bytes). IsRevision (revision_with c.args.parents (option_copied c.args.meta) b)) (c.as_slice.ensures ∙ body) (c.is_revision.ensures.0 c.if-not-is_revision.false) in
+    let text = c.in_ok-text.ensures ∙ ap (file_text (option_copied c.args.meta)) body in (
       right,
       c.in_ok-row.ensures.ok (revision_with c.args.parents (option_copied c.args.meta) t.content) (record {
         parents = (refl, refl);

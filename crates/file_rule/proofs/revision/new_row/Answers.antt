@@ -7,7 +7,7 @@ use Rattle.hg_manifest.specs.Values.{manifest_entry}
 use Rattle.file_rule.proofs.NewRow.{IsMade, ordered, made-text, made-revision}
 use Rattle.file_rule.proofs.revision.new_row.Goals as goal
 
-made : (c : goal.After-row_with_text) → IsMade c.content_of.result.now c.in_ok-text.text (option_map manifest_entry (option_copied c.args.first)) (option_map manifest_entry (option_copied c.args.second)) c.parents_over-parents.result
+made : (c : goal.After-row_with_text) → IsMade c.content_text.result.now c.in_ok-text.text (option_map manifest_entry (option_copied c.args.first)) (option_map manifest_entry (option_copied c.args.second)) c.parents_over-parents.result
 made c = record {
   bytes = c.plain_text.ensures.bytes;
   text_is = c.in_ok-text.ensures.text;
@@ -17,9 +17,9 @@ made c = record {
 pub row_with_text-requires : goal.row_with_text-requires
 row_with_text-requires c = record {
   text = (
-    plain_meta c.content_of.result.now,
-    c.content_of.result.now,
-    made-text c.content_of.result.now c.in_ok-text.text (option_map manifest_entry (option_copied c.args.first)) (option_map manifest_entry (option_copied c.args.second)) c.parents_over-parents.result (record {
+    plain_meta c.content_text.result.now,
+    c.content_text.result.now,
+    made-text c.content_text.result.now c.in_ok-text.text (option_map manifest_entry (option_copied c.args.first)) (option_map manifest_entry (option_copied c.args.second)) c.parents_over-parents.result (record {
       bytes = c.plain_text.ensures.bytes;
       text_is = c.in_ok-text.ensures.text;
       parents = c.parents_over-parents.ensures ∙ (λ i. ordered (c.node_or_null.ensures i) (c.node_or_null-2.ensures i));
@@ -29,5 +29,5 @@ row_with_text-requires c = record {
 
 pub returns-clause-ok : goal.returns-clause-ok
 returns-clause-ok c = IfOk-weaker c.row_with_text.result _ _
-    (λ x h r s t is. h _ (made-revision _ _ c.args.file.now _ _ r s t is c.content_of.result.now c.in_ok-text.text (c.content_of.ensures t (ap (λ x. x.id) is.of_file ∙ sym c.blob.ensures) is.content) c.parents_over-parents.result (made c)))
+    (λ x h r s t is. h _ (made-revision _ _ c.args.file.now _ _ r s t is c.content_text.result.now c.in_ok-text.text (c.content_text.ensures t (ap (λ x. x.id) is.of_file ∙ sym c.blob.ensures) is.content) c.parents_over-parents.result (made c)))
     c.row_with_text.ensures.ok

@@ -10,7 +10,7 @@ use Rattle.git_section.proofs.Whole.{walkable}
 use Rattle.git_section.proofs.commits.read_commits.Goals as goal
 
 pub returns-then-not-branch : goal.returns-then-not-branch
-returns-then-not-branch c = λ cs s e.
+returns-then-not-branch g c = λ cs s e.
     let bytes = c.args.bytes.now in
     let section = c.in-Some.section in
     let read = subst (λ (o : Option GitSection). MatchOption o (is_ok (stream_reading [] bytes) ≡ false) (IsRead bytes)) c.in-Some.is c.in_ok-section.ensures in
@@ -19,19 +19,19 @@ returns-then-not-branch c = λ cs s e.
     true≢false (sym (c.in_ok-have_walks.ensures.1 (cs, are)) ∙ no)
 
 pub returns-then-is_whole : goal.returns-then-is_whole
-returns-then-is_whole c =
+returns-then-is_whole g c =
     let bytes = c.args.bytes.now in
     let section = c.in-Some.section in
     let read = subst (λ (o : Option GitSection). MatchOption o (is_ok (stream_reading [] bytes) ≡ false) (IsRead bytes)) c.in-Some.is c.in_ok-section.ensures in
     let all = c.in_ok-have_walks.ensures.0 (cc c.if-not-branch.false) in
     let are = subst (λ (l : List Id). AreWalkableCommits section.store l all.0) c.as_slice.ensures all.1 in
-    let dump = sym ((c.in_ok-is_whole.ensures all.0 (subst (λ (l : List Id). AreWalkableCommits section.store l all.0) (sym c.as_slice-2.ensures) are)).0 c.if-is_whole.true) in
+    let dump = sym ((c.in_ok-is_whole.ensures all.0 (subst (λ (l : List Id). AreWalkableCommits section.store l all.0) (sym c.as_slice-2.ensures) are)).0 c.if-is_whole.true) ∙ c.deref.ensures in
     (all.0, saved bytes section read all.0 are dump, dump, holds bytes section read all.0 are dump)
 
 pub returns-else-is_whole : goal.returns-else-is_whole
-returns-else-is_whole c = λ cs s e.
+returns-else-is_whole g c = λ cs s e.
     let bytes = c.args.bytes.now in
     let section = c.in-Some.section in
     let read = subst (λ (o : Option GitSection). MatchOption o (is_ok (stream_reading [] bytes) ≡ false) (IsRead bytes)) c.in-Some.is c.in_ok-section.ensures in
     let are = subst (λ (l : List Id). AreWalkableCommits section.store l cs) (sym c.as_slice-2.ensures) (walkable bytes section read cs s e) in
-    true≢false (sym ((c.in_ok-is_whole.ensures cs are).1 (sym e)) ∙ c.if-is_whole.false)
+    true≢false (sym ((c.in_ok-is_whole.ensures cs are).1 (c.deref.ensures ∙ sym e)) ∙ c.if-is_whole.false)

@@ -1,5 +1,6 @@
 use Rattle.std.proofs.Common.{◌∙◌, [], refl, arith}
 use Rattle.std.proofs.lemmas.Result.{err_from_is_err_and}
+use Rattle.hg_chunk.specs.Reader.{payload_of}
 use Rattle.hg_bundle.specs.Place.{place_value}
 use Rattle.hg_bundle.proofs.Grown.{steps-grown}
 use Rattle.hg_bundle.proofs.Groups.{brings_told}
@@ -25,35 +26,35 @@ chunks-init g c = record {
   kept = c.in_ok-magic.ensures.cause;
 }
 
+pub returns-in_err-lent-clause-reads : goal.returns-in_err-lent-clause-reads
+returns-in_err-lent-clause-reads g c =
+    let p = err_from_is_err_and c.from_residual-in_err-lent.result c.from_residual-in_err-lent.ensures.1 in
+    let so_far = rw c.in-Some.is at c.chunks.invariant.reading in
+    rw (p.1, p.2) (chunk_told _ _ _ _ _ (place_value c.in-Some.place) c.in_err-lent.field-0.0 so_far (rw c.most.ensures at c.in_err-lent.ensures.judged))
+
 pub returns-in_err-next-clause-reads : goal.returns-in_err-next-clause-reads
 returns-in_err-next-clause-reads g c =
     let p = err_from_is_err_and c.from_residual-in_err-next.result c.from_residual-in_err-next.ensures.1 in
     let so_far = rw c.in-Some.is at c.chunks.invariant.reading in
-    rw (p.1, p.2) (chunk_told _ _ _ _ _ (place_value c.in-Some.place) c.in_err-next.field-0.0 so_far (rw c.most.ensures at c.in_err-next.ensures.judged))
-
-pub returns-in_err-next-2-clause-reads : goal.returns-in_err-next-2-clause-reads
-returns-in_err-next-2-clause-reads g c =
-    let p = err_from_is_err_and c.from_residual-in_err-next-2.result c.from_residual-in_err-next-2.ensures.1 in
-    let so_far = rw c.in-Some.is at c.chunks.invariant.reading in
     rw (p.1, p.2)
-    (step_told _ _ _ _ _ _ (place_value c.in-Some.place) c.next.new.into.items c.in_err-next-2.field-0.0 so_far c.in_ok-next.ensures.bytes
-    (rw c.most.ensures at c.in_ok-next.ensures.judged) (is_small (place_value c.in-Some.place) _ (rw c.most.ensures at c.in_ok-next.ensures.field))
-    (rw (c.deref.ensures.value, c.offset-at.ensures.value) at c.in_err-next-2.ensures.fault))
+    (step_told _ _ _ _ _ _ (place_value c.in-Some.place) (payload_of c.in_ok-lent.lent c.next_text.new.into.items) c.in_err-next.field-0.0 so_far c.in_ok-lent.ensures.bytes
+    (rw c.most.ensures at c.in_ok-lent.ensures.judged) (is_small (place_value c.in-Some.place) _ (rw c.most.ensures at c.in_ok-lent.ensures.field))
+    (rw (c.of.ensures, c.deref.ensures.value, c.offset-at.ensures.value) at c.in_err-next.ensures.fault))
 
 pub chunks-preserved : goal.chunks-preserved
 chunks-preserved g c =
     let so_far = rw c.in-Some.is at c.chunks.invariant.reading in record {
       reading =
-          rw (c.in_ok-next-2.ensures.next, c.in_ok-next.ensures.offset, c.deref.ensures.value)
-          (reading_goes_on _ _ _ _ _ _ _ (place_value c.in-Some.place) c.next.new.into.items so_far c.in_ok-next.ensures.bytes
-          (rw c.most.ensures at c.in_ok-next.ensures.judged) (is_small (place_value c.in-Some.place) _ (rw c.most.ensures at c.in_ok-next.ensures.field))
-          (rw (c.deref.ensures.value, c.offset-at.ensures.value) at c.in_ok-next-2.ensures.steps));
-      grown = steps-grown _ _ _ _ _ _ c.chunks.invariant.grown c.in_ok-next-2.ensures.steps;
-      bytes = read_goes_on _ _ _ c.next.new.into.items c.chunks.invariant.bytes c.in_ok-next.ensures.bytes (rw c.deref.ensures.value at c.in_ok-next-2.ensures.bytes);
-      fit = c.in_ok-next-2.ensures.fit;
-      last = c.in_ok-next-2.ensures.last;
-      sum = c.in_ok-next-2.ensures.sum;
-      kept = c.in_ok-next.ensures.cause ∙ c.chunks.invariant.kept;
+          rw (c.in_ok-next.ensures.next, c.in_ok-lent.ensures.offset, c.of.ensures, c.deref.ensures.value)
+          (reading_goes_on _ _ _ _ _ _ _ (place_value c.in-Some.place) (payload_of c.in_ok-lent.lent c.next_text.new.into.items) so_far c.in_ok-lent.ensures.bytes
+          (rw c.most.ensures at c.in_ok-lent.ensures.judged) (is_small (place_value c.in-Some.place) _ (rw c.most.ensures at c.in_ok-lent.ensures.field))
+          (rw (c.of.ensures, c.deref.ensures.value, c.offset-at.ensures.value) at c.in_ok-next.ensures.steps));
+      grown = steps-grown _ _ _ _ _ _ c.chunks.invariant.grown c.in_ok-next.ensures.steps;
+      bytes = read_goes_on _ _ _ (payload_of c.in_ok-lent.lent c.next_text.new.into.items) c.chunks.invariant.bytes c.in_ok-lent.ensures.bytes (rw (c.of.ensures, c.deref.ensures.value) at c.in_ok-next.ensures.bytes);
+      fit = c.in_ok-next.ensures.fit;
+      last = c.in_ok-next.ensures.last;
+      sum = c.in_ok-next.ensures.sum;
+      kept = c.in_ok-lent.ensures.cause ∙ c.chunks.invariant.kept;
     }
 
 pub returns-clause-reads : goal.returns-clause-reads
@@ -78,11 +79,11 @@ returns-clause-bundle g c =
 pub returns-in_err-magic-clause-no_bundle : goal.returns-in_err-magic-clause-no_bundle
 returns-in_err-magic-clause-no_bundle g c = tells_unreadable c.args.store _ c.from_residual.result (returns-in_err-magic-clause-reads g c)
 
+pub returns-in_err-lent-clause-no_bundle : goal.returns-in_err-lent-clause-no_bundle
+returns-in_err-lent-clause-no_bundle g c = tells_unreadable c.args.store _ c.from_residual-in_err-lent.result (returns-in_err-lent-clause-reads g c)
+
 pub returns-in_err-next-clause-no_bundle : goal.returns-in_err-next-clause-no_bundle
 returns-in_err-next-clause-no_bundle g c = tells_unreadable c.args.store _ c.from_residual-in_err-next.result (returns-in_err-next-clause-reads g c)
-
-pub returns-in_err-next-2-clause-no_bundle : goal.returns-in_err-next-2-clause-no_bundle
-returns-in_err-next-2-clause-no_bundle g c = tells_unreadable c.args.store _ c.from_residual-in_err-next-2.result (returns-in_err-next-2-clause-reads g c)
 
 pub returns-in_err-finish-clause-no_bundle : goal.returns-in_err-finish-clause-no_bundle
 returns-in_err-finish-clause-no_bundle g c = tells_unreadable c.args.store _ c.from_residual-in_err-finish.result (returns-in_err-finish-clause-reads g c)

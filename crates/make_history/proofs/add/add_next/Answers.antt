@@ -29,7 +29,7 @@ add_changeset-requires-clause-asked c =
     let first = c.parents_behind-p1.ensures.first before nodes in
     let second = c.parents_behind-p1.ensures.second before nodes in
     let is = draft-is m.0 n h m.1 c.check.ensures c.requires.few d y _ _ first second c.in_ok-draft.ensures.draft c.in_ok-draft.ensures.fresh c.in_ok-draft.ensures.unknown in
-    (h.store, next_of m.0 n, next-asked m.0 n h m.1 c.check.ensures c.requires.few d y m.2 is _ _ _ _ c.in_ok-text.ensures first second (c.node_id-node.ensures ∙ ap (node_id c.parents_behind-p1.result.0 c.parents_behind-p1.result.1) c.deref.ensures.value))
+    (h.store, next_of m.0 n, next-asked m.0 n h m.1 c.check.ensures c.requires.few d y m.2 is _ _ _ _ c.in_ok-text.ensures first second (c.node_id-node.ensures ∙ ap (node_id c.parents_behind-p1.result.0 c.parents_behind-p1.result.1) c.as_slice-2.ensures))
 
 pub add_changeset-requires-clause-lines : goal.add_changeset-requires-clause-lines
 add_changeset-requires-clause-lines c =
@@ -59,7 +59,7 @@ returns-in_err-add_changeset-clause-fault c =
     let first = c.parents_behind-p1.ensures.first before nodes in
     let second = c.parents_behind-p1.ensures.second before nodes in
     let is = draft-is seed n h made c.check.ensures c.requires.few d y _ _ first second c.in_ok-draft.ensures.draft c.in_ok-draft.ensures.fresh c.in_ok-draft.ensures.unknown in
-    let asked = next-asked seed n h made c.check.ensures c.requires.few d y value is _ _ _ _ c.in_ok-text.ensures first second (c.node_id-node.ensures ∙ ap (node_id c.parents_behind-p1.result.0 c.parents_behind-p1.result.1) c.deref.ensures.value) in
+    let asked = next-asked seed n h made c.check.ensures c.requires.few d y value is _ _ _ _ c.in_ok-text.ensures first second (c.node_id-node.ensures ∙ ap (node_id c.parents_behind-p1.result.0 c.parents_behind-p1.result.1) c.as_slice-2.ensures) in
     next-refused seed n c.in_err-add_changeset.field-0.0 (λ bad. next-collides seed n h.store made.came (c.in_err-add_changeset.ensures.collision (λ i. Err (bad i)) h.store (next_of seed n) asked)))
 
 pub returns-clause-ok : goal.returns-clause-ok
@@ -73,6 +73,6 @@ returns-clause-ok c = λ seed made value.
     let first = c.parents_behind-p1.ensures.first before nodes in
     let second = c.parents_behind-p1.ensures.second before nodes in
     let is = draft-is seed n h made c.check.ensures c.requires.few d y _ _ first second c.in_ok-draft.ensures.draft c.in_ok-draft.ensures.fresh c.in_ok-draft.ensures.unknown in
-    let asked = next-asked seed n h made c.check.ensures c.requires.few d y value is _ _ _ _ c.in_ok-text.ensures first second (c.node_id-node.ensures ∙ ap (node_id c.parents_behind-p1.result.0 c.parents_behind-p1.result.1) c.deref.ensures.value) in
+    let asked = next-asked seed n h made c.check.ensures c.requires.few d y value is _ _ _ _ c.in_ok-text.ensures first second (c.node_id-node.ensures ∙ ap (node_id c.parents_behind-p1.result.0 c.parents_behind-p1.result.1) c.as_slice-2.ensures) in
     next-made seed n h (record { store = c.add_changeset.new.hg; nodes = c.push.new.self }) made (next-loose seed n h made c.check.ensures c.requires.few d y value is)
     (c.in_ok-add_changeset.ensures.ok h.store (next_of seed n) asked) (c.in_ok-push.ensures.ok ∙ ap (λ x. h.nodes ++ x ∷ []) asked.node_is)

@@ -12,4 +12,4 @@ returns c = λ known ps a b.
     (c.parents_over-p.ensures ∙ (λ i. ordered
     (node-at known c.args.first.now ps.first c.args.path.now c.get.result c.node_or_null-p.result a c.get.ensures c.node_or_null-p.ensures i)
     (node-at known c.args.second.now ps.second c.args.path.now c.get-2.result c.node_or_null-q.result b c.get-2.ensures c.node_or_null-q.ensures i)))
-    (c.keep.ensures ∙ c.in_ok-plain_into.ensures.ok ∙ ap (λ (l : Bytes). l ++ file_text (plain_meta c.args.body.now) c.args.body.now) c.new-text.ensures.items)
+    (c.in_ok-keep.ensures ∙ c.in_ok-plain_into.ensures.ok ∙ ap (λ (l : Bytes). l ++ file_text (plain_meta c.args.body.now) c.args.body.now) c.new-text.ensures.items)

@@ -21,7 +21,7 @@ add_revision-requires-clause-ready c =
     let path = c.as_slice-path.ensures ∙ ap (λ (w : RowValue). w.path) c.row.view_is in
     let node = ap (λ (w : RowValue). w.node) c.row.view_is in
     let at = c.in-Some.ensures ∙ (λ i. revision_of c.args.fresh.now (FilesAt (path i)) (node i)) in
-    subst (IsReady c.args.hg.now) (sym (fresh-whole c.args.hg.now c.args.fresh.now v c.args.link c.requires.asked.0 c.requires.asked.1 c.in-Some.file.now at c.as_slice-path.result.now c.into_vec.result.items c.row.inside.node c.parents_of-p.result path node c.parents_of-p.ensures (c.into_vec.ensures ∙ c.in_ok-text.ensures ∙ c.as_slice.ensures))) (file-ready c.args.hg.now c.args.fresh.now v c.args.link c.requires.asked.0 c.requires.asked.1)
+    subst (IsReady c.args.hg.now) (sym (fresh-whole c.args.hg.now c.args.fresh.now v c.args.link c.requires.asked.0 c.requires.asked.1 c.in-Some.file.now at c.as_slice-path.result.now c.in_ok-text.text c.row.inside.node c.parents_of-p.result path node c.parents_of-p.ensures c.in_ok-text.ensures)) (file-ready c.args.hg.now c.args.fresh.now v c.args.link c.requires.asked.0 c.requires.asked.1)
 
 pub add_revision-requires-clause-its_blob : goal.add_revision-requires-clause-its_blob
 add_revision-requires-clause-its_blob c =
@@ -29,8 +29,8 @@ add_revision-requires-clause-its_blob c =
     let path = c.as_slice-path.ensures ∙ ap (λ (w : RowValue). w.path) c.row.view_is in
     let node = ap (λ (w : RowValue). w.node) c.row.view_is in
     let at = c.in-Some.ensures ∙ (λ i. revision_of c.args.fresh.now (FilesAt (path i)) (node i)) in
-    let whole = fresh-whole c.args.hg.now c.args.fresh.now v c.args.link c.requires.asked.0 c.requires.asked.1 c.in-Some.file.now at c.as_slice-path.result.now c.into_vec.result.items c.row.inside.node c.parents_of-p.result path node c.parents_of-p.ensures (c.into_vec.ensures ∙ c.in_ok-text.ensures ∙ c.as_slice.ensures) in
-    subst (λ b. HasBlob c.into_vec.result.items b) (sym (ap (λ (w : RowValue). w.blob) c.row.view_is))
+    let whole = fresh-whole c.args.hg.now c.args.fresh.now v c.args.link c.requires.asked.0 c.requires.asked.1 c.in-Some.file.now at c.as_slice-path.result.now c.in_ok-text.text c.row.inside.node c.parents_of-p.result path node c.parents_of-p.ensures c.in_ok-text.ensures in
+    subst (λ b. HasBlob c.in_ok-text.text b) (sym (ap (λ (w : RowValue). w.blob) c.row.view_is))
     (subst (λ (t : Bytes). HasBlob t v.blob) (sym (ap (λ (r : Revision). r.text) whole)) (file-blob c.args.hg.now c.args.fresh.now v c.args.link c.requires.asked.0 c.requires.asked.1))
 
 pub add_revision-requires-clause-short : goal.add_revision-requires-clause-short
@@ -39,7 +39,7 @@ add_revision-requires-clause-short c =
     let path = c.as_slice-path.ensures ∙ ap (λ (w : RowValue). w.path) c.row.view_is in
     let node = ap (λ (w : RowValue). w.node) c.row.view_is in
     let at = c.in-Some.ensures ∙ (λ i. revision_of c.args.fresh.now (FilesAt (path i)) (node i)) in
-    let whole = fresh-whole c.args.hg.now c.args.fresh.now v c.args.link c.requires.asked.0 c.requires.asked.1 c.in-Some.file.now at c.as_slice-path.result.now c.into_vec.result.items c.row.inside.node c.parents_of-p.result path node c.parents_of-p.ensures (c.into_vec.ensures ∙ c.in_ok-text.ensures ∙ c.as_slice.ensures) in
+    let whole = fresh-whole c.args.hg.now c.args.fresh.now v c.args.link c.requires.asked.0 c.requires.asked.1 c.in-Some.file.now at c.as_slice-path.result.now c.in_ok-text.text c.row.inside.node c.parents_of-p.result path node c.parents_of-p.ensures c.in_ok-text.ensures in
     subst (λ (t : Bytes). length t ≤ text_limit) (sym (ap (λ (r : Revision). r.text) whole)) c.requires.asked.1.short
 
 pub returns-clause-ok : goal.returns-clause-ok
@@ -49,7 +49,7 @@ returns-clause-ok c =
     let path = c.as_slice-path.ensures ∙ ap (λ (w : RowValue). w.path) c.row.view_is in
     let node = ap (λ (w : RowValue). w.node) c.row.view_is in
     let at = c.in-Some.ensures ∙ (λ i. revision_of c.args.fresh.now (FilesAt (path i)) (node i)) in
-    subst (λ (r : Revision). HaveCome c.args.hg.now c.add_revision.new.hg (r ∷ [])) (fresh-whole c.args.hg.now c.args.fresh.now v c.args.link x a c.in-Some.file.now at c.as_slice-path.result.now c.into_vec.result.items c.row.inside.node c.parents_of-p.result path node c.parents_of-p.ensures (c.into_vec.ensures ∙ c.in_ok-text.ensures ∙ c.as_slice.ensures)) come) c.add_revision.ensures.ok
+    subst (λ (r : Revision). HaveCome c.args.hg.now c.add_revision.new.hg (r ∷ [])) (fresh-whole c.args.hg.now c.args.fresh.now v c.args.link x a c.in-Some.file.now at c.as_slice-path.result.now c.in_ok-text.text c.row.inside.node c.parents_of-p.result path node c.parents_of-p.ensures c.in_ok-text.ensures) come) c.add_revision.ensures.ok
 
 pub returns-clause-collision : goal.returns-clause-collision
 returns-clause-collision c = λ is x a.
@@ -57,4 +57,4 @@ returns-clause-collision c = λ is x a.
     let path = c.as_slice-path.ensures ∙ ap (λ (w : RowValue). w.path) c.row.view_is in
     let node = ap (λ (w : RowValue). w.node) c.row.view_is in
     let at = c.in-Some.ensures ∙ (λ i. revision_of c.args.fresh.now (FilesAt (path i)) (node i)) in
-    subst (λ (r : Revision). is_bad c.args.hg.now r ≡ true) (fresh-whole c.args.hg.now c.args.fresh.now v c.args.link x a c.in-Some.file.now at c.as_slice-path.result.now c.into_vec.result.items c.row.inside.node c.parents_of-p.result path node c.parents_of-p.ensures (c.into_vec.ensures ∙ c.in_ok-text.ensures ∙ c.as_slice.ensures)) (c.add_revision.ensures.collision is)
+    subst (λ (r : Revision). is_bad c.args.hg.now r ≡ true) (fresh-whole c.args.hg.now c.args.fresh.now v c.args.link x a c.in-Some.file.now at c.as_slice-path.result.now c.in_ok-text.text c.row.inside.node c.parents_of-p.result path node c.parents_of-p.ensures c.in_ok-text.ensures) (c.add_revision.ensures.collision is)

@@ -23,7 +23,7 @@ unreachable-requires-in-Err-ParentLimit c = none-fault c.args.git.now _ c.requir
 
 pub returns-in-Ok-clause-ok : goal.returns-in-Ok-clause-ok
 returns-in-Ok-clause-ok c =
-    let o : Object = object_with c.args.id c.args.kind c.args.content.items in
+    let o : Object = object_with c.args.id c.args.kind c.args.content in
     subst (λ (new : List Object). HasGrown c.args.git.now new (o ∷ [])) (sym c.in-Ok.ensures.ok) (one-more c.args.git.now o c.in-Ok.ensures.faultless)
 
 pub returns-in-Err-Collision-clause-collision : goal.returns-in-Err-Collision-clause-collision

@@ -1,6 +1,5 @@
-use Rattle.std.proofs.Common.{◌≡◌, List, [], ◌∷◌, ◌++◌, Err, sym, ap, subst, ◌∙◌}
+use Rattle.std.proofs.Common.{◌≡◌, List, ◌++◌, Err, sym, ap, subst, ◌∙◌}
 use Rattle.std.proofs.lemmas.Result.{err_from_is_err_and, on_ok_weaker}
-use Rattle.text_model.specs.Id as kinds
 use Rattle.git_model.specs.Object.{Object}
 use Rattle.git_store.specs.Growth.{HasGrown, Clash}
 use Rattle.pair_state.proofs.GrowthLemmas.{errs}

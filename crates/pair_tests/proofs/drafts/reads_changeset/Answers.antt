@@ -1,4 +1,4 @@
-use Rattle.std.proofs.Common.{◌≡◌, true, false, true≢false, sym, ◌∙◌, Result, Ok, Err}
+use Rattle.std.proofs.Common.{◌≡◌, false, true≢false, sym, ◌∙◌, Result, Ok, Err}
 use Rattle.std.specs.Prelude.{is_err, MatchResult}
 use Rattle.pair_tests.proofs.drafts.reads_changeset.Goals as goal
 

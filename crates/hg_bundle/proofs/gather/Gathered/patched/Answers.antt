@@ -33,5 +33,5 @@ returns-then-len-text_limit-clause-fault c =
 pub returns-clause-patched : goal.returns-clause-patched
 returns-clause-patched c =
     has_text c.args.self.now.store c.args.self.now.sum (group_value c.args.group.now) c.args.self.now.last c.args.at (entry_value c.args.entry.now)
-    c.in-Some.base.now (sym c.in-Some.ensures) c.fill.new.out.items c.in-Ok.len c.fill.ensures.reading c.in-Ok.ensures.size c.in-Ok.ensures.most c.requires.sum
+    c.in-Some.base.now (sym c.in-Some.ensures) c.in_ok-text_over.field-0 c.in-Ok.len c.in_ok-text_over.ensures c.in-Ok.ensures.size c.in-Ok.ensures.most c.requires.sum
     (rw c.text_limit.ensures at c.if-len-text_limit.false)

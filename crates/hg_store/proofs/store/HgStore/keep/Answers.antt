@@ -1,10 +1,9 @@
-use Rattle.std.proofs.Common.{◌≡◌, ◌++◌, [], ◌∷◌, sym, ap, subst, ◌∙◌}
-use Rattle.text_model.specs.Text.{Bytes}
+use Rattle.std.proofs.Common.{◌≡◌, ◌++◌, [], ◌∷◌, refl, sym, ap, subst, ◌∙◌}
 use Rattle.indexmap.proofs.CallerLemmas.{insert_entry-new}
 use Rattle.hg_store.specs.contracts.held.KeyPartialEq.TheImpl as key_eq
 use Rattle.hg_store.specs.declared.held.Held.{Held}
 use Rattle.hg_store.specs.declared.held.Key.{Key}
-use Rattle.hg_store.specs.Groups.{paths_in, revisions_in, revision_value, held_revision, HasValue, IsStore}
+use Rattle.hg_store.specs.Groups.{paths_in, revisions_in, revision_value, IsStore}
 use Rattle.hg_store.specs.Known.{IsAddedTo}
 use Rattle.hg_store.proofs.EqLemmas.{tests}
 use Rattle.hg_store.proofs.StoreLemmas.{IsStore-grown, revisions_in-grown, on_err, absent, kept}
@@ -44,7 +43,7 @@ after_insert c =
     let view : revisions_in new es ≡ c.args.self.now = revisions_in-grown old new c.number_group.ensures.grown es c.self.invariant.0.numbers ∙ c.self.view_is in
     let number = c.in_ok-group.ensures.number in
     let key : Key = record { group = c.in_ok-group.group; node = a.node } in
-    let held : Held = record { p = a.p; q = a.q; link = a.link; text = c.keep.result; parsed = c.args.parsed } in
+    let held : Held = record { p = a.p; q = a.q; link = a.link; text = a.text; parsed = c.args.parsed } in
     let none = absent new es s c.args.self.now view r c.in_ok-group.group number (key_eq.eq-value.it key) (tests c.in_ok-group.group a.node) c.requires.fresh in
     let added : IsAddedTo c.args.self.now r = record {
       faultless = c.requires.faultless;
@@ -57,10 +56,8 @@ after_insert c =
       path = c.requires.path;
       path_bytes = c.is_of_bytes.ensures.path;
     } in
-    let is : held_revision r.group r.node held ≡ r = ap (λ (t : Bytes). record { group = r.group; node = r.node; p = r.p; q = r.q; link = r.link; text = t }) c.keep.ensures in
-    let value : HasValue r.group held.text held.parsed = subst (λ (t : Bytes). HasValue r.group t c.args.parsed) (sym c.keep.ensures) c.requires.value in
     let entries : c.insert.new.self.entries ≡ es ++ (key, held) ∷ [] = c.in_ok-insert.ensures.entries ∙ insert_entry-new key_eq.eq-value.it c.self.inside.revisions key held none in
-    let all = kept new es s c.args.self.now view r c.in_ok-group.group number held is value added in
+    let all = kept new es s c.args.self.now view r c.in_ok-group.group number held refl c.requires.value added in
     (subst (IsStore new) (sym entries) all.0, ap (revisions_in new) entries ∙ all.1)
 
 pub invariant_of-self-2 : goal.invariant_of-self-2

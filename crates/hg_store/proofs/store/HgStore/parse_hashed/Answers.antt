@@ -9,11 +9,11 @@ use Rattle.hg_store.proofs.store.HgStore.parse_hashed.Goals as goal
 pub returns-then-is_taken-clause-fault : goal.returns-then-is_taken-clause-fault
 returns-then-is_taken-clause-fault c =
     let a = c.args.addition.now in
-    let shape : shape_fault (group_value a.group) a.text.items ≡ None = ap (λ (t : Bytes). shape_fault (group_value a.group) t) (sym c.deref.ensures.value) ∙ c.in_ok-parsed.ensures.shape in
+    let shape : shape_fault (group_value a.group) a.text ≡ None = ap (λ (t : Bytes). shape_fault (group_value a.group) t) (sym c.as_slice.ensures) ∙ c.in_ok-parsed.ensures.shape in
     fresh-fault c.args.self.now (revision_value a) c.alloc.ensures c.requires.other c.requires.its_node shape ∙ ap (λ (b : Bool). named_if b Collision) (sym c.is_taken.ensures ∙ c.if-is_taken.true)
 
 pub returns-clause-ok : goal.returns-clause-ok
 returns-clause-ok c =
     let a = c.args.addition.now in
-    let shape : shape_fault (group_value a.group) a.text.items ≡ None = ap (λ (t : Bytes). shape_fault (group_value a.group) t) (sym c.deref.ensures.value) ∙ c.in_ok-parsed.ensures.shape in
+    let shape : shape_fault (group_value a.group) a.text ≡ None = ap (λ (t : Bytes). shape_fault (group_value a.group) t) (sym c.as_slice.ensures) ∙ c.in_ok-parsed.ensures.shape in
     fresh-fault c.args.self.now (revision_value a) c.alloc.ensures c.requires.other c.requires.its_node shape ∙ ap (λ (b : Bool). named_if b Collision) (sym c.is_taken.ensures ∙ c.if-is_taken.false)

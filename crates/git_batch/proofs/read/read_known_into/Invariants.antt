@@ -1,7 +1,7 @@
 use Rattle.std.proofs.Common.{◌≡◌, ◌-◌, ◌^◌, List}
 use Rattle.git_model.specs.Stream.{Placed}
 use Rattle.git_batch.proofs.Reading.{AreAdded, Reading}
-use Rattle.git_batch.proofs.read.read_into.Given as goal
+use Rattle.git_batch.proofs.read.read_known_into.Given as goal
 
 abbrev pub invariant-objects : goal.invariant-objects
 invariant-objects g l = record {
