@@ -42,16 +42,16 @@ module _ (command : Command) (reads : reads_input command ≡ true) (uses : read
   over-alone P h = over-by (reads_input command) (reads_slot command) input slot P reads uses h
 
   -- the work of an output without a text
-  pub alone-makes : (rest : Option Bytes) (output : Vec ℕ) (w : Work) → w.output ≡ output → w.text ≡ None → MakesAlone command input rest (Ok output) → Makes command input rest slot (Ok w)
+  pub alone-makes : (rest : Option Bytes) (output : Vec ℕ) (w : Work) → w.output ≡ output.items → w.text ≡ None → MakesAlone command input rest (Ok output) → Makes command input rest slot (Ok w)
   alone-makes rest output w same none (end, comes) = (
     subst (λ (b : Bool). MatchBool b (IsAtEnd rest) ⊤) (sym reads) end,
-    over-alone (λ s bytes. (saved : Option State) × ComesTo command s bytes (Written w.output.items saved) × IsTextOf saved w.text) (told input comes),
+    over-alone (λ s bytes. (saved : Option State) × ComesTo command s bytes (Written w.output saved) × IsTextOf saved w.text) (told input comes),
   )
     where
       told : (o : Option Bytes) → IfSome o (λ bytes. ComesTo command empty_state bytes (Written output.items None))
-          → IfSome o (λ bytes. (saved : Option State) × ComesTo command empty_state bytes (Written w.output.items saved) × IsTextOf saved w.text)
+          → IfSome o (λ bytes. (saved : Option State) × ComesTo command empty_state bytes (Written w.output saved) × IsTextOf saved w.text)
       told None h = tt
-      told (Some bytes) h = (None, subst (λ (v : Vec ℕ). ComesTo command empty_state bytes (Written v.items None)) (sym same) h, subst (IsTextOf None) (sym none) tt)
+      told (Some bytes) h = (None, subst (λ (v : Bytes). ComesTo command empty_state bytes (Written v None)) (sym same) h, subst (IsTextOf None) (sym none) tt)
 
   -- of a run without work
   pub alone-ends : (report : Report) → IsEndAlone command input report → IsEndOf command input slot report
@@ -66,6 +66,6 @@ module _ (command : Command) (reads : reads_input command ≡ true) (uses : read
   alone-ends (code.Mismatch commit right) end = absurd end
 
 -- the lines of a bundle are what is to be written
-pub works-the-listing : (input : Option Bytes) (output : Vec ℕ) (w : Work) → w.output ≡ output → ListsTheBundle input (Ok output) → WorksTheListing input (Ok w)
+pub works-the-listing : (input : Option Bytes) (output : Vec ℕ) (w : Work) → w.output ≡ output.items → ListsTheBundle input (Ok output) → WorksTheListing input (Ok w)
 works-the-listing None output w same lists = tt
-works-the-listing (Some bytes) output w same lists = subst (λ (v : Vec ℕ). ListsBundle bytes [] v.items) (sym same) lists
+works-the-listing (Some bytes) output w same lists = subst (λ (v : Bytes). ListsBundle bytes [] v) (sym same) lists

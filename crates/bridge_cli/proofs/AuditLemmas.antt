@@ -30,12 +30,12 @@ Tells s found = (m : model.State) → IsState m → Stands s m → HoldsExactly 
 
 -- each block is right
 pub audit-makes : (slot : Option (Option Bytes)) (s : State) (w : Work) (line : Vec ℕ) (found : Verdict) (blocks : ℕ) → IsFetched slot s → Finds s found → found ≡ verdict.Holds blocks
-    → line.items ≡ count_line (codes "verified") blocks → w.output ≡ line → w.text ≡ None → (input : Option Bytes) → Makes Verify input input slot (Ok w)
+    → line.items ≡ count_line (codes "verified") blocks → w.output ≡ line.items → w.text ≡ None → (input : Option Bytes) → Makes Verify input input slot (Ok w)
 audit-makes None s w line found blocks fetched finds is printed same none input = (tt, tt)
 audit-makes (Some held) s w line found blocks (m, read, are, holds) finds is printed same none input =
     let x = (finds m read.saved read.stands read.holds blocks).0 is in
-    let output : w.output.items ≡ count_line (codes "verified") (length m.blocks) =
-    ap (λ (v : Vec ℕ). v.items) same ∙ printed ∙ ap (λ (n : ℕ). count_line (codes "verified") n) x.1 in
+    let output : w.output ≡ count_line (codes "verified") (length m.blocks) =
+    same ∙ printed ∙ ap (λ (n : ℕ). count_line (codes "verified") n) x.1 in
     (tt, (m, holds, (None, (x.0, output), subst (IsTextOf None) (sym none) tt)))
 
 -- the first that isn't

@@ -15,10 +15,10 @@ use Rattle.bridge_cli.specs.declared.work.Work.{Work}
 
 module _ (n seed : ℕ) where
   -- the counts, with no state to be saved
-  pub made-makes : (w : Work) (lines : Vec ℕ) → MakesCounts n seed lines.items → w.output ≡ lines → w.text ≡ None
+  pub made-makes : (w : Work) (lines : Vec ℕ) → MakesCounts n seed lines.items → w.output ≡ lines.items → w.text ≡ None
       → (input : Option Bytes) (slot : Option (Option Bytes)) → Makes (Make n seed) input input slot (Ok w)
   made-makes w lines counts same none input slot =
-      (tt, (empty_state, refl, (None, subst (λ (v : Vec ℕ). MakesCounts n seed v.items) (sym same) counts, subst (IsTextOf None) (sym none) tt)))
+      (tt, (empty_state, refl, (None, subst (λ (v : Bytes). MakesCounts n seed v) (sym same) counts, subst (IsTextOf None) (sym none) tt)))
 
   -- why there are none
   pub made-refuses : (e : CountsFault) → IsOfCounts e → IsRefusedFor (RefusesMake n seed) e → (input : Option Bytes) (slot : Option (Option Bytes)) → IsEndOf (Make n seed) input slot (counts_report e)

@@ -1,7 +1,6 @@
 -- What a command that sets names makes over a saved state.
 use Rattle.std.proofs.Common.{◌≡◌, ℕ, Bool, true, false, List, [], length, Option, None, Some, Result, Ok, Err, refl, sym, ap, ◌∙◌}
 use Rattle.std.specs.Prelude.{nat_lt, if◌then◌else◌, IfSome}
-use Rattle.std.specs.Global.{Vec}
 use Rattle.std.specs.Io.KnownBytes.{IsAtEnd}
 use Rattle.text_model.specs.Text.{Bytes}
 use Rattle.text_model.specs.Fault.{Refusal, InputLimit, refusal_at, input_limit}
@@ -63,7 +62,7 @@ unfetched command reads input slot (code.Mismatch commit right) end = absurd end
 -- ---- a text is set
 
 -- what the command comes to, and the text of the state that it saves
-outcome : (side : Side) (m : model.State) (bytes output : Bytes) (next : State) (text : Option (Vec ℕ)) → output ≡ [] → IsNextText next text → IsState m → IsSet side m bytes next
+outcome : (side : Side) (m : model.State) (bytes output : Bytes) (next : State) (text : Option Bytes) → output ≡ [] → IsNextText next text → IsState m → IsSet side m bytes next
     → (saved : Option model.State) × ComesTo (set_command side) m bytes (Written output saved) × IsTextOf saved text
 outcome side m bytes output next None none is state set = absurd is
 outcome Hg m bytes output next (Some text) none is state (names, reads, stands) =
@@ -73,7 +72,7 @@ outcome Git m bytes output next (Some text) none is state (names, reads, stands)
     let saved = with_names m names in
     (Some saved, ap (named_by m) reads ∙ ap (λ (o : Bytes). Written o (Some saved)) (sym none), is saved stands (set-left m names state (are-names Git m bytes names reads)))
 
-set-makes : (side : Side) (input : Option Bytes) (slot : Option (Option Bytes)) (s next : State) (text : Option (Vec ℕ)) (output : Bytes) → output ≡ [] → IsFetched slot s
+set-makes : (side : Side) (input : Option Bytes) (slot : Option (Option Bytes)) (s next : State) (text : Option Bytes) (output : Bytes) → output ≡ [] → IsFetched slot s
     → IfSome input (λ bytes. (m : model.State) → IsSaved s m → IsSet side m bytes next) → IsNextText next text
     → Over (set_command side) input slot (λ m bytes. (saved : Option model.State) × ComesTo (set_command side) m bytes (Written output saved) × IsTextOf saved text)
 set-makes Hg None slot s next text output none fetched set is = tt
@@ -86,10 +85,10 @@ set-makes Git (Some bytes) (Some held) s next text output none (m, read, are, ho
     (m, holds, outcome Git m bytes output next text none is read.saved (set m (saved-of s m read)))
 
 -- the work of the command
-pub set-done : (side : Side) (input rest : Option Bytes) (slot : Option (Option Bytes)) (s next : State) (w : Work) → IsAtEnd rest → (w.output).items ≡ [] → IsFetched slot s
+pub set-done : (side : Side) (input rest : Option Bytes) (slot : Option (Option Bytes)) (s next : State) (w : Work) → IsAtEnd rest → w.output ≡ [] → IsFetched slot s
     → IfSome input (λ bytes. (m : model.State) → IsSaved s m → IsSet side m bytes next) → IsNextText next w.text → Makes (set_command side) input rest slot (Ok w)
-set-done Hg input rest slot s next w end none fetched set is = (end, set-makes Hg input slot s next w.text (w.output).items none fetched set is)
-set-done Git input rest slot s next w end none fetched set is = (end, set-makes Git input slot s next w.text (w.output).items none fetched set is)
+set-done Hg input rest slot s next w end none fetched set is = (end, set-makes Hg input slot s next w.text w.output none fetched set is)
+set-done Git input rest slot s next w end none fetched set is = (end, set-makes Git input slot s next w.text w.output none fetched set is)
 
 -- no state is fetched
 pub set-unfetched : (side : Side) (input : Option Bytes) (slot : Option (Option Bytes)) (report : Report) → IsNotFetched slot report → IsEndOf (set_command side) input slot report

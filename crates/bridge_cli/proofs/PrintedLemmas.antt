@@ -1,7 +1,6 @@
 -- What a command makes that prints something of the saved state.
-use Rattle.std.proofs.Common.{◌≡◌, ℕ, Option, None, Some, Ok, refl, sym, ap, subst, ◌∙◌}
+use Rattle.std.proofs.Common.{◌≡◌, Option, None, Some, Ok, refl, sym, ap, subst, ◌∙◌}
 use Rattle.std.specs.Prelude.{IfSome}
-use Rattle.std.specs.Global.{Vec}
 use Rattle.text_model.specs.Text.{Bytes}
 use Rattle.state_model.specs.Kept as model
 use Rattle.state_model.specs.Saved.{SlotHolds}
@@ -26,21 +25,21 @@ print-unfetched printed.Map input slot report end = unfetched Map refl input slo
 print-unfetched (printed.Names Hg) input slot report end = unfetched NamesHg refl input slot report end
 print-unfetched (printed.Names Git) input slot report end = unfetched NamesGit refl input slot report end
 
-module _ (slot : Option (Option Bytes)) (s : State) (w : Work) (bytes : Vec ℕ) (fetched : IsFetched slot s) (same : w.output ≡ bytes) (none : w.text ≡ None) (input : Option Bytes) where
+module _ (slot : Option (Option Bytes)) (s : State) (w : Work) (bytes : Bytes) (fetched : IsFetched slot s) (same : w.output ≡ bytes) (none : w.text ≡ None) (input : Option Bytes) where
   -- the output is what is written of the saved state
-  written : (made : model.State → Bytes) → ((m : model.State) → IsSaved s m → bytes.items ≡ made m)
-      → IfSome slot (λ held. (m : model.State) × SlotHolds held m × ((saved : Option model.State) × (Written (made m) None ≡ Written w.output.items saved) × IsTextOf saved w.text))
+  written : (made : model.State → Bytes) → ((m : model.State) → IsSaved s m → bytes ≡ made m)
+      → IfSome slot (λ held. (m : model.State) × SlotHolds held m × ((saved : Option model.State) × (Written (made m) None ≡ Written w.output saved) × IsTextOf saved w.text))
   written made told = by slot fetched
     where
       by : (slot : Option (Option Bytes)) → IsFetched slot s
-          → IfSome slot (λ held. (m : model.State) × SlotHolds held m × ((saved : Option model.State) × (Written (made m) None ≡ Written w.output.items saved) × IsTextOf saved w.text))
+          → IfSome slot (λ held. (m : model.State) × SlotHolds held m × ((saved : Option model.State) × (Written (made m) None ≡ Written w.output saved) × IsTextOf saved w.text))
       by None fetched = tt
       by (Some held) (m, read, are, holds) =
-          let is : made m ≡ w.output.items = sym (told m (saved-of s m read)) ∙ ap (λ (v : Vec ℕ). v.items) (sym same) in
+          let is : made m ≡ w.output = sym (told m (saved-of s m read)) ∙ sym same in
           (m, holds, (None, ap (λ (o : Bytes). Written o None) is, subst (IsTextOf None) (sym none) tt))
 
   -- so it is what is printed
-  pub print-makes : (what : Printed) → ((m : model.State) → IsSaved s m → bytes.items ≡ print_of what m) → Makes (print_command what) input input slot (Ok w)
+  pub print-makes : (what : Printed) → ((m : model.State) → IsSaved s m → bytes ≡ print_of what m) → Makes (print_command what) input input slot (Ok w)
   print-makes printed.Bundle told = (tt, written (print_of printed.Bundle) told)
   print-makes printed.Stream told = (tt, written (print_of printed.Stream) told)
   print-makes printed.Map told = (tt, written (print_of printed.Map) told)

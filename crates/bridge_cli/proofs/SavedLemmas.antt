@@ -2,7 +2,6 @@
 use Rattle.std.proofs.Common.{◌≡◌, ◌≤◌, ◌+◌, ◌*◌, ℕ, suc, List, [], ◌++◌, length, Option, None, Some, inl, inr, refl, sym, ap, subst, ◌∙◌, arith, append-nil}
 use Rattle.std.specs.Prelude.{IfSome}
 use Rattle.std.proofs.lemmas.List.{length-map, length-append}
-use Rattle.std.specs.Global.{Vec}
 use Rattle.text_model.specs.Text.{Bytes, IsBytes}
 use Rattle.pair_model.specs.Block.{Block}
 use Rattle.history_model.specs.Pull.{changesets_among}
@@ -29,7 +28,7 @@ use Rattle.bridge_cli.specs.Steps.{StepsOf}
 
 -- ---- pulls
 
-pub hg-makes : StateIsLeft → (input : Option Bytes) (slot : Option (Option Bytes)) (s : State) (p : Pulled) (text : Option (Vec ℕ)) (output : Bytes) → output ≡ p.made
+pub hg-makes : StateIsLeft → (input : Option Bytes) (slot : Option (Option Bytes)) (s : State) (p : Pulled) (text : Option Bytes) (output : Bytes) → output ≡ p.made
     → IsFetched slot s → IfSome input IsBytes → IfSome input (λ bytes. (m : model.State) → IsReadState s m → IsPulled m (OfBundle bytes) p) → IsNextText p.state text
     → Over PullHg input slot (λ m bytes. (saved : Option model.State) × ComesTo PullHg m bytes (Written output saved) × IsTextOf saved text)
 hg-makes law None slot s p text output e fetched are pulled is = tt
@@ -40,7 +39,7 @@ hg-makes law (Some bytes) (Some held) s p (Some text) output e (m, read, old-are
     let state = law m (OfBundle bytes) x.0 p.made read.saved old-are are x.1 in
     (m, holds, (Some (with_kept m x.0), (x.0, subst (λ (o : Bytes). Steps (kept_of m) (OfBundle bytes) x.0 o) (sym e) x.1, refl), is (with_kept m x.0) x.2 state))
 
-pub git-makes : StateIsLeft → (input : Option Bytes) (slot : Option (Option Bytes)) (s : State) (p : Pulled) (text : Option (Vec ℕ)) (output : Bytes) → output ≡ p.made
+pub git-makes : StateIsLeft → (input : Option Bytes) (slot : Option (Option Bytes)) (s : State) (p : Pulled) (text : Option Bytes) (output : Bytes) → output ≡ p.made
     → IsFetched slot s → IfSome input IsBytes → IfSome input (λ bytes. (m : model.State) → IsReadState s m → IsPulled m (OfStream bytes) p) → IsNextText p.state text
     → Over PullGit input slot (λ m bytes. (saved : Option model.State) × ComesTo PullGit m bytes (Written output saved) × IsTextOf saved text)
 git-makes law None slot s p text output e fetched are pulled is = tt

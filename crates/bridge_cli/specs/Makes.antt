@@ -38,15 +38,15 @@ MakesAlone command input rest result = MatchResult result
 -- ---- an input and a saved state
 
 -- the text is that of the state that is saved, and there is none where none is
-abbrev pub IsTextOf : Option State → Option (Vec ℕ) → Type 0
+abbrev pub IsTextOf : Option State → Option Bytes → Type 0
 IsTextOf None None = ⊤
-IsTextOf (Some s) (Some text) = IsStateText text.items s
+IsTextOf (Some s) (Some text) = IsStateText text s
 IsTextOf _ _ = ⊥
 
 -- the text is there, and is that of each state for which the state of the code stands
-abbrev pub IsNextText : pair.State → Option (Vec ℕ) → Type 0
+abbrev pub IsNextText : pair.State → Option Bytes → Type 0
 IsNextText s None = ⊥
-IsNextText s (Some text) = (m : State) → Stands s m → IsState m → IsStateText text.items m
+IsNextText s (Some text) = (m : State) → Stands s m → IsState m → IsStateText text m
 
 -- how a run ends of which nothing is written: of a refusal the name whatever input and slot tell, and the whole where they tell what they have
 abbrev pub IsEndOf : Command → Option Bytes → Option (Option Bytes) → Report → Type 0
@@ -62,7 +62,7 @@ IsEndOf command input slot report = ⊥
 abbrev pub Makes : Command → Option Bytes → Option Bytes → Option (Option Bytes) → Result Work Report → Type 0
 Makes command input rest slot result = MatchResult result
     (λ w. MatchBool (reads_input command) (IsAtEnd rest) ⊤
-    × Over command input slot (λ s bytes. (saved : Option State) × ComesTo command s bytes (Written w.output.items saved) × IsTextOf saved w.text))
+    × Over command input slot (λ s bytes. (saved : Option State) × ComesTo command s bytes (Written w.output saved) × IsTextOf saved w.text))
     (IsEndOf command input slot)
 
 -- ---- the listing of a bundle
@@ -78,7 +78,7 @@ ListsTheBundle input result = MatchResult result (λ output. IfSome input (λ by
 
 -- the same of what is to be written
 abbrev pub WorksTheListing : Option Bytes → Result Work Report → Type 0
-WorksTheListing input result = MatchResult result (λ w. IfSome input (λ bytes. ListsBundle bytes [] w.output.items)) (RefusesNoBundle input)
+WorksTheListing input result = MatchResult result (λ w. IfSome input (λ bytes. ListsBundle bytes [] w.output)) (RefusesNoBundle input)
 
 -- ---- causes
 
@@ -101,13 +101,13 @@ LeavesSlotCount before now result = MatchResult result (λ _. now ≡ before) (F
 -- ---- what is written
 
 -- the slot holds the text, or what it held where there is none
-abbrev pub Stores : Option (Option Bytes) → Option (Option Bytes) → Option (Vec ℕ) → Type 0
+abbrev pub Stores : Option (Option Bytes) → Option (Option Bytes) → Option Bytes → Type 0
 Stores before after None = after ≡ before
-Stores before after (Some text) = HoldsBytes after text.items
+Stores before after (Some text) = HoldsBytes after text
 
 -- the output was taken whole and the text put into the slot, or which of both failed
 abbrev pub Finishes : Option Bytes → Option Bytes → Option (Option Bytes) → Option (Option Bytes) → Work → Report → Type 0
-Finishes old new before after w code.Done = Appends old new w.output.items × Stores before after w.text
-Finishes old new before after w code.WriteFault = AppendsPrefix old new w.output.items
-Finishes old new before after w code.SlotFault = Appends old new w.output.items
+Finishes old new before after w code.Done = Appends old new w.output × Stores before after w.text
+Finishes old new before after w code.WriteFault = AppendsPrefix old new w.output
+Finishes old new before after w code.SlotFault = Appends old new w.output
 Finishes old new before after w report = ⊥

@@ -29,7 +29,7 @@ pub fn audit_of_history<K: Slot, L: Ledger>(
     let state = fetch_state(alloc, slot)?;
     let found = verify(&state, steps)?;
     match found {
-        Verdict::Holds(blocks) => Ok(Work::of(verified_count(alloc, blocks)?)),
+        Verdict::Holds(blocks) => Ok(Work::of_bytes(alloc, verified_count(alloc, blocks)?)),
         Verdict::Differs { kept, right } => Err(Report::Mismatch { kept, right }),
     }
 }

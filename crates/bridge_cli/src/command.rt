@@ -22,7 +22,7 @@ use crate::report::Report;
 use crate::status::Status;
 use crate::words::{Command, Words};
 use crate::work::Work;
-use bridge_io::{Sink, Slot, Source, Steps, write_all};
+use bridge_io::{Sink, Slot, Source, Steps, write_all, write_rope};
 use std::alloc::Global;
 use std::sync::ledger::Ledger;
 
@@ -141,12 +141,12 @@ fn finish<O: Sink, K: Slot>(output: &mut O, slot: &mut K, work: &Work) -> Report
     ensures no_slot { work.now.text ≡ None → slot.new ≡ slot.old }
     ensures flushed { status_of (report_value result) ≡ Status.Done → IsOut (O.flushed output.new) (O.taken output.new) }
 {
-    if write_all(output, work.output.as_slice()).is_err() || output.flush().is_err() {
+    if write_rope(output, &work.output).is_err() || output.flush().is_err() {
         return Report::WriteFault;
     }
     match &work.text {
         None => Report::Done,
-        Some(text) => match slot.replace(text.as_slice()) {
+        Some(text) => match slot.replace(text) {
             Ok(()) => Report::Done,
             Err(_) => Report::SlotFault,
         },

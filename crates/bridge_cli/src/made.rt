@@ -26,7 +26,7 @@ pub fn counts_of_made<L: Ledger>(
     ensures steps { (input : Option Bytes) (slot : Option (Option Bytes)) → StepsOf (model.Make n seed) input slot steps.old steps.new }
 {
     match make_counts(alloc, n, seed, steps) {
-        Ok(lines) => Ok(Work::of(lines)),
+        Ok(lines) => Ok(Work::of_bytes(alloc, lines)),
         Err(fault) => Err(Report::from(fault)),
     }
 }

@@ -9,6 +9,7 @@ use crate::saved::text_of;
 use crate::work::Work;
 use bridge_io::{Slot, Source};
 use name_engine::{Side, set_names};
+use rope::Rope;
 use std::alloc::Global;
 use std::mem::forget;
 
@@ -29,7 +30,7 @@ pub fn names_of_text<I: Source, K: Slot>(
     let text = text_of(&next)?;
     forget(next);
     Ok(Work {
-        output: Vec::new(alloc),
+        output: Rope::new(alloc),
         text: Some(text),
     })
 }

@@ -42,10 +42,10 @@ pub fn work_of<I: Source, K: Slot, L: Ledger>(
     ensures steps { StepsOf (command_value command) (I.left input.old) (K.held slot.old) steps.old steps.new }
 {
     match command {
-        Command::ListHg => Ok(Work::of(bundle_lines(alloc, input)?)),
-        Command::CheckHg => Ok(Work::of(bundle_counts(alloc, input)?)),
-        Command::ListGit => Ok(Work::of(stream_lines(alloc, input)?)),
-        Command::CheckGit => Ok(Work::of(stream_counts(alloc, input)?)),
+        Command::ListHg => Ok(Work::of_bytes(alloc, bundle_lines(alloc, input)?)),
+        Command::CheckHg => Ok(Work::of_bytes(alloc, bundle_counts(alloc, input)?)),
+        Command::ListGit => Ok(Work::of_bytes(alloc, stream_lines(alloc, input)?)),
+        Command::CheckGit => Ok(Work::of_bytes(alloc, stream_counts(alloc, input)?)),
         Command::PullHg => commits_of_bundle(alloc, input, slot, steps),
         Command::PullGit => changesets_of_stream(alloc, input, slot, steps),
         Command::DumpHg => printed_work(alloc, Printed::Bundle, slot),

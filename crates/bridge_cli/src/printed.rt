@@ -15,6 +15,7 @@ use bridge_io::Slot;
 use bridge_text::NoMemory;
 use name_engine::{Side, names_text};
 use pair_state::State;
+use rope::Rope;
 use state_text::{dump_git, dump_hg, map_into};
 use std::alloc::Global;
 use std::mem::forget;
@@ -46,23 +47,23 @@ pub fn printed_work<K: Slot>(alloc: Global, printed: Printed, slot: &mut K) -> R
 }
 
 // What is printed of a state. The one error is want of memory.
-fn print(printed: Printed, state: &State) -> Result<Vec<u8>, NoMemory>
+fn print(printed: Printed, state: &State) -> Result<Rope, NoMemory>
     requires stands { (m : saved.State) × Stands state.now m }
-    ensures { IfOk result (λ bytes. (m : saved.State) → IsSaved state.now m → bytes.items ≡ print_of printed m) }
+    ensures { IfOk result (λ bytes. (m : saved.State) → IsSaved state.now m → bytes ≡ print_of printed m) }
 {
     match printed {
         Printed::Bundle => dump_hg(state),
         Printed::Stream => dump_git(state),
         Printed::Map => map_of(state),
-        Printed::Names(side) => names_text(state, side),
+        Printed::Names(side) => Ok(Rope::of(state.alloc(), names_text(state, side)?)),
     }
 }
 
 // The lines of the map.
-fn map_of(state: &State) -> Result<Vec<u8>, NoMemory>
-    ensures { IfOk result (λ lines. (m : saved.State) → Stands state.now m → lines.items ≡ map_text m.blocks) }
+fn map_of(state: &State) -> Result<Rope, NoMemory>
+    ensures { IfOk result (λ lines. (m : saved.State) → Stands state.now m → lines ≡ map_text m.blocks) }
 {
     let mut lines = Vec::new(state.alloc());
     map_into(state, &mut lines)?;
-    Ok(lines)
+    Ok(Rope::of(state.alloc(), lines))
 }

@@ -14,6 +14,7 @@ use bridge_io::{Slot, Source, Steps};
 use bridge_text::NoMemory;
 use pair_state::State;
 use pull_engine::{Pulled, pull_git, pull_hg};
+use rope::Rope;
 use state_text::write_into;
 use std::alloc::Global;
 use std::mem::forget;
@@ -59,24 +60,24 @@ pub fn changesets_of_stream<I: Source, K: Slot, L: Ledger>(
 // part takes time, and a run needs it no more.
 fn saved_work(pulled: Pulled) -> Result<Work, NoMemory>
     requires stands { (m : saved.State) × Stands pulled.state m }
-    ensures output { IfOk result (λ w. w.output.items ≡ pulled.made) }
+    ensures output { IfOk result (λ w. w.output ≡ pulled.made) }
     ensures text { IfOk result (λ w. IsNextText pulled.state w.text) }
 {
     let Pulled { state, made, .. } = pulled;
     let text = text_of(&state)?;
     forget(state);
     Ok(Work {
-        output: made.into_vec(),
+        output: made,
         text: Some(text),
     })
 }
 
 /// The text of a state.
-pub fn text_of(state: &State) -> Result<Vec<u8>, NoMemory>
+pub fn text_of(state: &State) -> Result<Rope, NoMemory>
     requires stands { (m : saved.State) × Stands state.now m }
-    ensures { IfOk result (λ text. (m : saved.State) → Stands state.now m → IsState m → IsStateText text.items m) }
+    ensures { IfOk result (λ text. (m : saved.State) → Stands state.now m → IsState m → IsStateText text m) }
 {
-    let mut text = Vec::new(state.alloc());
+    let mut text = Rope::new(state.alloc());
     write_into(state, &mut text)?;
     Ok(text)
 }

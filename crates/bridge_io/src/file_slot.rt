@@ -3,6 +3,8 @@ ghost use Rattle.std.specs.Prelude.{◌≡◌, ◌≤◌, ℕ, [], None, Ok, fal
 
 use crate::failed::Failed;
 use crate::slot::{Slot, SlotFault};
+use bytes::Bytes;
+use rope::Rope;
 use std::fs::OpenFile;
 use std::io::{ErrorKind, Read, Write};
 use std::marker::Model;
@@ -59,8 +61,8 @@ impl<R: Files + Drop> Slot for FileSlot<R> {
     }
 
     /// `Failed` comes where the new file can't be made, written or renamed, want of memory included.
-    fn replace(&mut self, bytes: &[u8]) -> Result<(), Failed> {
-        match replace_file(&self.files, bytes) {
+    fn replace(&mut self, text: &Rope) -> Result<(), Failed> {
+        match replace_file(&self.files, text) {
             Ok(()) => Ok(()),
             Err(_) => {
                 self.faults = self.faults.saturating_add(1);
@@ -128,9 +130,19 @@ fn fault_of(error: &io::Error) -> SlotFault {
 }
 
 // Writes the new file, hands it to the disk, and puts it in the place of the old one.
-fn replace_file(files: &impl Files, bytes: &[u8]) -> io::Result<()> {
+fn replace_file(files: &impl Files, text: &Rope) -> io::Result<()> {
+    let (pieces, end) = text.pieces();
     let mut file = fs::create(files, NEW_STATE)?;
-    file.write_all(bytes)?;
+    write_pieces(&mut file, pieces)?;
+    file.write_all(end)?;
     file.sync_all()?;
     fs::rename(files, NEW_STATE, STATE)
+}
+
+// Writes pieces one behind the other.
+fn write_pieces(file: &mut impl Write, pieces: &[Bytes]) -> io::Result<()> {
+    for piece in pieces {
+        file.write_all(piece.as_slice())?;
+    }
+    Ok(())
 }

@@ -7,7 +7,9 @@ ghost use Rattle.bridge_io.specs.Replacements.{held_of};
 
 use crate::calls::Calls;
 use crate::failed::Failed;
+use crate::ropes::{append_pieces, pieces_len};
 use crate::slot::{Slot, SlotFault};
+use rope::Rope;
 use std::marker::Model;
 
 /// A slot in memory that was reserved before, which fails at the calls that it is told and where the room is used up.
@@ -109,26 +111,28 @@ impl Slot for MemSlot {
         }
     }
 
-    /// `Failed` comes exactly at the calls that were told to fail, and where these bytes are more than the room that
+    /// `Failed` comes exactly at the calls that were told to fail, and where the text is longer than the room that
     /// earlier replacements left.
-    fn replace(&mut self, bytes: &[u8]) -> Result<(), Failed>
-        ensures ok { OnOk result (self.new.held ≡ Some bytes.now) }
+    fn replace(&mut self, text: &Rope) -> Result<(), Failed>
+        ensures ok { OnOk result (self.new.held ≡ Some text.now) }
         ensures err { OnErr result (self.new.held ≡ self.old.held) }
         ensures cause { HasCause self.old.calls.faults self.new.calls.faults result }
         ensures fails { IsErr result ↔ (NextFails self.old.calls
-            ⊎ (self.old.most < self.old.used + length bytes.now)) }
-        ensures steady { self.old.used + length bytes.now ≤ self.old.most → SteadyCount self.old.calls self.new.calls }
+            ⊎ (self.old.most < self.old.used + length text.now)) }
+        ensures steady { self.old.used + length text.now ≤ self.old.most → SteadyCount self.old.calls self.new.calls }
         ensures counted { CountsCall self.old.calls self.new.calls }
         ensures most { self.new.most ≡ self.old.most }
-        ensures used { OnOk result (self.new.used ≡ self.old.used + length bytes.now) }
+        ensures used { OnOk result (self.new.used ≡ self.old.used + length text.now) }
         ensures unused { OnErr result (self.new.used ≡ self.old.used) }
     {
         self.calls.begin()?;
         let start = self.room.len();
-        if bytes.len() > self.most - start {
+        let (pieces, end) = text.pieces();
+        if pieces_len(pieces).saturating_add(end.len()) > self.most - start {
             return Err(self.calls.fail());
         }
-        self.room.extend_from_slice(bytes).unwrap();
+        append_pieces(&mut self.room, pieces);
+        self.room.extend_from_slice(end).unwrap();
         self.last = Some(start);
         Ok(())
     }

@@ -1,10 +1,13 @@
 // Where bytes go.
 ghost use Rattle.std.specs.Prelude.{◌≡◌, List, ℕ, Option, OnOk, OnErr};
 ghost use Rattle.std.specs.Io.KnownBytes.{WriteAppends, Appends, Keeps};
+ghost use Rattle.std.specs.List.{concat};
 ghost use Rattle.bridge_io.specs.Causes.{HasCause};
 ghost use Rattle.bridge_io.specs.Sink.{WritesSome, AppendsPrefix, IsOut};
 
 use crate::failed::Failed;
+use bytes::Bytes;
+use rope::Rope;
 
 /// Takes bytes in pieces, and counts its faults.
 pub trait Sink {
@@ -44,6 +47,31 @@ pub fn write_all<O: Sink>(out: &mut O, bytes: &[u8]) -> Result<(), Failed>
     while !rest.is_empty() {
         let count = out.write(rest)?;
         rest = &rest[count..];
+    }
+    Ok(())
+}
+
+/// Writes all of a text in pieces. After `Failed` the sink has taken a front of it.
+pub fn write_rope<O: Sink>(out: &mut O, text: &Rope) -> Result<(), Failed>
+    ensures ok { OnOk result (Appends (O.taken out.old) (O.taken out.new) text.now) }
+    ensures prefix { AppendsPrefix (O.taken out.old) (O.taken out.new) text.now }
+    ensures out { O.flushed out.new ≡ O.flushed out.old }
+    ensures cause { HasCause (O.faults out.old) (O.faults out.new) result }
+{
+    let (pieces, end) = text.pieces();
+    write_pieces(out, pieces)?;
+    write_all(out, end)
+}
+
+// Writes all of the pieces, one behind the other.
+fn write_pieces<O: Sink>(out: &mut O, pieces: &[Bytes]) -> Result<(), Failed>
+    ensures ok { OnOk result (Appends (O.taken out.old) (O.taken out.new) (concat pieces.now)) }
+    ensures prefix { AppendsPrefix (O.taken out.old) (O.taken out.new) (concat pieces.now) }
+    ensures out { O.flushed out.new ≡ O.flushed out.old }
+    ensures cause { HasCause (O.faults out.old) (O.faults out.new) result }
+{
+    for piece in pieces {
+        write_all(out, piece.as_slice())?;
     }
     Ok(())
 }

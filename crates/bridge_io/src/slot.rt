@@ -4,6 +4,7 @@ ghost use Rattle.bridge_io.specs.Causes.{HasCause};
 ghost use Rattle.bridge_io.specs.Slot.{FetchGives, HoldsBytes, FetchHasCause};
 
 use crate::failed::Failed;
+use rope::Rope;
 
 /// Why a slot could not be fetched.
 #[derive(Clone, Copy, Debug, PartialEq, Eq)]
@@ -45,9 +46,9 @@ pub trait Slot {
         ensures err { OnErr result (into.new.items ≡ []) }
         ensures cause { FetchHasCause (faults self.old) (faults self.new) result };
 
-    /// Holds these bytes in the place of what was held. After `Failed` it holds what it held.
-    fn replace(&mut self, bytes: &[u8]) -> Result<(), Failed>
-        ensures ok { OnOk result (HoldsBytes (held self.new) bytes.now) }
+    /// Holds the bytes of this text in the place of what was held. After `Failed` it holds what it held.
+    fn replace(&mut self, text: &Rope) -> Result<(), Failed>
+        ensures ok { OnOk result (HoldsBytes (held self.new) text.now) }
         ensures err { OnErr result (held self.new ≡ held self.old) }
         ensures cause { HasCause (faults self.old) (faults self.new) result };
 }

@@ -6,12 +6,13 @@ ghost use Rattle.std.specs.Prelude.{IfOk, OnOk, List};
 ghost use Rattle.view_model.specs.View.{ChangesetView};
 ghost use Rattle.view_model.specs.Held.{AreChangesetsHeld};
 
-use bridge_io::{StdSink, StdSource, write_all};
+use bridge_io::{StdSink, StdSource, write_rope};
 use bridge_text::{IdList, NoMemory, decimal_of};
 use hg_bundle::{Arrival, Arrivals, RevKind, read_into};
 use hg_dump::write;
 use hg_store::HgStore;
 use hg_view::views_are_held;
+use rope::Rope;
 use std::alloc::Global;
 use std::env;
 use std::io::{BufReader, Read};
@@ -66,7 +67,7 @@ fn copied(
     input: impl Read + Drop,
     place: usize,
     times: usize,
-) -> Result<Vec<u8>, Failure> {
+) -> Result<Rope, Failure> {
     let Ok(reader) = BufReader::new(alloc, input) else {
         return Err(Failure::Memory);
     };
@@ -95,10 +96,10 @@ fn number_of(rt: &(impl Env + AllocGlobal), word: usize, other: usize) -> usize 
 
 fn main(rt: HostRuntime) -> ExitCode {
     let (place, times) = (number_of(&rt, 1, 0), number_of(&rt, 2, 1));
-    let Ok(bytes) = copied(rt.alloc(), rt.reader(), place, times) else {
+    let Ok(bundle) = copied(rt.alloc(), rt.reader(), place, times) else {
         return ExitCode::FAILURE;
     };
-    match write_all(&mut StdSink::new(rt.stdout()), bytes.as_slice()) {
+    match write_rope(&mut StdSink::new(rt.stdout()), &bundle) {
         Ok(()) => ExitCode::SUCCESS,
         Err(_) => ExitCode::FAILURE,
     }

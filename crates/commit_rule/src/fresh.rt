@@ -9,6 +9,7 @@ ghost use Rattle.commit_rule.specs.Parts.{IsRowOf, AreRowsOf, AreBrought};
 use bridge_text::NoMemory;
 use git_object::Objects;
 use hg_filelog::split;
+use hg_store::Group;
 use pair_known::{FreshBlob, FreshBlobs, HgDraft, HgRow, Known};
 use shared_text::{Text, part};
 use std::alloc::Global;
@@ -21,7 +22,7 @@ fn text_of<'a>(known: &'a Known, h: &'a HgDraft, row: &HgRow) -> &'a Text
     let path = row.path.as_slice();
     match h.fresh.get(path, &row.node) {
         Some(file) => &file.text,
-        None => match known.hg.shared_file_text(path, &row.node) {
+        None => match known.hg.shared_text(Group::FilesAt(path), &row.node) {
             Some(text) => text,
             None => unreachable!(),
         },

@@ -10,7 +10,7 @@ mod rows;
 pub use back::{is_plain, is_ruled};
 pub use parents::{Parent, parent_of};
 pub use revision::{
-    RuledRow, content_of, content_text, has_parents, kept_node, make_row, node_or_null,
-    parents_over, row_with_text,
+    RuledRow, content_text, has_parents, kept_node, make_row, node_or_null, parents_over,
+    row_with_text,
 };
 pub use rows::{RuledRows, make_rows};

@@ -79,19 +79,11 @@ pub fn content_text<'a>(known: &'a Known, c: &'a GitDraft, id: &Id) -> &'a Text
 {
     match c.fresh.get(id) {
         Some(blob) => &blob.content,
-        None => match known.git.shared_content(id) {
-            Some(content) => content,
+        None => match known.git.shared_object(id) {
+            Some((_, content)) => content,
             None => unreachable!(),
         },
     }
-}
-
-/// The content of a blob that the draft brings or the store holds.
-pub fn content_of<'a>(known: &'a Known, c: &'a GitDraft, id: &Id) -> &'a [u8]
-    requires held { (t : TreeRow) × (t.id ≡ id.now) × IsBlobHeld (c.now.fresh ++ known.now.git) t }
-    ensures { (t : TreeRow) → t.id ≡ id.now → IsBlobHeld (c.entry.now.fresh ++ known.entry.now.git) t → result.now ≡ t.content }
-{
-    content_text(known, c, id).as_slice()
 }
 
 // Whether a file revision is held with this text and these parents.

@@ -9,6 +9,7 @@ use crate::listed::{append_objects, are_objects, objects_len};
 use crate::walk::Walk;
 use bridge_text::{Id, IdList, NoMemory};
 use git_store::GitStore;
+use rope::Rope;
 use std::alloc::Global;
 use std::marker::Model;
 
@@ -68,12 +69,11 @@ impl<'a> Dump<'a> {
         objects_len(self.store, self.listed.as_slice())
     }
 
-    /// Appends the stream. So much room is made at once. After want of memory what `out` was is its beginning.
-    pub fn append(&self, out: &mut Vec<u8>) -> Result<(), NoMemory>
-        ensures ok { OnOk result (out.new.items ≡ out.old.items ++ self.now) }
-        ensures front { StartsWith out.new.items out.old.items }
+    /// Appends the stream, which shares long contents with the store. After want of memory what `out` was is its beginning.
+    pub fn append(&self, out: &mut Rope) -> Result<(), NoMemory>
+        ensures ok { OnOk result (out.new ≡ out.old ++ self.now) }
+        ensures front { StartsWith out.new out.old }
     {
-        out.reserve(self.len() as usize)?;
         append_objects(out, self.store, self.listed.as_slice())
     }
 
@@ -89,20 +89,15 @@ impl<'a> Dump<'a> {
 ///
 /// For each commit it has the blobs and trees of the commit that it doesn't have yet, and then the commit. A tree stands
 /// behind the objects of its entries, which come in the tree's order, subtrees whole. Each commit is known, and its tree can
-/// be walked through: all that it names is there, and its paths are fit.
-pub fn write(
-    alloc: Global,
-    store: &GitStore,
-    order: &IdList,
-    from: usize,
-) -> Result<Vec<u8>, NoMemory>
+/// be walked through: all that it names is there, and its paths are fit. Long contents are shared with the store.
+pub fn write(alloc: Global, store: &GitStore, order: &IdList, from: usize) -> Result<Rope, NoMemory>
     requires from { from ≤ length order.now }
     requires commits { (cs : List CommitView) × AreWalkableCommits store.now order.now cs }
     ensures { IfOk result (λ bytes. (cs : List CommitView) → AreWalkableCommits store.now order.now cs
-        → bytes.items ≡ git_increment (take from cs) (drop from cs)) }
+        → bytes ≡ git_increment (take from cs) (drop from cs)) }
 {
     let dump = Dump::collect(alloc, store, order.as_slice(), from)?;
-    let mut out = Vec::new(alloc);
+    let mut out = Rope::new(alloc);
     dump.append(&mut out)?;
     Ok(out)
 }

@@ -8,8 +8,8 @@ use crate::front::behind_at;
 use crate::length::len_at;
 use bridge_text::{Id, NoMemory};
 use git_batch::put_with_id;
-use git_object::Objects;
 use git_store::GitStore;
+use rope::Rope;
 
 /// How many bytes the objects that are known under these ids take in a stream, or 2^64 - 1 if that is less.
 pub fn objects_len(store: &GitStore, ids: &[Id]) -> u64
@@ -23,9 +23,9 @@ pub fn objects_len(store: &GitStore, ids: &[Id]) -> u64
 }
 
 /// Appends the objects that are known under these ids. After want of memory what `out` was is its beginning.
-pub fn append_objects(out: &mut Vec<u8>, store: &GitStore, ids: &[Id]) -> Result<(), NoMemory>
-    ensures ok { OnOk result (out.new.items ≡ out.old.items ++ stream_text (objects_of store.now ids.now)) }
-    ensures front { StartsWith out.new.items out.old.items }
+pub fn append_objects(out: &mut Rope, store: &GitStore, ids: &[Id]) -> Result<(), NoMemory>
+    ensures ok { OnOk result (out.new ≡ out.old ++ stream_text (objects_of store.now ids.now)) }
+    ensures front { StartsWith out.new out.old }
 {
     for id in ids {
         append_at(out, store, id)?;
@@ -34,11 +34,11 @@ pub fn append_objects(out: &mut Vec<u8>, store: &GitStore, ids: &[Id]) -> Result
 }
 
 // Appends the object with this id, where it is known. After want of memory what `out` was is its beginning.
-fn append_at(out: &mut Vec<u8>, store: &GitStore, id: &Id) -> Result<(), NoMemory>
-    ensures ok { OnOk result (out.new.items ≡ out.old.items ++ stream_text (objects_at store.now id.now)) }
-    ensures front { StartsWith out.new.items out.old.items }
+fn append_at(out: &mut Rope, store: &GitStore, id: &Id) -> Result<(), NoMemory>
+    ensures ok { OnOk result (out.new ≡ out.old ++ stream_text (objects_at store.now id.now)) }
+    ensures front { StartsWith out.new out.old }
 {
-    match store.content(id) {
+    match store.shared_object(id) {
         Some((kind, content)) => put_with_id(out, id, kind, content),
         None => Ok(()),
     }

@@ -13,14 +13,14 @@ use git_object::{Commit, Objects, Tag, Tree};
 use shared_text::Text;
 
 impl GitStore {
-    /// The content of the object with this id, which the caller may own too; `None` exactly where the id is unknown. It
-    /// takes no memory.
-    pub fn shared_content(&self, id: &Id) -> Option<&Text>
-        ensures content { option_copied result ≡ option_map (λ o. o.content) (object_at self.now id.now) }
+    /// The kind and the content of the object with this id, which the caller may own too; `None` exactly where the id is
+    /// unknown. It takes no memory.
+    pub fn shared_object(&self, id: &Id) -> Option<(Kind, &Text)>
+        ensures content { option_map {U = ObjectKind × List ℕ} (λ x. (object_kind x.0, x.1.now)) result ≡ option_map {U = ObjectKind × List ℕ} (λ o. (o.kind, o.content)) (object_at self.now id.now) }
         ensures known { AreKnown self.now }
     {
         let held = self.get(id)?;
-        Some(&held.content)
+        Some((held.parsed.kind(), &held.content))
     }
 
     /// The commit with this id; `None` exactly where no object with this id is a commit. It takes no memory.

@@ -2,6 +2,8 @@
 use bridge_io::MemSource;
 use bridge_text::{Id, Kind};
 use git_batch::{BatchFault, BatchReader, Item, put_object};
+use rope::Rope;
+use shared_text::keep;
 use std::alloc::Global;
 use std::test::Fail;
 
@@ -263,11 +265,25 @@ fn a_failed_read_is_no_end(rt: HostRuntime) -> Result<(), Fail> {
 
 #[test]
 fn objects_are_written_as_git_writes_them(rt: HostRuntime) -> Result<(), Fail> {
-    let mut out = b"> ".to_vec(rt.alloc())?;
-    let is_first_put = put_object(&mut out, Kind::Blob, b"hello\n").is_ok();
-    let is_second_put = put_object(&mut out, Kind::Commit, b"x").is_ok();
+    let mut out = Rope::of(rt.alloc(), b"> ".to_vec(rt.alloc())?);
+    let blob = keep(b"hello\n".to_vec(rt.alloc())?)?;
+    let commit = keep(b"x".to_vec(rt.alloc())?)?;
+    let is_first_put = put_object(&mut out, Kind::Blob, &blob).is_ok();
+    let is_second_put = put_object(&mut out, Kind::Commit, &commit).is_ok();
     let want = b"> ce013625030ba8dba906f756967f9e9ca394464a blob 6\nhello\n\n\
         eaa562e454681104aee02c9809ea2ca6ec4aa5cd commit 1\nx\n";
-    assert!(rt; is_first_put && is_second_put && out.as_slice() == want.as_slice());
+    assert!(rt; is_first_put && is_second_put && out.joined()?.as_slice() == want.as_slice());
+    Ok(())
+}
+
+/// A long content gets another owner, and a short one is copied.
+#[test]
+fn long_contents_are_shared(rt: HostRuntime) -> Result<(), Fail> {
+    let mut out = Rope::new(rt.alloc());
+    let short = keep(b"hello\n".to_vec(rt.alloc())?)?;
+    let long = keep([b'x'; 4096].to_vec(rt.alloc())?)?;
+    put_object(&mut out, Kind::Blob, &short)?;
+    put_object(&mut out, Kind::Blob, &long)?;
+    assert!(rt; short.is_unique() && !long.is_unique());
     Ok(())
 }

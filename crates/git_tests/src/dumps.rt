@@ -7,6 +7,7 @@ use bridge_text::{Id, IdList, Kind, decimal_into, object_id};
 use git_dump::{Dump, is_stream, write, written_len};
 use git_store::GitStore;
 use git_view::commits_are_held;
+use rope::Rope;
 use shared_text::keep;
 use std::alloc::Global;
 use std::process::Abort;
@@ -194,13 +195,13 @@ fn is_written(rt: &impl Abort, alloc: Global, store: &GitStore, case: &Case) -> 
     let order = order_of(alloc, store, commits)?;
     assert!(rt; *from <= order.len());
     let len = written_len(alloc, store, order.as_slice())?;
-    let bytes = write(alloc, store, &order, *from)?;
+    let bytes = write(alloc, store, &order, *from)?.joined()?;
     let want = stream_of(alloc, want)?;
     let is_told = *from > 0 || is_told(alloc, store, order.as_slice(), want.as_slice())?;
-    let mut out = b"front ".to_vec(alloc)?;
+    let mut out = Rope::of(alloc, b"front ".to_vec(alloc)?);
     let dump = Dump::collect(alloc, store, order.as_slice(), *from)?;
     dump.append(&mut out)?;
-    let is_appended = out.strip_prefix(b"front ") == Some(want.as_slice())
+    let is_appended = out.joined()?.strip_prefix(b"front ") == Some(want.as_slice())
         && dump.len() == want.len() as u64;
     Ok(bytes == want && is_appended && is_told && (*from > 0 || len == want.len() as u64))
 }

@@ -1,6 +1,6 @@
 // Objects whose contents are texts, from a source that lends them and from one that lends none.
 use bridge_io::{MemSource, Source};
-use bridge_text::Id;
+use bridge_text::{Id, Kind};
 use git_batch::{BatchFault, BatchReader, Item, NoContents, read_into};
 use git_store::GitStore;
 use shared_text::{Text, again, keep};
@@ -97,13 +97,17 @@ fn the_end_has_no_text(rt: HostRuntime) -> Result<(), Fail> {
     Ok(())
 }
 
-// Whether the store lends the blob's content, which is its own or not, and nothing of another id.
+// Whether the store lends the blob and its content, which is the store's own or not, and nothing of another id.
 fn lends(store: &GitStore, id: &Id, is_lent: bool) -> bool {
-    let is_held = match store.shared_content(id) {
-        Some(text) => { text.as_slice() == b"hello\n".as_slice() && text.is_unique() != is_lent }
+    let is_held = match store.shared_object(id) {
+        Some((kind, text)) => {
+            kind == Kind::Blob
+                && text.as_slice() == b"hello\n".as_slice()
+                && text.is_unique() != is_lent
+        }
         None => false,
     };
-    is_held && store.shared_content(&Id::NULL).is_none()
+    is_held && store.shared_object(&Id::NULL).is_none()
 }
 
 // Whether a store that reads the blob from a source lends its content.

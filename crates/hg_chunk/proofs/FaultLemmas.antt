@@ -1,9 +1,8 @@
 -- What the six first bytes say of the magic.
-use Rattle.std.proofs.Common.{◌≡◌, ℕ, ◌≤◌, List, ◌++◌, length, take, Option, None, Some, IfSome, sym, ap, ◌∙◌, subst, arith, length-append}
-use Rattle.std.proofs.lemmas.Bool.Decides.{nat_tests}
+use Rattle.std.proofs.Common.{◌≡◌, ℕ, List, ◌++◌, length, take, Option, None, Some, IfSome, sym, ap, ◌∙◌, subst, arith, length-append}
 use Rattle.std.proofs.lemmas.List.{take_at}
 use Rattle.std.specs.Io.KnownBytes.{Consumes}
-use Rattle.text_model.specs.Fault.{Refusal, reach, input_limit}
+use Rattle.text_model.specs.Fault.{Refusal, reach}
 use Rattle.text_model.proofs.FaultLemmas.{reach-within}
 use Rattle.hg_model.specs.Chunk.{or_else, magic_fault, other_magic}
 

@@ -1,5 +1,5 @@
 // A reader of chunks, which knows how far it is.
-ghost use Rattle.std.specs.Prelude.{◌≡◌, ◌+◌, ◌-◌, ◌≤◌, ◌<◌, ◌^◌, ℕ, [], length, IfOk, IfErr, OnOk, OnErr, IfSome, Some};
+ghost use Rattle.std.specs.Prelude.{◌≡◌, ◌+◌, ◌-◌, ◌≤◌, ◌<◌, ◌^◌, ℕ, [], length, IfOk, IfErr, OnOk, OnErr, IfSome, Some, unwrap_or};
 ghost use Rattle.std.specs.Io.KnownBytes.{Consumes, IsAtEnd};
 ghost use Rattle.text_model.specs.Fault.{refusal_at, reach, input_limit};
 ghost use Rattle.text_model.specs.Fault as fault;
@@ -115,17 +115,10 @@ impl ChunkReader {
     {
         into.clear();
         let at = self.offset;
-        let size = read_field(src, at)?;
-        if size == 0 {
+        let Some(size) = read_size(src, at, most)? else {
             self.offset = at + 4;
             return Ok(Piece::Empty);
-        }
-        if size < 5 || size >= 1 << 31 {
-            return Err(ChunkFault::Length(at));
-        }
-        if size > most {
-            return Err(over_limit(src, at, size));
-        }
+        };
         read_payload(src, at, size, into)?;
         self.offset = at + u64::from(size);
         Ok(Piece::Full(at))
@@ -152,21 +145,39 @@ impl ChunkReader {
     {
         into.clear();
         let at = self.offset;
-        let size = read_field(src, at)?;
-        if size == 0 {
+        let Some(size) = read_size(src, at, most)? else {
             self.offset = at + 4;
             return Ok(None);
-        }
-        if size >= 1 << 31 || size < 5 {
-            return Err(ChunkFault::Length(at));
-        }
-        if size > most {
-            return Err(over_limit(src, at, size));
-        }
+        };
         let lent = text_payload(src, at, size, into)?;
         self.offset = at + u64::from(size);
         Ok(lent)
     }
+}
+
+// Reads the length field of the chunk at an offset and judges it: how long the chunk is, or none where it is the empty one.
+#[tactic(auto, unfolding(hg_model::specs::Chunk::chunk_fault))]
+fn read_size<S: Source>(src: &mut S, at: u64, most: u32) -> Result<Option<u32>, ChunkFault>
+    requires at { at ≤ input_limit }
+    requires most { most ≤ delta_limit }
+    ensures bytes { IfOk result (λ size. Consumes (S.left src.old) (S.left src.new) (big_bytes 4 (unwrap_or size 0))) }
+    ensures size { IfOk result (λ size. IfSome size (λ n. (5 ≤ n) × (n ≤ most))) }
+    ensures fits { OnOk result (at + 4 ≤ input_limit) }
+    ensures judged { IfErr result (λ e. IfSome (S.left src.old) (λ bytes. IsFault (chunk_fault most at bytes) e)) }
+    ensures names { IfErr result IsChunkFault }
+    ensures cause { AnswerCause (S.faults src.old) (S.faults src.new) result }
+{
+    let size = read_field(src, at)?;
+    if size == 0 {
+        return Ok(None);
+    }
+    if size < 5 || size >= 1 << 31 {
+        return Err(ChunkFault::Length(at));
+    }
+    if size > most {
+        return Err(over_limit(src, at, size));
+    }
+    Ok(Some(size))
 }
 
 // Reads the length field at an offset.

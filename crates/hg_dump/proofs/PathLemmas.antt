@@ -1,5 +1,5 @@
 -- The paths of a map, rising, are those of which revisions are written.
-use Rattle.std.proofs.Common.{◌≡◌, ◌&&◌, ◌||◌, Bool, true, false, true≢false, Less, not, ℕ, List, [], ◌∷◌, ◌++◌, map, Option, Some, None, refl, sym, ap, ◌∙◌}
+use Rattle.std.proofs.Common.{◌≡◌, ◌&&◌, ◌||◌, Bool, true, false, true≢false, Less, ℕ, List, [], ◌∷◌, ◌++◌, map, Option, Some, None, refl, sym, ap, ◌∙◌}
 use Rattle.std.specs.Prelude.{bytes_eq, filter, if◌then◌else◌, is_some}
 use Rattle.std.specs.List.{list_any, flat_map, filter_map, AllByRecursion}
 use Rattle.std.specs.List.Sorted.{IsStrictlySortedBy}
@@ -10,10 +10,9 @@ use Rattle.std.specs.Cmp.Lexicographic.{slice_cmp}
 use Rattle.std.specs.BTreeMap.{BTreeMap}
 use Rattle.std.proofs.lemmas.Map.Text.{is_eq-slice_cmp}
 use Rattle.std.proofs.lemmas.Slice.Eq.{bytes_eq-Decides}
-use Rattle.text_model.specs.Lists.{Each, first_of_each, with_inserted, in_order}
+use Rattle.text_model.specs.Lists.{Each, first_of_each}
 use Rattle.text_model.specs.Text.{Bytes, is_below}
-use Rattle.text_model.proofs.OrderLemmas.{is_below-one_way, is_below-irreflexive, is_below-same, is_below-chain}
-use Rattle.text_model.proofs.TestLemmas.{same_bool, bytes_eq-self, bytes_eq-sym}
+use Rattle.text_model.proofs.TestLemmas.{same_bool}
 use Rattle.hg_model.specs.Revision.{Group, Changesets, Manifests, FilesAt, Revision, same_group}
 use Rattle.hg_model.specs.Bundle.{FileGroup, file_group_text}
 use Rattle.view_model.specs.Dump.{of_group, path_of_group, paths_in, written_file}

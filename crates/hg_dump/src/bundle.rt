@@ -10,11 +10,11 @@ ghost use Rattle.hg_dump.specs.State.{AreBrought};
 use crate::brought::Brought;
 use crate::dump::Dump;
 use crate::group::{put_files, put_group};
-use crate::length::bundle_len;
 use crate::strip::is_bundle;
 use bridge_text::{Id, IdList, NoMemory};
 use hg_chunk::put_empty;
 use hg_store::{Group, HgStore};
+use rope::Rope;
 use std::alloc::Global;
 
 /// The word that a bundle begins with.
@@ -28,19 +28,14 @@ pub const MAGIC: &[u8; 6] = b"HG10UN";
 /// the first changeset that refers to it; its parents stand with a null one last, or first where a file's metadata name a
 /// copy, else in rising order. Each delta replaces the whole text before it in its group, the first one that of its first
 /// parent.
-pub fn write(
-    alloc: Global,
-    store: &HgStore,
-    order: &IdList,
-    from: usize,
-) -> Result<Vec<u8>, NoMemory>
+pub fn write(alloc: Global, store: &HgStore, order: &IdList, from: usize) -> Result<Rope, NoMemory>
     requires from { from ≤ length order.now }
     requires held { (hs : List ChangesetView) × AreChangesetsHeld store.now order.now hs }
     ensures { IfOk result (λ bytes. (hs : List ChangesetView) → AreChangesetsHeld store.now order.now hs
-        → bytes.items ≡ hg_increment store.now (take from hs) (drop from hs)) }
+        → bytes ≡ hg_increment store.now (take from hs) (drop from hs)) }
 {
     let dump = Dump::collect(alloc, store, order.as_slice(), from)?;
-    let mut out = Vec::new(alloc);
+    let mut out = Rope::new(alloc);
     dump.append(&mut out)?;
     Ok(out)
 }
@@ -70,14 +65,13 @@ pub fn written_len(alloc: Global, store: &HgStore, order: &[Id]) -> Result<u64, 
     Ok(Dump::collect(alloc, store, order, 0)?.len())
 }
 
-/// Appends the bundle of what was brought. The room for it is taken at once.
-pub fn put_bundle(out: &mut Vec<u8>, store: &HgStore, brought: &Brought) -> Result<(), NoMemory>
+/// Appends the bundle of what was brought.
+pub fn put_bundle(out: &mut Rope, store: &HgStore, brought: &Brought) -> Result<(), NoMemory>
     requires { (rs : List Revision) × AreBrought store.now brought.now rs }
-    ensures ok { OnOk result ((rs : List Revision) → AreBrought store.now brought.now rs → out.new.items ≡ out.old.items ++ bundle_text (written_bundle store.now rs)) }
-    ensures front { StartsWith out.new.items out.old.items }
+    ensures ok { OnOk result ((rs : List Revision) → AreBrought store.now brought.now rs → out.new ≡ out.old ++ bundle_text (written_bundle store.now rs)) }
+    ensures front { StartsWith out.new out.old }
 {
-    out.reserve(bundle_len(store, brought) as usize)?;
-    out.extend_from_slice(MAGIC)?;
+    out.put(MAGIC)?;
     put_group(out, store, Group::Changesets, brought.changesets.brought())?;
     put_group(out, store, Group::Manifests, brought.manifests.brought())?;
     put_files(out, store, &brought.files)?;

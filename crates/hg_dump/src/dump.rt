@@ -12,6 +12,7 @@ use crate::bundle::put_bundle;
 use crate::length::bundle_len;
 use bridge_text::{Id, NoMemory};
 use hg_store::HgStore;
+use rope::Rope;
 use std::alloc::Global;
 
 /// A bundle that isn't written yet. What it is to hold was collected, once for its length and for its text.
@@ -48,11 +49,11 @@ impl<'a> Dump<'a> {
         bundle_len(self.store, &self.brought)
     }
 
-    /// Appends the bundle. The room for it is taken at once. After want of memory `out` begins with what it was.
-    pub fn append(&self, out: &mut Vec<u8>) -> Result<(), NoMemory>
+    /// Appends the bundle, with the texts that the store holds shared. After want of memory `out` begins with what it was.
+    pub fn append(&self, out: &mut Rope) -> Result<(), NoMemory>
         requires { IsCollected self.now }
-        ensures ok { OnOk result ((text : Bytes) → IsDumpOf self.now text → out.new.items ≡ out.old.items ++ text) }
-        ensures front { StartsWith out.new.items out.old.items }
+        ensures ok { OnOk result ((text : Bytes) → IsDumpOf self.now text → out.new ≡ out.old ++ text) }
+        ensures front { StartsWith out.new out.old }
     {
         put_bundle(out, self.store, &self.brought)
     }

@@ -13,6 +13,7 @@ use bridge_text::{Id, NoMemory};
 use byteorder::{BigEndian, ByteOrder};
 use hg_hunk::replace_into;
 use hg_store::{Group, HgStore};
+use rope::Rope;
 
 /// How many bytes stand before a delta: the length of the chunk, and four ids.
 pub const HEADER_LEN: usize = 84;
@@ -22,20 +23,21 @@ const HUNK_HEADER_LEN: usize = 12;
 
 /// Appends the entry of a revision, over a base of this length, and says how long the revision's text is.
 pub fn put_entry(
-    out: &mut Vec<u8>,
+    out: &mut Rope,
     store: &HgStore,
     group: Group<'_>,
     reference: &Reference,
     base_len: u32,
 ) -> Result<u32, NoMemory>
     requires { (r : Revision) × IsOf store.now (group_value group) reference.now r }
-    ensures entry { OnOk result ((r : Revision) → IsOf store.now (group_value group.entry) reference.now r → out.new.items ≡ out.old.items ++ entry_chunk (entry_over base_len r)) }
-    ensures front { StartsWith out.new.items out.old.items }
+    ensures entry { OnOk result ((r : Revision) → IsOf store.now (group_value group.entry) reference.now r → out.new ≡ out.old ++ entry_chunk (entry_over base_len r)) }
+    ensures front { StartsWith out.new out.old }
     ensures len { IfOk result (λ len. (r : Revision) → IsOf store.now (group_value group.entry) reference.now r → len ≡ length r.text) }
 {
-    let text = store.revision_text(group, &reference.node).unwrap();
+    let text = store.shared_text(group, &reference.node).unwrap();
     let (p, q) = parents(store, group, &reference.node);
-    put_header(out, delta_len(base_len, text), reference, &p, &q)?;
+    let size = delta_len(base_len, text.as_slice());
+    put_header(out, size, reference, &p, &q)?;
     replace_into(out, base_len, text)?;
     Ok(text.len() as u32)
 }
@@ -82,26 +84,25 @@ pub fn delta_len(base_len: u32, text: &[u8]) -> usize
     HUNK_HEADER_LEN + text.len()
 }
 
-// Appends what stands before a delta of this length. There is room for the delta then.
+// Appends what stands before a delta of this length.
 fn put_header(
-    out: &mut Vec<u8>,
+    out: &mut Rope,
     delta_len: usize,
     reference: &Reference,
     p: &Id,
     q: &Id,
 ) -> Result<(), NoMemory>
     requires { delta_len + 84 < 2 ^ 32 }
-    ensures bytes { OnOk result (out.new.items ≡ out.old.items ++ big_bytes 4 (delta_len + 84) ++ reference.now.node ++ p.now ++ q.now ++ reference.now.link) }
-    ensures front { StartsWith out.new.items out.old.items }
+    ensures bytes { OnOk result (out.new ≡ out.old ++ big_bytes 4 (delta_len + 84) ++ reference.now.node ++ p.now ++ q.now ++ reference.now.link) }
+    ensures front { StartsWith out.new out.old }
     ensures ids { OnOk result (IsId reference.now.node × IsId p.now × IsId q.now × IsId reference.now.link) }
 {
-    out.reserve(HEADER_LEN + delta_len)?;
     let mut field = [0; 4];
     BigEndian::write_u32(&mut field, (delta_len + HEADER_LEN) as u32);
-    out.extend_from_slice(&field)?;
-    out.extend_from_slice(&reference.node.bytes())?;
-    out.extend_from_slice(&p.bytes())?;
-    out.extend_from_slice(&q.bytes())?;
-    out.extend_from_slice(&reference.link.bytes())?;
+    out.put(&field)?;
+    out.put(&reference.node.bytes())?;
+    out.put(&p.bytes())?;
+    out.put(&q.bytes())?;
+    out.put(&reference.link.bytes())?;
     Ok(())
 }

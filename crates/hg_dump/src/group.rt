@@ -14,19 +14,20 @@ use crate::references::{Reference, References};
 use bridge_text::NoMemory;
 use hg_chunk::{put_chunk, put_empty};
 use hg_store::{Group, HgStore};
+use rope::Rope;
 use std::collections::BTreeMap;
 
 /// Appends a group: an entry for each reference, and the empty chunk.
 pub fn put_group(
-    out: &mut Vec<u8>,
+    out: &mut Rope,
     store: &HgStore,
     group: Group<'_>,
     references: &[Reference],
 ) -> Result<(), NoMemory>
     requires { (rs : List Revision) × AreOf store.now (group_value group) references.now rs }
     ensures ok { OnOk result ((rs : List Revision) → AreOf store.now (group_value group.entry) references.now rs
-        → out.new.items ≡ out.old.items ++ group_text (written_group store.now (group_value group.entry) rs)) }
-    ensures front { StartsWith out.new.items out.old.items }
+        → out.new ≡ out.old ++ group_text (written_group store.now (group_value group.entry) rs)) }
+    ensures front { StartsWith out.new out.old }
 {
     let mut base_len = first_base_len(store, group, references);
     for reference in references {
@@ -55,13 +56,13 @@ pub fn first_base_len(store: &HgStore, group: Group<'_>, references: &[Reference
 
 /// Appends the paths with their groups, but for the paths of which nothing is written.
 pub fn put_files(
-    out: &mut Vec<u8>,
+    out: &mut Rope,
     store: &HgStore,
     files: &BTreeMap<Vec<u8>, References>,
 ) -> Result<(), NoMemory>
     requires { (rs : List Revision) × AreFiles store.now files.now rs }
-    ensures bytes { OnOk result ((rs : List Revision) → AreFiles store.now files.now rs → out.new.items ≡ out.old.items ++ flat_map (file_part store.now rs) (paths_of files.now)) }
-    ensures front { StartsWith out.new.items out.old.items }
+    ensures bytes { OnOk result ((rs : List Revision) → AreFiles store.now files.now rs → out.new ≡ out.old ++ flat_map (file_part store.now rs) (paths_of files.now)) }
+    ensures front { StartsWith out.new out.old }
     ensures rising { OnOk result (AreRising (paths_of files.now)) }
 {
     for (path, references) in files {
@@ -71,15 +72,15 @@ pub fn put_files(
 }
 
 fn put_file(
-    out: &mut Vec<u8>,
+    out: &mut Rope,
     store: &HgStore,
     path: &[u8],
     references: &[Reference],
 ) -> Result<(), NoMemory>
     requires { (rs : List Revision) × AreOf store.now (FilesAt path.now) references.now rs }
     ensures ok { OnOk result ((rs : List Revision) → AreOf store.now (FilesAt path.now) references.now rs
-        → out.new.items ≡ out.old.items ++ file_part_of (record { path = path.now; entries = written_group store.now (FilesAt path.now) rs }) rs) }
-    ensures front { StartsWith out.new.items out.old.items }
+        → out.new ≡ out.old ++ file_part_of (record { path = path.now; entries = written_group store.now (FilesAt path.now) rs }) rs) }
+    ensures front { StartsWith out.new out.old }
 {
     if references.is_empty() {
         return Ok(());

@@ -1,8 +1,8 @@
 -- A delta of one hunk that replaces its whole base.
-use Rattle.std.proofs.Common.{◌≡◌, ℕ, ◌+◌, ◌≤◌, List, [], ◌∷◌, ◌++◌, length, take, drop, Option, Some, None, not, Result, Ok, Err, refl, sym, ap, subst, ◌∙◌, arith, length-drop, append-nil}
+use Rattle.std.proofs.Common.{◌≡◌, ℕ, ◌≤◌, List, [], ◌∷◌, ◌++◌, length, drop, Option, Some, None, Result, Ok, Err, refl, sym, ap, subst, ◌∙◌, arith, length-drop, append-nil}
 use Rattle.std.proofs.lemmas.List.{take_all, drop_all}
 use Rattle.text_model.specs.Text.{Bytes}
-use Rattle.hg_model.specs.Delta.{Hunk, Hunks, Patches, AreWithin, first_hunk, put_hunk, hunks_from, hunks_of, delta_reading, patched_from, patched_text}
+use Rattle.hg_model.specs.Delta.{Hunk, Hunks, Patches, AreWithin, first_hunk, put_hunk, hunks_from, hunks_of, patched_from, patched_text}
 use Rattle.hg_model.proofs.HunkLemmas.{AreBytes, first_hunk-reads, first_hunk-length}
 use Rattle.hg_model.proofs.DeltaLemmas.{hunks_from-first, hunks_from-nil, hunks_from-cut, first_outside-within, delta_reading-within, delta_reading-hunks, Patches-delta_reading}
 use Rattle.hg_hunk.specs.Faults.{HasPatchedText}

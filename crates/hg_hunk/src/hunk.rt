@@ -5,7 +5,7 @@ ghost use Rattle.hg_hunk.specs.Wholes.{IsAlone};
 use byteorder::{BigEndian, ByteOrder};
 
 /// How many bytes the three numbers of a hunk have.
-pub const HEADER_LEN: usize = 12;
+const HEADER_LEN: usize = 12;
 
 /// A hunk at the beginning of a delta: its bytes stand in place of the base's from `start` up to
 /// `end`.

@@ -1,11 +1,12 @@
-ghost use Rattle.std.specs.Prelude.{◌≡◌, ◌++◌, ◌<◌, ◌^◌, length, OnOk, OnErr};
+ghost use Rattle.std.specs.Prelude.{◌≡◌, ◌++◌, ◌<◌, ◌^◌, length, OnOk};
+ghost use Rattle.std.specs.Io.{StartsWith};
 ghost use Rattle.text_model.specs.Text.{Bytes};
 ghost use Rattle.hg_model.specs.Delta.{Patches, number32, hunk_text, whole_delta};
 
-use crate::hunk::HEADER_LEN;
-use crate::room::put;
 use bridge_text::NoMemory;
 use byteorder::{BigEndian, ByteOrder};
+use rope::Rope;
+use shared_text::Text;
 
 #[tactic(auto, unfolding(hg_model::specs::Delta::number32))]
 fn number_bytes(number: u32) -> [u8; 4]
@@ -16,25 +17,24 @@ fn number_bytes(number: u32) -> [u8; 4]
     bytes
 }
 
-fn put_whole_hunk(out: &mut Vec<u8>, base_len: u32, text: &[u8]) -> Result<(), NoMemory>
+fn put_whole_hunk(out: &mut Rope, base_len: u32, text: &Text) -> Result<(), NoMemory>
     requires { length text.now < 2 ^ 32 }
-    ensures ok { OnOk result (out.new.items ≡ out.old.items ++ hunk_text (record { start = 0; finish = base_len; bytes = text.now })) }
-    ensures err { OnErr result (out.new.items ≡ out.old.items) }
+    ensures ok { OnOk result (out.new ≡ out.old ++ hunk_text (record { start = 0; finish = base_len; bytes = text.now })) }
+    ensures front { StartsWith out.new out.old }
 {
-    out.reserve(HEADER_LEN + text.len())?;
-    put(out, &number_bytes(0));
-    put(out, &number_bytes(base_len));
-    put(out, &number_bytes(text.len() as u32));
-    put(out, text);
+    out.put(&number_bytes(0))?;
+    out.put(&number_bytes(base_len))?;
+    out.put(&number_bytes(text.len() as u32))?;
+    out.share(text)?;
     Ok(())
 }
 
 /// Appends the delta that replaces a whole base of this length by the text: one hunk, or none where
-/// base and text are both empty. After an error `out` holds what it held.
-pub fn replace_into(out: &mut Vec<u8>, base_len: u32, text: &[u8]) -> Result<(), NoMemory>
+/// base and text are both empty. After an error `out` begins with what it was.
+pub fn replace_into(out: &mut Rope, base_len: u32, text: &Text) -> Result<(), NoMemory>
     requires { length text.now < 2 ^ 32 }
-    ensures ok { OnOk result (out.new.items ≡ out.old.items ++ whole_delta base_len text.now) }
-    ensures err { OnErr result (out.new.items ≡ out.old.items) }
+    ensures ok { OnOk result (out.new ≡ out.old ++ whole_delta base_len text.now) }
+    ensures front { StartsWith out.new out.old }
 {
     if base_len == 0 && text.is_empty() {
         return Ok(());

@@ -49,13 +49,12 @@ impl HgStore {
         text_in(self.get(Group::FilesAt(path), node))
     }
 
-    /// The text of a revision of the file at a path, which the caller may own too; `None` where it is unknown. It takes no
-    /// memory.
-    pub fn shared_file_text(&self, path: &[u8], node: &Id) -> Option<&Text>
-        ensures value { option_copied result ≡ text_of self.now (FilesAt path.now) node.now }
+    /// The text of a revision of a group, which the caller may own too; `None` where it is unknown. It takes no memory.
+    pub fn shared_text(&self, group: Group<'_>, node: &Id) -> Option<&Text>
+        ensures value { option_copied result ≡ text_of self.now (group_value group.entry) node.now }
         ensures known { AreAdded self.now }
     {
-        let held = self.get(Group::FilesAt(path), node)?;
+        let held = self.get(group, node)?;
         Some(&held.text)
     }
 

@@ -1,6 +1,7 @@
 // Chunks of bundles.
 use bridge_io::{MemSource, Source};
 use hg_chunk::{ChunkFault, ChunkReader, Piece, put_chunk, put_empty};
+use rope::Rope;
 use shared_text::{Text, keep};
 use state_part::SharedPart;
 use std::alloc::Global;
@@ -176,9 +177,10 @@ fn each_call_may_fail(rt: HostRuntime) -> Result<(), Fail> {
 
 #[test]
 fn chunks_are_written(rt: HostRuntime) -> Result<(), Fail> {
-    let mut out = b"HG10UN".to_vec(rt.alloc())?;
+    let mut out = Rope::of(rt.alloc(), b"HG10UN".to_vec(rt.alloc())?);
     put_chunk(&mut out, b"abc")?;
     put_empty(&mut out)?;
-    assert!(rt; out.as_slice() == b"HG10UN\0\0\0\x07abc\0\0\0\0".as_slice());
+    let bytes = out.joined()?;
+    assert!(rt; bytes.as_slice() == b"HG10UN\0\0\0\x07abc\0\0\0\0".as_slice());
     Ok(())
 }

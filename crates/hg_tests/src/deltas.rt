@@ -1,5 +1,7 @@
 // Deltas: what hunks make of a base.
 use hg_hunk::{HunkFault, apply, is_whole, patched_len, replace_into};
+use rope::Rope;
+use shared_text::keep;
 use std::alloc::Global;
 use std::test::Fail;
 
@@ -89,10 +91,10 @@ fn is_appended(alloc: Global, base_len: u32, text: &[u8], want: &[u8]) -> Result
     if text.len() >= 1 << 32 {
         return Ok(false);
     }
-    let mut delta = Vec::new(alloc);
-    delta.push(b'7')?;
-    let is_made = replace_into(&mut delta, base_len, text).is_ok();
-    Ok(is_made && delta.strip_prefix(b"7") == Some(want))
+    let text = keep(text.to_vec(alloc)?)?;
+    let mut delta = Rope::of(alloc, b"7".to_vec(alloc)?);
+    replace_into(&mut delta, base_len, &text)?;
+    Ok(delta.joined()?.strip_prefix(b"7") == Some(want))
 }
 
 #[test]

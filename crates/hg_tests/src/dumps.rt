@@ -2,6 +2,7 @@
 use bridge_text::{Id, IdList, fit_path};
 use hg_dump::{Dump, are_held, is_dump, write, written_len};
 use hg_store::{Group, HgStore};
+use rope::Rope;
 use shared_text::{Text, keep};
 use std::alloc::Global;
 use std::process::Abort;
@@ -363,15 +364,15 @@ fn written(
     assert!(rt; from <= order.len());
     assert!(rt; are_held(store, order));
     let len = written_len(alloc, store, order.as_slice())?;
-    let bytes = write(alloc, store, order, from)?;
+    let bytes = write(alloc, store, order, from)?.joined()?;
     assert!(rt; from > 0 || len == bytes.len() as u64);
     let is_dump = is_dump(alloc, store, order, bytes.as_slice())?;
     assert!(rt; is_dump == (from == 0));
     let dump = Dump::collect(alloc, store, order.as_slice(), from)?;
     assert!(rt; dump.len() == bytes.len() as u64);
-    let mut out = b"front ".to_vec(alloc)?;
+    let mut out = Rope::of(alloc, b"front ".to_vec(alloc)?);
     dump.append(&mut out)?;
-    assert!(rt; out.strip_prefix(b"front ") == Some(bytes.as_slice()));
+    assert!(rt; out.joined()?.strip_prefix(b"front ") == Some(bytes.as_slice()));
     Ok(bytes)
 }
 

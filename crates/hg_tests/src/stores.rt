@@ -337,15 +337,13 @@ fn text_at<'a>(store: &'a HgStore, group: Group, node: &Id) -> Option<&'a [u8]> 
     }
 }
 
-// Whether the text of a file revision, as it is lent to be owned again, is this one. No other text is lent so.
-fn is_shared(store: &HgStore, group: Group, node: &Id, text: Option<&[u8]>) -> bool {
-    let Group::FilesAt(path) = group else {
-        return true;
-    };
-    match store.shared_file_text(path, node) {
+// Whether the text of a revision, as it is lent and as it is lent to be owned again, is this one. The null id is that of none.
+fn is_revision(store: &HgStore, group: Group, node: &Id, text: Option<&[u8]>) -> bool {
+    let is_shared = match store.shared_text(group, node) {
         Some(shared) => text == Some(shared.as_slice()),
         None => text.is_none(),
-    }
+    };
+    node.is_null() || is_shared && store.revision_text(group, node) == text
 }
 
 fn parents_at(store: &HgStore, group: Group, node: &Id) -> Option<(Id, Id)> {
@@ -385,9 +383,8 @@ fn is_found(store: &HgStore, found: &Found) -> Result<bool, Fail> {
     let has_text = text_at(store, group, &node) == text;
     let has_parents = parents_at(store, group, &node) == pair;
     let has_blob = is_blob(blob_at(store, group, &node), blob);
-    let has_revision = node.is_null() || store.revision_text(group, &node) == text;
-    let has_shared = is_shared(store, group, &node, text);
-    Ok(has_text && has_shared && has_parents && has_blob && has_revision)
+    let has_revision = is_revision(store, group, &node, text);
+    Ok(has_text && has_parents && has_blob && has_revision)
 }
 
 #[test]

@@ -51,5 +51,6 @@ fn stream_of_made<L: Ledger>(
 {
     let bundle = make_bundle(alloc, n, seed)?;
     let first = state_of_bundle(alloc, &bundle, steps)?;
-    Ok(dump_git(&first)?)
+    let stream = dump_git(&first)?;
+    Ok(stream.joined()?)
 }

@@ -7,6 +7,7 @@ ghost use Rattle.pull_outcome.specs.declared.refused.PullFault.TheVariants as pu
 use bridge_text::{Fault, NoMemory, Refusal};
 use make_history::MakeFault;
 use pull_engine::PullFault;
+use std::alloc::AllocError;
 use thiserror::Error;
 
 /// Why nothing is counted of a history.
@@ -24,6 +25,14 @@ impl From<NoMemory> for CountsFault {
     ghost from_gives = { λ _ e. e ≡ Memory };
 
     fn from(_: NoMemory) -> CountsFault {
+        CountsFault::Memory
+    }
+}
+
+impl From<AllocError> for CountsFault {
+    ghost from_gives = { λ _ e. e ≡ Memory };
+
+    fn from(_: AllocError) -> CountsFault {
         CountsFault::Memory
     }
 }

@@ -10,7 +10,7 @@ ghost use Rattle.make_engine.specs.Lines.{last_ids, lines_with};
 use bridge_text::{Id, NoMemory};
 use git_store::GitStore;
 use pair_state::{Block, State};
-use state_part::put_count;
+use state_part::count_into;
 use std::alloc::Global;
 
 /// How many changesets and commits a state has, how many of the commits are marked, and the ids of its last block, a line each.
@@ -35,9 +35,9 @@ fn lines_with(
     ensures { IfOk result (λ lines. lines.items ≡ lines_with changesets commits marked last) }
 {
     let mut lines = Vec::new(alloc);
-    put_count(&mut lines, b"changesets", changesets as u64)?;
-    put_count(&mut lines, b"commits", commits as u64)?;
-    put_count(&mut lines, b"marked", marked as u64)?;
+    count_into(&mut lines, b"changesets", changesets as u64)?;
+    count_into(&mut lines, b"commits", commits as u64)?;
+    count_into(&mut lines, b"marked", marked as u64)?;
     put_last(&mut lines, &last.0, &last.1)?;
     Ok(lines)
 }

@@ -24,5 +24,6 @@ pub fn make_bundle(alloc: Global, n: u64, seed: u64) -> Result<Vec<u8>, MakeFaul
         return Err(MakeFault::CountLimit);
     }
     let history = make_history(alloc, n, seed)?;
-    Ok(write(alloc, &history.store, &history.nodes, 0)?)
+    let bundle = write(alloc, &history.store, &history.nodes, 0)?;
+    Ok(bundle.joined()?)
 }

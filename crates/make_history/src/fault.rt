@@ -4,6 +4,7 @@ ghost use Rattle.make_history.specs.declared.fault.MakeFault.TheVariants.{Memory
 
 use bridge_text::{Fault, NoMemory};
 use pair_state::PushFault;
+use std::alloc::AllocError;
 use thiserror::Error;
 
 /// Why a history is not made.
@@ -38,6 +39,14 @@ impl From<NoMemory> for MakeFault {
     ghost from_gives = { λ _ fault. fault ≡ Memory };
 
     fn from(_error: NoMemory) -> MakeFault {
+        MakeFault::Memory
+    }
+}
+
+impl From<AllocError> for MakeFault {
+    ghost from_gives = { λ _ fault. fault ≡ Memory };
+
+    fn from(_error: AllocError) -> MakeFault {
         MakeFault::Memory
     }
 }

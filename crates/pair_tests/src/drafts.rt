@@ -71,7 +71,7 @@ fn lends_content(known: &Known, c: &GitDraft, id: &Id, want: &[u8]) -> bool {
     if c.fresh.get(id).is_some() {
         return false;
     }
-    if known.git.shared_content(id).is_none() {
+    if known.git.shared_object(id).is_none() {
         return false;
     }
     content_text(known, c, id).as_slice() == want

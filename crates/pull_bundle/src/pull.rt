@@ -14,7 +14,6 @@ use crate::left_over::check_left_over;
 use crate::read::read_bundle;
 use crate::taking::Taking;
 use bridge_io::{Source, Steps};
-use bridge_text::Bytes;
 use pair_state::State;
 use pull_outcome::{HgPulled, PullFault};
 use std::sync::ledger::Ledger;
@@ -58,6 +57,6 @@ pub fn pull_hg<S: Source, L: Ledger>(
         state: State::from_parts(state),
         arrivals,
         first_new,
-        made: Bytes::keep(made),
+        made,
     })
 }

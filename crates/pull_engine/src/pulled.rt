@@ -2,8 +2,8 @@ ghost use Rattle.std.specs.Prelude.{◌≡◌, List};
 ghost use Rattle.pair_model.specs.Block.{Block};
 ghost use Rattle.pair_state.specs.AllBlocks.{HasAllBlocks};
 
-use bridge_text::Bytes;
 use pair_state::State;
+use rope::Rope;
 
 /// What an accepted pull comes to.
 #[derive(Drop)]
@@ -13,7 +13,7 @@ pub struct Pulled {
     /// How many blocks there were before.
     pub first_new: usize,
     /// What the new blocks bring to the other side.
-    pub made: Bytes,
+    pub made: Rope,
 }
 
 /// The same state. What its type says is known from here on: it stands for a history.

@@ -1,7 +1,7 @@
-use bridge_text::Bytes;
 use git_batch::ObjectArrivals;
 use hg_bundle::Arrivals;
 use pair_state::State;
+use rope::Rope;
 
 /// What an accepted pull of a bundle comes to.
 #[derive(Drop)]
@@ -13,7 +13,7 @@ pub struct HgPulled {
     /// How many blocks there were before.
     pub first_new: usize,
     /// What the new blocks bring to Git: a stream of objects.
-    pub made: Bytes,
+    pub made: Rope,
 }
 
 /// What an accepted pull of a stream comes to.
@@ -26,5 +26,5 @@ pub struct GitPulled {
     /// How many blocks there were before.
     pub first_new: usize,
     /// What the new blocks bring to Mercurial: a bundle.
-    pub made: Bytes,
+    pub made: Rope,
 }

@@ -15,7 +15,6 @@ use crate::commits::take_commits;
 use crate::objects::read_objects;
 use crate::ordering::order_commits;
 use bridge_io::{Source, Steps};
-use bridge_text::Bytes;
 use pair_state::State;
 use pull_outcome::{GitPulled, PullFault};
 use std::sync::ledger::Ledger;
@@ -58,6 +57,6 @@ pub fn pull_git<S: Source, L: Ledger>(
         state: State::from_parts(parts),
         arrivals: came,
         first_new,
-        made: Bytes::keep(made),
+        made,
     })
 }

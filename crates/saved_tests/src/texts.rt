@@ -1,7 +1,8 @@
 // The form of a state's text.
 use crate::values::{BUNDLE, COMMIT, NODE, STREAM, id};
+use rope::Rope;
 use state_part::{
-    HeadFault, IdPair, IdPairs, put_count, put_head, put_map, put_pair, put_section,
+    HeadFault, IdPair, IdPairs, count_into, put_count, put_head, put_map, put_pair, put_section,
     put_sorted_map, read_count, read_head, read_map, read_section, section_laws,
 };
 use std::alloc::Global;
@@ -16,12 +17,14 @@ fn pair() -> Result<IdPair, Fail> {
 
 // The first line and three sections of the state of one changeset.
 fn written(alloc: Global) -> Result<Vec<u8>, Fail> {
-    let mut text = Vec::new(alloc);
+    let mut text = Rope::new(alloc);
     put_head(&mut text)?;
     put_section(&mut text, b"hg", BUNDLE)?;
     put_section(&mut text, b"git", STREAM)?;
-    put_map(&mut text, &[pair()?])?;
-    Ok(text)
+    let mut pairs = Vec::new(alloc);
+    put_map(&mut pairs, &[pair()?])?;
+    text.put(pairs.as_slice())?;
+    Ok(text.joined()?)
 }
 
 #[test]
@@ -102,8 +105,10 @@ fn pairs_are_written_in_order_of_their_nodes(rt: HostRuntime) -> Result<(), Fail
     put_pair(&mut lines, &one)?;
     put_pair(&mut lines, &two)?;
     assert!(rt; sorted == lines);
-    let mut count = Vec::new(rt.alloc());
+    let mut count = Rope::new(rt.alloc());
     put_count(&mut count, b"map", 2)?;
-    assert!(rt; count.as_slice() == b"map 2\n".as_slice());
+    let mut same = Vec::new(rt.alloc());
+    count_into(&mut same, b"map", 2)?;
+    assert!(rt; same.as_slice() == b"map 2\n".as_slice() && count.joined()? == same);
     Ok(())
 }

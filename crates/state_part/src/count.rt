@@ -1,9 +1,11 @@
 // A line of a word and a number.
-ghost use Rattle.std.specs.Prelude.{◌≡◌, ◌++◌, MatchOption, OnErr, OnOk};
+ghost use Rattle.std.specs.Prelude.{◌≡◌, ◌++◌, MatchOption, OnOk};
 ghost use Rattle.std.specs.Io.{StartsWith};
 ghost use Rattle.state_part.specs.Form.{count_line, HasCount, NoCount};
 
 use bridge_text::{NoMemory, cut_at, decimal_into, decimal_of};
+use itoa::Buffer;
+use rope::Rope;
 
 /// The number in the line of this word that begins the bytes, and what follows the line. `None` exactly where no line of the
 /// word and a number below 2^64 begins them.
@@ -16,21 +18,21 @@ pub fn read_count<'a>(word: &[u8], bytes: &'a [u8]) -> Option<(u64, &'a [u8])>
     Some((decimal_of(digits)?, rest))
 }
 
-/// Appends the line of a word and a number. After want of memory `out` is as it was.
-pub fn put_count(out: &mut Vec<u8>, word: &[u8], count: u64) -> Result<(), NoMemory>
-    ensures ok { OnOk result (out.new.items ≡ out.old.items ++ count_line word.now count) }
-    ensures err { OnErr result (out.new.items ≡ out.old.items) }
+/// Appends the line of a word and a number. After want of memory what `out` was is its beginning.
+pub fn put_count(out: &mut Rope, word: &[u8], count: u64) -> Result<(), NoMemory>
+    ensures ok { OnOk result (out.new ≡ out.old ++ count_line word.now count) }
+    ensures front { StartsWith out.new out.old }
 {
-    let start = out.len();
-    let put = append_count(out, word, count);
-    if put.is_err() {
-        out.truncate(start);
-    }
-    put
+    let mut digits = Buffer::new();
+    out.put(word)?;
+    out.push(b' ')?;
+    out.put(digits.format(count).as_bytes())?;
+    out.push(b'\n')?;
+    Ok(())
 }
 
-/// The same; after want of memory what `out` was is its beginning.
-pub fn append_count(out: &mut Vec<u8>, word: &[u8], count: u64) -> Result<(), NoMemory>
+/// The same at the end of bytes in one piece.
+pub fn count_into(out: &mut Vec<u8>, word: &[u8], count: u64) -> Result<(), NoMemory>
     ensures ok { OnOk result (out.new.items ≡ out.old.items ++ count_line word.now count) }
     ensures front { StartsWith out.new.items out.old.items }
 {

@@ -1,11 +1,13 @@
 // The first line of a state's text, which names its version.
-ghost use Rattle.std.specs.Prelude.{◌≡◌, ◌++◌, OnErr, OnOk, IfOk, MatchResult, not};
+ghost use Rattle.std.specs.Prelude.{◌≡◌, ◌++◌, OnOk, IfOk, MatchResult, not};
+ghost use Rattle.std.specs.Io.{StartsWith};
 ghost use Rattle.std.specs.List.{list_all};
 ghost use Rattle.text_model.specs.Text.{is_digit, is_decimal};
 ghost use Rattle.state_model.specs.Saved.{IsVersionFault};
 ghost use Rattle.state_part.specs.Form.{head_line, IsHeadFault};
 
 use bridge_text::{NoMemory, cut_at};
+use rope::Rope;
 
 /// The first line without its LF, before the number of the version.
 const VERSION_WORD: &[u8] = b"hg-git-bridge ";
@@ -56,10 +58,10 @@ fn are_digits(text: &[u8]) -> bool
     text.iter().all(|byte| byte.is_ascii_digit())
 }
 
-/// Appends the first line of a state's text. After want of memory `out` is as it was.
-pub fn put_head(out: &mut Vec<u8>) -> Result<(), NoMemory>
-    ensures ok { OnOk result (out.new.items ≡ out.old.items ++ head_line) }
-    ensures err { OnErr result (out.new.items ≡ out.old.items) }
+/// Appends the first line of a state's text. After want of memory what `out` was is its beginning.
+pub fn put_head(out: &mut Rope) -> Result<(), NoMemory>
+    ensures ok { OnOk result (out.new ≡ out.old ++ head_line) }
+    ensures front { StartsWith out.new out.old }
 {
-    Ok(out.extend_from_slice(b"hg-git-bridge 2\n")?)
+    Ok(out.put(b"hg-git-bridge 2\n")?)
 }

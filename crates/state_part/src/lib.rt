@@ -9,7 +9,7 @@ mod pairs;
 mod part;
 mod section;
 
-pub use count::{put_count, read_count};
+pub use count::{count_into, put_count, read_count};
 pub use head::{HeadFault, put_head, read_head};
 pub use laws::section_laws;
 pub use map::{MapSection, put_map, put_pair, put_sorted_map, read_map};

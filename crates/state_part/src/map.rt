@@ -4,7 +4,7 @@ ghost use Rattle.std.specs.Io.{StartsWith};
 ghost use Rattle.std.specs.List.{flat_map};
 ghost use Rattle.state_part.specs.Pairs.{IsPair, pair_line, NoPair, map_section, sorted_lines, HasMap, NoMap};
 
-use crate::count::{append_count, read_count};
+use crate::count::{count_into, read_count};
 use crate::pairs::{IdPair, IdPairs, sorted_by_node};
 use bridge_text::{Id, NoMemory, cut_at};
 use std::alloc::Global;
@@ -71,7 +71,7 @@ fn append_map(out: &mut Vec<u8>, pairs: &[IdPair]) -> Result<(), NoMemory>
     ensures ok { OnOk result (out.new.items ≡ out.old.items ++ map_section pairs.now) }
     ensures front { StartsWith out.new.items out.old.items }
 {
-    append_count(out, MAP, pairs.len() as u64)?;
+    count_into(out, MAP, pairs.len() as u64)?;
     append_lines(out, pairs)
 }
 

@@ -1,11 +1,12 @@
 // A section that tells the size of its text.
-ghost use Rattle.std.specs.Prelude.{◌≡◌, ◌++◌, MatchOption, OnErr, OnOk};
+ghost use Rattle.std.specs.Prelude.{◌≡◌, ◌++◌, MatchOption, OnOk};
 ghost use Rattle.std.specs.Io.{StartsWith};
 ghost use Rattle.state_model.specs.Text.{sized};
 ghost use Rattle.state_part.specs.Form.{HasSection, NoSection};
 
-use crate::count::{append_count, read_count};
+use crate::count::{put_count, read_count};
 use bridge_text::NoMemory;
+use rope::Rope;
 
 /// A section that bytes begin with.
 #[derive(Clone, Copy)]
@@ -27,25 +28,13 @@ pub fn read_section<'a>(word: &[u8], bytes: &'a [u8]) -> Option<Section<'a>>
     Some(Section { text, rest })
 }
 
-/// Appends a section. After want of memory `out` is as it was.
-pub fn put_section(out: &mut Vec<u8>, word: &[u8], text: &[u8]) -> Result<(), NoMemory>
-    ensures ok { OnOk result (out.new.items ≡ out.old.items ++ sized word.now text.now) }
-    ensures err { OnErr result (out.new.items ≡ out.old.items) }
+/// Appends a section. After want of memory what `out` was is its beginning.
+pub fn put_section(out: &mut Rope, word: &[u8], text: &[u8]) -> Result<(), NoMemory>
+    ensures ok { OnOk result (out.new ≡ out.old ++ sized word.now text.now) }
+    ensures front { StartsWith out.new out.old }
 {
-    let start = out.len();
-    let put = append_section(out, word, text);
-    if put.is_err() {
-        out.truncate(start);
-    }
-    put
-}
-
-fn append_section(out: &mut Vec<u8>, word: &[u8], text: &[u8]) -> Result<(), NoMemory>
-    ensures ok { OnOk result (out.new.items ≡ out.old.items ++ sized word.now text.now) }
-    ensures front { StartsWith out.new.items out.old.items }
-{
-    append_count(out, word, text.len() as u64)?;
-    out.extend_from_slice(text)?;
+    put_count(out, word, text.len() as u64)?;
+    out.put(text)?;
     out.push(b'\n')?;
     Ok(())
 }

@@ -1,3 +1,4 @@
+pub mod SizedText
 pub mod BlockLemmas
 pub mod HeadLemmas
 pub mod SectionLemmas

@@ -1,7 +1,5 @@
 -- What a state writes.
-use Rattle.std.proofs.Common.{◌≡◌, ◌+◌, ℕ, suc, List, [], ◌∷◌, ◌++◌, map, take, drop, slice_get, codes, Some, None, option_map, refl, sym, ap, subst, ◌∙◌, append_assoc, append-nil, Result, Ok, Err, OnOk, OnErr}
-use Rattle.std.specs.Io.{StartsWith}
-use Rattle.std.proofs.Transfers.{starts_with_of_eq, starts_with_of_append, starts_with_trans}
+use Rattle.std.proofs.Common.{◌≡◌, ◌+◌, ℕ, suc, List, [], ◌∷◌, ◌++◌, map, take, drop, slice_get, codes, Some, None, option_map, refl, sym, ap, subst, ◌∙◌, append_assoc, append-nil}
 use Rattle.text_model.proofs.Options.{none_some}
 use Rattle.text_model.proofs.Elements.{each_at, get_unmap, take_push, flat_map_append}
 use Rattle.text_model.specs.Lists.{Each}
@@ -162,8 +160,3 @@ pub state-text : (s : StateParts) (m : State) → Stands s m → AreBlocks m.blo
     → hg ≡ hg_dump (changesets_in m.blocks) → git ≡ git_dump (commits_in m.blocks) → tags ≡ stream_text m.tags → pairs ≡ map pair_in s.blocks → text ≡ old ++ state_text m
 state-text s m h are old text hg git tags names pairs a names_is hg_is git_is tags_is pairs_are =
     written old text hg git tags names pairs m a are (names_is ∙ ap refs_text h.names) hg_is git_is tags_is (pairs_are ∙ ap (map pair_in) (pairs-are s m h))
-
--- what is put behind bytes, or not, leaves their front
-pub put-front : {T E : Type 0} (r : Result T E) (old new more front : Bytes) → OnOk r (new ≡ old ++ more) → OnErr r (new ≡ old) → StartsWith old front → StartsWith new front
-put-front (Ok x) old new more front ok err s = starts_with_trans new old front (starts_with_of_append new old more ok) s
-put-front (Err e) old new more front ok err s = starts_with_trans new old front (starts_with_of_eq new old err) s

@@ -16,42 +16,38 @@ use crate::names::NAMES;
 use crate::sections::TAGS;
 use bridge_text::{Id, NoMemory};
 use git_batch::put_with_id;
-use git_object::Objects;
 use git_store::GitStore;
 use pair_state::State;
 use ref_map::write_refs;
+use rope::Rope;
 use state_part::{put_head, put_map, put_section, put_sorted_map};
 
-/// Appends the one text of the state. After want of memory `out` is as it was.
-pub fn write_into(state: &State, out: &mut Vec<u8>) -> Result<(), NoMemory>
+/// Appends the one text of the state. After want of memory what `out` was is its beginning.
+pub fn write_into(state: &State, out: &mut Rope) -> Result<(), NoMemory>
     requires stands { (m : model.State) × Stands state.now m }
-    ensures ok { OnOk result ((m : model.State) → Stands state.now m → AreBlocks m.blocks → out.new.items ≡ out.old.items ++ state_text m) }
-    ensures err { OnErr result (out.new.items ≡ out.old.items) }
-{
-    let start = out.len();
-    let put = append_state(state, out);
-    if put.is_err() {
-        out.truncate(start);
-    }
-    put
-}
-
-// The same; after want of memory what `out` was is its beginning.
-fn append_state(state: &State, out: &mut Vec<u8>) -> Result<(), NoMemory>
-    requires stands { (m : model.State) × Stands state.now m }
-    ensures ok { OnOk result ((m : model.State) → Stands state.now m → AreBlocks m.blocks → out.new.items ≡ out.old.items ++ state_text m) }
-    ensures front { StartsWith out.new.items out.old.items }
+    ensures ok { OnOk result ((m : model.State) → Stands state.now m → AreBlocks m.blocks → out.new ≡ out.old ++ state_text m) }
+    ensures front { StartsWith out.new out.old }
 {
     let alloc = state.alloc();
-    let mut tags = Vec::new(alloc);
-    put_tags(&mut tags, &state.known().git, state.tags().as_slice())?;
+    let mut pairs = Vec::new(alloc);
+    put_map(&mut pairs, pairs_of(alloc, state.blocks())?.as_slice())?;
+    let tags = tags_text(state)?;
     let names = write_refs(alloc, state.names())?;
     put_head(out)?;
     append_bundle(out, alloc, &state.known().hg, state.changesets())?;
     append_stream(out, alloc, &state.known().git, state.commits())?;
-    put_map(out, pairs_of(alloc, state.blocks())?.as_slice())?;
+    out.put(pairs.as_slice())?;
     put_section(out, TAGS, tags.as_slice())?;
     put_section(out, NAMES, names.as_slice())
+}
+
+// The text of the kept tags in one piece.
+fn tags_text(state: &State) -> Result<Vec<u8>, NoMemory>
+    ensures { IfOk result (λ text. (m : model.State) → Stands state.now m → text.items ≡ stream_text m.tags) }
+{
+    let mut text = Rope::new(state.alloc());
+    put_tags(&mut text, &state.known().git, state.tags().as_slice())?;
+    Ok(text.joined()?)
 }
 
 /// Appends `GIT HG` LF for each block, in rising order of the nodes. After want of memory `out` is as it was.
@@ -64,18 +60,18 @@ pub fn map_into(state: &State, out: &mut Vec<u8>) -> Result<(), NoMemory>
 }
 
 /// The bundle of the whole history.
-pub fn dump_hg(state: &State) -> Result<Vec<u8>, NoMemory>
+pub fn dump_hg(state: &State) -> Result<Rope, NoMemory>
     requires stands { (m : model.State) × Stands state.now m }
-    ensures { IfOk result (λ bytes. (m : model.State) → Stands state.now m → bytes.items ≡ model.hg_dump (changesets_in m.blocks)) }
+    ensures { IfOk result (λ bytes. (m : model.State) → Stands state.now m → bytes ≡ model.hg_dump (changesets_in m.blocks)) }
 {
     hg_dump::write(state.alloc(), &state.known().hg, state.changesets(), 0)
 }
 
 /// The stream of the whole history, with the kept tags behind it.
-pub fn dump_git(state: &State) -> Result<Vec<u8>, NoMemory>
+pub fn dump_git(state: &State) -> Result<Rope, NoMemory>
     requires stands { (m : model.State) × Stands state.now m }
     ensures { IfOk result (λ bytes. (m : model.State) → Stands state.now m
-        → bytes.items ≡ model.git_dump (commits_in m.blocks) ++ stream_text m.tags) }
+        → bytes ≡ model.git_dump (commits_in m.blocks) ++ stream_text m.tags) }
 {
     let mut out = dump_commits(state)?;
     put_tags(&mut out, &state.known().git, state.tags().as_slice())?;
@@ -83,16 +79,16 @@ pub fn dump_git(state: &State) -> Result<Vec<u8>, NoMemory>
 }
 
 // The stream of the commits.
-fn dump_commits(state: &State) -> Result<Vec<u8>, NoMemory>
+fn dump_commits(state: &State) -> Result<Rope, NoMemory>
     requires stands { (m : model.State) × Stands state.now m }
-    ensures { IfOk result (λ bytes. (m : model.State) → Stands state.now m → bytes.items ≡ model.git_dump (commits_in m.blocks)) }
+    ensures { IfOk result (λ bytes. (m : model.State) → Stands state.now m → bytes ≡ model.git_dump (commits_in m.blocks)) }
 {
     git_dump::write(state.alloc(), &state.known().git, state.commits(), 0)
 }
 
 // Appends the objects with these ids, which are known.
-fn put_tags(out: &mut Vec<u8>, store: &GitStore, ids: &[Id]) -> Result<(), NoMemory>
-    ensures { OnOk result ((objects : List Object) → AreAt store.now ids.now objects → out.new.items ≡ out.old.items ++ stream_text objects) }
+fn put_tags(out: &mut Rope, store: &GitStore, ids: &[Id]) -> Result<(), NoMemory>
+    ensures { OnOk result ((objects : List Object) → AreAt store.now ids.now objects → out.new ≡ out.old ++ stream_text objects) }
 {
     for id in ids {
         put_tag(out, store, id)?;
@@ -101,10 +97,10 @@ fn put_tags(out: &mut Vec<u8>, store: &GitStore, ids: &[Id]) -> Result<(), NoMem
 }
 
 // Appends the object with this id, which is known.
-fn put_tag(out: &mut Vec<u8>, store: &GitStore, id: &Id) -> Result<(), NoMemory>
-    ensures { OnOk result ((o : Object) → object_at store.now id.now ≡ Some o → out.new.items ≡ out.old.items ++ object_text o) }
+fn put_tag(out: &mut Rope, store: &GitStore, id: &Id) -> Result<(), NoMemory>
+    ensures { OnOk result ((o : Object) → object_at store.now id.now ≡ Some o → out.new ≡ out.old ++ object_text o) }
 {
-    match store.content(id) {
+    match store.shared_object(id) {
         Some((kind, content)) => put_with_id(out, id, kind, content),
         None => Ok(()),
     }

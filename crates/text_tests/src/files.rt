@@ -1,5 +1,7 @@
 // The slot of the program, over files that are read and written.
+use crate::ropes::in_thirds;
 use bridge_io::{Failed, FileSlot, Slot, SlotFault};
+use rope::Rope;
 use std::alloc::{Allocator, Global};
 use std::fs::{Metadata, OpenFile, OpenOptions};
 use std::io::{ErrorKind, Read, Seek, SeekFrom, Write};
@@ -41,7 +43,8 @@ fn is_new(rt: &(impl Files + AllocGlobal)) -> bool {
 
 // Whether a text is put into the slot, and no other file is left.
 fn is_replaced(rt: &(impl Files + AllocGlobal), text: &[u8]) -> Result<bool, Fail> {
-    let is_put = FileSlot::new(rt).replace(text) == Ok(());
+    let rope = in_thirds(rt.alloc(), text)?;
+    let is_put = FileSlot::new(rt).replace(&rope) == Ok(());
     let is_left = fs::exists(rt, NEW_STATE)?;
     Ok(is_put && !is_left)
 }
@@ -90,7 +93,8 @@ fn large_text(rt: &(impl Files + AllocGlobal + Abort)) -> Result<(), Fail> {
 
 fn no_plain_file(rt: &(impl Files + AllocGlobal + Abort)) -> Result<(), Fail> {
     fs::create_dir(rt, STATE)?;
-    let is_put = FileSlot::new(rt).replace(b"text") == Err(Failed);
+    let text = Rope::of(rt.alloc(), b"text".to_vec(rt.alloc())?);
+    let is_put = FileSlot::new(rt).replace(&text) == Err(Failed);
     assert!(rt; is_put && is_refused(rt, 9, SlotFault::Failed));
     Ok(())
 }

@@ -8,4 +8,6 @@ mod names;
 #[cfg(test)]
 mod outside;
 #[cfg(test)]
+mod ropes;
+#[cfg(test)]
 mod texts;

@@ -1,10 +1,12 @@
 // What each object gives and takes, and when it fails.
 ghost use Rattle.std.specs.Prelude.{◌≡◌, ◌<◌};
 
+use crate::ropes::{bytes_from, in_thirds};
 use bridge_io::{
     Failed, FillFault, MemSink, MemSlot, MemSource, Sink, Slot, SlotFault, Source, StdSink,
-    StdSource, Steps, fill_vec, skip, write_all,
+    StdSource, Steps, fill_vec, skip, write_all, write_rope,
 };
+use rope::Rope;
 use std::alloc::Global;
 use std::io;
 use std::io::{ErrorKind, Read, Write};
@@ -149,8 +151,46 @@ fn all_is_written_or_a_front(rt: HostRuntime) -> Result<(), Fail> {
     Ok(())
 }
 
-fn is_replaced(slot: &mut MemSlot, text: &[u8], want: Result<(), Failed>) -> bool {
-    slot.replace(text) == want
+/// The longest piece that a sink takes, the call that fails, the answer, and how much the sink has taken of 9,000 bytes in
+/// three pieces.
+const ROPES: &[(usize, u64, Result<(), Failed>, usize)] = &[
+    (0, 9, Ok(()), 9_000),
+    (2_000, 9, Ok(()), 9_000),
+    (2_000, 3, Err(Failed), 5_000),
+    (0, 1, Err(Failed), 3_000),
+    (0, 0, Err(Failed), 0),
+];
+
+// Whether the sink has so many bytes of a text in pieces after this answer.
+fn is_rope_written(
+    alloc: Global,
+    sink: &mut MemSink,
+    want: Result<(), Failed>,
+    taken: usize,
+) -> Result<bool, Fail> {
+    let bytes = bytes_from(alloc, 0, 9_000)?;
+    let rope = in_thirds(alloc, &bytes)?;
+    Ok(write_rope(sink, &rope) == want && bytes.get(..taken) == Some(sink.bytes()))
+}
+
+#[test]
+fn all_pieces_are_written_or_a_front(rt: HostRuntime) -> Result<(), Fail> {
+    for (cut, failing, want, taken) in ROPES {
+        let mut sink = sink(rt.alloc(), 9_000, *cut, *failing)?;
+        let is_written = is_rope_written(rt.alloc(), &mut sink, *want, *taken)?;
+        assert!(rt; is_written);
+    }
+    Ok(())
+}
+
+fn is_replaced(
+    alloc: Global,
+    slot: &mut MemSlot,
+    text: &[u8],
+    want: Result<(), Failed>,
+) -> Result<bool, Fail> {
+    let text = Rope::of(alloc, text.to_vec(alloc)?);
+    Ok(slot.replace(&text) == want)
 }
 
 // Whether so many bytes at most are fetched so; where the answer is that there are some, these.
@@ -175,13 +215,42 @@ fn small_slot(alloc: Global) -> Result<MemSlot, Fail> {
 fn a_slot_in_memory_holds_its_last_replacement(rt: HostRuntime) -> Result<(), Fail> {
     let mut slot = small_slot(rt.alloc())?;
     assert!(rt; is_fetched(rt.alloc(), &mut slot, 9, Ok(false), b""));
-    assert!(rt; is_replaced(&mut slot, b"abc", Ok(())));
+    assert!(rt; is_replaced(rt.alloc(), &mut slot, b"abc", Ok(()))?);
     assert!(rt; is_fetched(rt.alloc(), &mut slot, 3, Err(SlotFault::Failed), b""));
-    assert!(rt; is_replaced(&mut slot, b"def", Err(Failed)));
+    assert!(rt; is_replaced(rt.alloc(), &mut slot, b"def", Err(Failed))?);
     assert!(rt; slot.bytes() == Some(b"abc".as_slice()));
-    assert!(rt; is_replaced(&mut slot, b"de", Ok(())));
+    assert!(rt; is_replaced(rt.alloc(), &mut slot, b"de", Ok(()))?);
     assert!(rt; is_fetched(rt.alloc(), &mut slot, 1, Err(SlotFault::TooLong), b""));
     assert!(rt; is_fetched(rt.alloc(), &mut slot, 2, Ok(true), b"de"));
+    Ok(())
+}
+
+/// How much room a slot has, and whether 9,000 bytes in three pieces are put into it.
+const ROOMS: &[(usize, Result<(), Failed>)] = &[
+    (9_000, Ok(())),
+    (9_001, Ok(())),
+    (8_999, Err(Failed)),
+    (3_000, Err(Failed)),
+    (0, Err(Failed)),
+];
+
+// Whether a slot with so much room has all of a text in pieces after this answer, or nothing.
+fn is_whole_or_nothing(alloc: Global, room: usize, want: Result<(), Failed>) -> Result<bool, Fail> {
+    let bytes = bytes_from(alloc, 0, 9_000)?;
+    let rope = in_thirds(alloc, &bytes)?;
+    let space = Vec::with_capacity(alloc, room)?;
+    let mut slot = MemSlot::new(None, space, room, Vec::new(alloc));
+    let is_answered = slot.replace(&rope) == want;
+    let held = want.is_ok().then_some(bytes.as_slice());
+    Ok(is_answered && slot.bytes() == held)
+}
+
+#[test]
+fn a_slot_holds_all_pieces_or_none(rt: HostRuntime) -> Result<(), Fail> {
+    for (room, want) in ROOMS {
+        let is_whole_or_nothing = is_whole_or_nothing(rt.alloc(), *room, *want)?;
+        assert!(rt; is_whole_or_nothing);
+    }
     Ok(())
 }
 

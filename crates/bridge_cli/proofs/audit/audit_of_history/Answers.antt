@@ -43,8 +43,8 @@ returns-in_err-verified_count-in-Holds-clause-steps g c = λ input.
 
 pub returns-in-Holds-clause-makes : goal.returns-in-Holds-clause-makes
 returns-in-Holds-clause-makes g c = λ input.
-    audit-makes (g.K.Slot.held c.args.slot.now) c.in_ok-state.state c.of.result _ c.in_ok-found.found c.in-Holds.blocks c.in_ok-state.ensures.state c.in_ok-found.ensures.holds c.in-Holds.is
-    c.in_ok-verified_count-in-Holds.ensures c.of.ensures.output c.of.ensures.text input
+    audit-makes (g.K.Slot.held c.args.slot.now) c.in_ok-state.state c.of_bytes.result c.in_ok-verified_count-in-Holds.field-0 c.in_ok-found.found c.in-Holds.blocks c.in_ok-state.ensures.state c.in_ok-found.ensures.holds c.in-Holds.is
+    c.in_ok-verified_count-in-Holds.ensures c.of_bytes.ensures.output c.of_bytes.ensures.text input
 
 pub returns-in-Holds-clause-steps : goal.returns-in-Holds-clause-steps
 returns-in-Holds-clause-steps g c = λ input.

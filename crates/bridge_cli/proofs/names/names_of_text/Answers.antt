@@ -31,7 +31,7 @@ returns-in_err-state-clause-makes g c =
 
 pub returns-clause-makes : goal.returns-clause-makes
 returns-clause-makes g c =
-    set-done c.args.side (g.I.Source.left c.args.input.now) _ (g.K.Slot.held c.args.slot.now) c.in_ok-state.state c.in_ok-next.next (record { output = c.new.result; text = Some c.in_ok-text.text }) c.in_ok-next.ensures.end c.new.ensures.items
+    set-done c.args.side (g.I.Source.left c.args.input.now) _ (g.K.Slot.held c.args.slot.now) c.in_ok-state.state c.in_ok-next.next (record { output = c.new.result; text = Some c.in_ok-text.text }) c.in_ok-next.ensures.end c.new.ensures
     c.in_ok-state.ensures.state c.in_ok-next.ensures.set c.in_ok-text.ensures
 
 pub returns-in_err-text-clause-makes : goal.returns-in_err-text-clause-makes

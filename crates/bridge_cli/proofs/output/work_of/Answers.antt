@@ -12,7 +12,7 @@ returns-in_err-bundle_lines-in-ListHg-clause-makes g c =
 
 pub returns-in_ok-bundle_lines-in-ListHg-clause-makes : goal.returns-in_ok-bundle_lines-in-ListHg-clause-makes
 returns-in_ok-bundle_lines-in-ListHg-clause-makes g c =
-    let makes = alone-makes ListHg refl refl (g.I.Source.left c.args.input.now) (g.K.Slot.held c.args.slot.now) _ _ c.of.result c.of.ensures.output c.of.ensures.text c.in_ok-bundle_lines-in-ListHg.ensures.makes in
+    let makes = alone-makes ListHg refl refl (g.I.Source.left c.args.input.now) (g.K.Slot.held c.args.slot.now) _ c.in_ok-bundle_lines-in-ListHg.field-0 c.of_bytes.result c.of_bytes.ensures.output c.of_bytes.ensures.text c.in_ok-bundle_lines-in-ListHg.ensures.makes in
     rw c.in-ListHg.is makes
 
 pub returns-in_err-bundle_counts-in-CheckHg-clause-makes : goal.returns-in_err-bundle_counts-in-CheckHg-clause-makes
@@ -23,7 +23,7 @@ returns-in_err-bundle_counts-in-CheckHg-clause-makes g c =
 
 pub returns-in_ok-bundle_counts-in-CheckHg-clause-makes : goal.returns-in_ok-bundle_counts-in-CheckHg-clause-makes
 returns-in_ok-bundle_counts-in-CheckHg-clause-makes g c =
-    let makes = alone-makes CheckHg refl refl (g.I.Source.left c.args.input.now) (g.K.Slot.held c.args.slot.now) _ _ c.of-in-CheckHg.result c.of-in-CheckHg.ensures.output c.of-in-CheckHg.ensures.text c.in_ok-bundle_counts-in-CheckHg.ensures.makes in
+    let makes = alone-makes CheckHg refl refl (g.I.Source.left c.args.input.now) (g.K.Slot.held c.args.slot.now) _ c.in_ok-bundle_counts-in-CheckHg.field-0 c.of_bytes-in-CheckHg.result c.of_bytes-in-CheckHg.ensures.output c.of_bytes-in-CheckHg.ensures.text c.in_ok-bundle_counts-in-CheckHg.ensures.makes in
     rw c.in-CheckHg.is makes
 
 pub returns-in_err-stream_lines-in-ListGit-clause-makes : goal.returns-in_err-stream_lines-in-ListGit-clause-makes
@@ -34,7 +34,7 @@ returns-in_err-stream_lines-in-ListGit-clause-makes g c =
 
 pub returns-in_ok-stream_lines-in-ListGit-clause-makes : goal.returns-in_ok-stream_lines-in-ListGit-clause-makes
 returns-in_ok-stream_lines-in-ListGit-clause-makes g c =
-    let makes = alone-makes ListGit refl refl (g.I.Source.left c.args.input.now) (g.K.Slot.held c.args.slot.now) _ _ c.of-in-ListGit.result c.of-in-ListGit.ensures.output c.of-in-ListGit.ensures.text c.in_ok-stream_lines-in-ListGit.ensures.makes in
+    let makes = alone-makes ListGit refl refl (g.I.Source.left c.args.input.now) (g.K.Slot.held c.args.slot.now) _ c.in_ok-stream_lines-in-ListGit.field-0 c.of_bytes-in-ListGit.result c.of_bytes-in-ListGit.ensures.output c.of_bytes-in-ListGit.ensures.text c.in_ok-stream_lines-in-ListGit.ensures.makes in
     rw c.in-ListGit.is makes
 
 pub returns-in_err-stream_counts-in-CheckGit-clause-makes : goal.returns-in_err-stream_counts-in-CheckGit-clause-makes
@@ -45,7 +45,7 @@ returns-in_err-stream_counts-in-CheckGit-clause-makes g c =
 
 pub returns-in_ok-stream_counts-in-CheckGit-clause-makes : goal.returns-in_ok-stream_counts-in-CheckGit-clause-makes
 returns-in_ok-stream_counts-in-CheckGit-clause-makes g c =
-    let makes = alone-makes CheckGit refl refl (g.I.Source.left c.args.input.now) (g.K.Slot.held c.args.slot.now) _ _ c.of-in-CheckGit.result c.of-in-CheckGit.ensures.output c.of-in-CheckGit.ensures.text c.in_ok-stream_counts-in-CheckGit.ensures.makes in
+    let makes = alone-makes CheckGit refl refl (g.I.Source.left c.args.input.now) (g.K.Slot.held c.args.slot.now) _ c.in_ok-stream_counts-in-CheckGit.field-0 c.of_bytes-in-CheckGit.result c.of_bytes-in-CheckGit.ensures.output c.of_bytes-in-CheckGit.ensures.text c.in_ok-stream_counts-in-CheckGit.ensures.makes in
     rw c.in-CheckGit.is makes
 
 pub returns-in-DumpHg-clause-input : goal.returns-in-DumpHg-clause-input

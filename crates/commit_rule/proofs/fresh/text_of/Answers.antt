@@ -14,7 +14,7 @@ unreachable-requires c =
     let known = c.args.known.now.hg in
     let row = c.args.row.now in
     let none = c.in-None.ensures ∙ ap (λ (p : Bytes). revision_of fresh (FilesAt p) c.row.inside.node) c.as_slice-path.ensures ∙ ap (λ (v : RowValue). revision_of fresh (FilesAt v.path) v.node) c.row.view_is in
-    let at = c.in-None-shared_file_text.ensures.value ∙ ap (λ (p : Bytes). text_of known (FilesAt p) c.row.inside.node) c.as_slice-path.ensures ∙ ap (λ (v : RowValue). text_of known (FilesAt v.path) v.node) c.row.view_is in
+    let at = c.in-None-shared_text.ensures.value ∙ ap (λ (p : Bytes). text_of known (FilesAt p) c.row.inside.node) c.as_slice-path.ensures ∙ ap (λ (v : RowValue). text_of known (FilesAt v.path) v.node) c.row.view_is in
     none_some (at ∙ stored-there fresh known row c.requires.held.0 c.requires.held.1 none)
 
 pub returns-in-Some : goal.returns-in-Some
@@ -25,11 +25,11 @@ returns-in-Some c = λ r is.
     let at = c.in-Some.ensures ∙ ap (λ (p : Bytes). revision_of fresh (FilesAt p) c.row.inside.node) c.as_slice-path.ensures ∙ ap (λ (v : RowValue). revision_of fresh (FilesAt v.path) v.node) c.row.view_is in
     brought-text fresh known row r is (fresh_revision c.in-Some.file.now) at
 
-pub returns-in-Some-shared_file_text : goal.returns-in-Some-shared_file_text
-returns-in-Some-shared_file_text c = λ r is.
+pub returns-in-Some-shared_text : goal.returns-in-Some-shared_text
+returns-in-Some-shared_text c = λ r is.
     let fresh = c.args.h.now.fresh in
     let known = c.args.known.now.hg in
     let row = c.args.row.now in
     let none = c.in-None.ensures ∙ ap (λ (p : Bytes). revision_of fresh (FilesAt p) c.row.inside.node) c.as_slice-path.ensures ∙ ap (λ (v : RowValue). revision_of fresh (FilesAt v.path) v.node) c.row.view_is in
-    let at = c.in-Some-shared_file_text.ensures.value ∙ ap (λ (p : Bytes). text_of known (FilesAt p) c.row.inside.node) c.as_slice-path.ensures ∙ ap (λ (v : RowValue). text_of known (FilesAt v.path) v.node) c.row.view_is in
-    stored-text fresh known row r is c.in-Some-shared_file_text.text.now none at
+    let at = c.in-Some-shared_text.ensures.value ∙ ap (λ (p : Bytes). text_of known (FilesAt p) c.row.inside.node) c.as_slice-path.ensures ∙ ap (λ (v : RowValue). text_of known (FilesAt v.path) v.node) c.row.view_is in
+    stored-text fresh known row r is c.in-Some-shared_text.text.now none at

@@ -1,4 +1,4 @@
-use Rattle.std.proofs.Common.{false, sym, ◌∙◌}
+use Rattle.std.proofs.Common.{sym, ◌∙◌}
 use Rattle.git_dump.proofs.FrontLemmas.{found, other-front, other-end}
 use Rattle.git_dump.proofs.front.behind.Goals as goal
 use Rattle.git_dump.proofs.front.behind.Goals.{else-eq-via-then-eq+else-last-end, else-eq-via-else-eq}

@@ -1,6 +1,6 @@
 use Rattle.std.proofs.Common.{[], ◌∷◌, ◌++◌, length, decimal, refl, ◌∙◌}
 use Rattle.text_model.specs.Text.{lf, sp}
-use Rattle.text_model.specs.Id.{hex, kind_word}
+use Rattle.text_model.specs.Id.{kind_word}
 use Rattle.bridge_text.specs.Kinds.{object_kind}
 use Rattle.git_dump.proofs.FrontLemmas.{text-is, lacks-a, lacks-b, lacks-c, last-part}
 use Rattle.git_dump.proofs.front.behind_object.Goals as goal

@@ -3,4 +3,4 @@ use Rattle.git_dump.proofs.ListedLemmas.{text_of}
 use Rattle.git_dump.proofs.listed.append_objects.Given as goal
 
 abbrev pub invariant-loop-id : goal.invariant-loop-id
-invariant-loop-id l = l.out.items ≡ l.initial.out.items ++ text_of l.store (take l.id-index l.ids)
+invariant-loop-id l = l.out ≡ l.initial.out ++ text_of l.store (take l.id-index l.ids)

@@ -1,4 +1,4 @@
-use Rattle.std.proofs.Common.{◌++◌, false, true≢false, take, sym, ap, ◌∙◌, append_assoc}
+use Rattle.std.proofs.Common.{◌++◌, true≢false, take, sym, ap, ◌∙◌, append_assoc}
 use Rattle.std.proofs.lemmas.List.{take_all}
 use Rattle.text_model.specs.Text.{Bytes}
 use Rattle.git_dump.proofs.ListedLemmas.{text_of, text_at, text-none, text-more, differs, at-end}

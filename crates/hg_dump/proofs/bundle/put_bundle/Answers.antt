@@ -1,7 +1,4 @@
-use Rattle.std.proofs.Common.{ap, ◌∙◌, ◌++◌}
 use Rattle.std.proofs.lemmas.Result.{on_ok_weaker}
-use Rattle.text_model.specs.Text.{Bytes}
-use Rattle.hg_model.specs.Chunk.{magic_text}
 use Rattle.hg_model.specs.Revision.{Changesets, Manifests, FilesAt}
 use Rattle.view_model.specs.Dump.{of_group}
 use Rattle.hg_dump.proofs.BundleLemmas.{of-list, behind-all}
@@ -19,14 +16,10 @@ returns-clause-ok c =
     (λ put rs are.
     let known = c.args.store.now in
     let b = c.args.brought.now in
-    let magic = c.in_ok-extend_from_slice.ensures.items ∙ ap (λ (l : Bytes). l ++ magic_text) c.reserve.ensures.items in
-    behind-all known b rs are c.in_ok-put_files.ensures.rising c.args.out.now.items
-    c.extend_from_slice.new.self.items c.put_group.new.out.items c.put_group-2.new.out.items c.put_files.new.out.items c.put_empty.new.out.items magic
+    behind-all known b rs are c.in_ok-put_files.ensures.rising c.args.out.now
+    c.put.new.self c.put_group.new.out c.put_group-2.new.out c.put_files.new.out c.put_empty.new.out c.in_ok-put.ensures.ok
     (c.in_ok-put_group.ensures.ok (of_group Changesets rs) (of-list known b rs are Changesets c.brought.result.now c.brought.ensures))
     (c.in_ok-put_group-2.ensures.ok (of_group Manifests rs) (of-list known b rs are Manifests c.brought-2.result.now c.brought-2.ensures))
     (c.in_ok-put_files.ensures.bytes rs (λ path. are (FilesAt path)))
     put)
     c.put_empty.ensures.ok
-
-pub bundle_len-requires : goal.bundle_len-requires
-bundle_len-requires c = c.requires

@@ -15,7 +15,7 @@ loop-path-init c =
     let gives = c.into_iter-path-iterator.ensures.into_iter_gives in
     let files = c.args.files.now in
     record {
-      written = λ rs are. ap (λ l. c.args.out.now.items ++ flat_map (file_part c.args.store.now rs) l) (ap (map (λ e. e.0.items)) gives.0 ∙ key-paths files.entries);
+      written = λ rs are. ap (λ l. c.args.out.now ++ flat_map (file_part c.args.store.now rs) l) (ap (map (λ e. e.0.items)) gives.0 ∙ key-paths files.entries);
       front = starts_with_of_eq _ _ refl;
       found = subst (Each (λ e. by_path files e.0.items ≡ Some e.1)) (sym gives.0) (to-each (λ e. by_path files e.0.items ≡ Some e.1) files.entries gives.6);
     }
@@ -37,9 +37,9 @@ loop-path-preserved c =
     record {
       written = λ rs are.
           let put = c.in_ok-put_file.ensures.ok (of_group (FilesAt c.as_slice.result.now) rs) (here known rs files key c.as_slice.result.now c.in-Some.references.now c.brought.result.now are found.0 c.as_slice.ensures.value c.brought.ensures) in
-          ap (λ (x : Bytes). x ++ flat_map (file_part known rs) (map (λ e. e.0.items) c.next.new.self)) (put ∙ ap (λ (p : Bytes). c.loop-path.out.items ++ file_part known rs p) c.as_slice.ensures.value)
-          ∙ append_assoc c.loop-path.out.items (file_part known rs key) (flat_map (file_part known rs) (map (λ e. e.0.items) c.next.new.self))
-          ∙ ap (λ l. c.loop-path.out.items ++ flat_map (file_part known rs) (map (λ e. e.0.items) l)) (sym c.in-Some.ensures.steps)
+          ap (λ (x : Bytes). x ++ flat_map (file_part known rs) (map (λ e. e.0.items) c.next.new.self)) (put ∙ ap (λ (p : Bytes). c.loop-path.out ++ file_part known rs p) c.as_slice.ensures.value)
+          ∙ append_assoc c.loop-path.out (file_part known rs key) (flat_map (file_part known rs) (map (λ e. e.0.items) c.next.new.self))
+          ∙ ap (λ l. c.loop-path.out ++ flat_map (file_part known rs) (map (λ e. e.0.items) l)) (sym c.in-Some.ensures.steps)
           ∙ c.loop-path.invariant.written rs are;
       front = starts_with_trans _ _ _ c.put_file.ensures.front c.loop-path.invariant.front;
       found = found.1;
@@ -52,8 +52,8 @@ returns c =
     let gives = c.into_iter-path-iterator.ensures.into_iter_gives in
     record {
       bytes = λ rs are.
-          sym (append-nil c.loop-path.out.items)
-          ∙ ap (λ l. c.loop-path.out.items ++ flat_map (file_part known rs) (map (λ e. e.0.items) l)) (sym c.in-None.ensures.steps.0)
+          sym (append-nil c.loop-path.out)
+          ∙ ap (λ l. c.loop-path.out ++ flat_map (file_part known rs) (map (λ e. e.0.items) l)) (sym c.in-None.ensures.steps.0)
           ∙ c.loop-path.invariant.written rs are;
       front = c.loop-path.invariant.front;
       rising = rising-keys files gives.5;

@@ -11,7 +11,7 @@ use Rattle.hg_dump.proofs.group.put_files.Given as goal
 abbrev pub invariant-loop-path : goal.invariant-loop-path
 invariant-loop-path l = record {
   written : (rs : List Revision) → AreFiles l.store l.files rs
-      → l.out.items ++ flat_map (file_part l.store rs) (map (λ e. e.0.items) l.path-iterator) ≡ l.fn.out.items ++ flat_map (file_part l.store rs) (paths_of l.files);
-  front : StartsWith l.out.items l.fn.out.items;
+      → l.out ++ flat_map (file_part l.store rs) (map (λ e. e.0.items) l.path-iterator) ≡ l.fn.out ++ flat_map (file_part l.store rs) (paths_of l.files);
+  front : StartsWith l.out l.fn.out;
   found : Each (λ e. by_path l.files e.0.items ≡ Some e.1) l.path-iterator;
 }

@@ -25,7 +25,7 @@ loop-reference-preserved c = record {
       let i = c.loop-reference.reference-index in
       let r = c.reference-item.result in
       let o = of-at known group c.args.references.now rs are i r (at-place c.args.references.now i r c.loop-reference-test.true c.reference-item.is) in
-      chunks-step c.loop-reference.out.items c.put_entry.new.out.items c.args.out.now.items (chunks_over (base_size known group rs) rs) c.loop-reference.base_len c.in_ok-base_len.base_len i rs o.revision o.at_place
+      chunks-step c.loop-reference.out c.put_entry.new.out c.args.out.now (chunks_over (base_size known group rs) rs) c.loop-reference.base_len c.in_ok-base_len.base_len i rs o.revision o.at_place
       (c.loop-reference.invariant.written rs are) (c.in_ok-base_len.ensures.entry o.revision o.is_of) (c.in_ok-base_len.ensures.len o.revision o.is_of);
   front = starts_with_trans _ _ _ c.put_entry.ensures.front c.loop-reference.invariant.front;
 }
@@ -41,8 +41,8 @@ returns-clause-ok c =
     let group = group_value c.args.group in
     let i = c.loop-reference.reference-index in
     let end : length rs ≤ i = omega (arith, of-length known group c.args.references.now rs are) in
-    let so_far = nothing-left rs i c.loop-reference.out.items c.args.out.now.items (chunks_over (base_size known group rs) rs) c.loop-reference.base_len end (c.loop-reference.invariant.written rs are) in
+    let so_far = nothing-left rs i c.loop-reference.out c.args.out.now (chunks_over (base_size known group rs) rs) c.loop-reference.base_len end (c.loop-reference.invariant.written rs are) in
     put ∙ ap (λ (x : Bytes). x ++ chunk_text []) so_far
-    ∙ append_assoc c.args.out.now.items (chunks_over (base_size known group rs) rs) (chunk_text [])
-    ∙ ap (λ (x : Bytes). c.args.out.now.items ++ x) (group-spelled known group rs))
+    ∙ append_assoc c.args.out.now (chunks_over (base_size known group rs) rs) (chunk_text [])
+    ∙ ap (λ (x : Bytes). c.args.out.now ++ x) (group-spelled known group rs))
     c.put_empty.ensures.ok

@@ -8,6 +8,6 @@ use Rattle.hg_dump.proofs.group.put_group.Given as goal
 abbrev pub invariant-loop-reference : goal.invariant-loop-reference
 invariant-loop-reference l = record {
   written : (rs : List Revision) → AreOf l.store (group_value l.group) l.references rs
-      → l.out.items ++ chunks_over l.base_len (drop l.reference-index rs) ≡ l.fn.out.items ++ chunks_over (base_size l.store (group_value l.group) rs) rs;
-  front : StartsWith l.out.items l.fn.out.items;
+      → l.out ++ chunks_over l.base_len (drop l.reference-index rs) ≡ l.fn.out ++ chunks_over (base_size l.store (group_value l.group) rs) rs;
+  front : StartsWith l.out l.fn.out;
 }

@@ -1,4 +1,4 @@
-use Rattle.std.proofs.Common.{ℕ, length, sym, subst, arith}
+use Rattle.std.proofs.Common.{ℕ, sym, subst, arith}
 use Rattle.hg_hunk.specs.Wholes.{IsWhole}
 use Rattle.hg_hunk.proofs.Wholes.{whole_is, is_read, not_cut, whole_long, whole_text, whole_patches}
 use Rattle.hg_hunk.proofs.patch.is_whole.Goals as goal

@@ -28,12 +28,18 @@ dump_git-requires g c = let t = c.in_ok-first.ensures.taken in record { stands =
 
 pub returns-clause-stream : goal.returns-clause-stream
 returns-clause-stream g c =
-    made-stream c.args.n c.args.seed c.in_ok-bundle.ensures.few c.in_ok-bundle.ensures.apart c.deref.result.now (c.in_ok-dump_git.field-0).items c.args.steps.now c.state_of_bundle.new.steps
-    c.in_ok-first.first (c.deref.ensures.value ∙ c.in_ok-bundle.ensures.ok) c.in_ok-first.ensures.taken c.in_ok-dump_git.ensures
+    rw c.in_ok-joined.ensures
+    (made-stream c.args.n c.args.seed c.in_ok-bundle.ensures.few c.in_ok-bundle.ensures.apart c.deref.result.now c.in_ok-stream.stream c.args.steps.now c.state_of_bundle.new.steps
+    c.in_ok-first.first (c.deref.ensures.value ∙ c.in_ok-bundle.ensures.ok) c.in_ok-first.ensures.taken c.in_ok-stream.ensures)
 
-pub returns-in_err-dump_git-clause-refused : goal.returns-in_err-dump_git-clause-refused
-returns-in_err-dump_git-clause-refused g c =
-    let p = err_from_is_err_and c.from_residual-in_err-dump_git.result c.from_residual-in_err-dump_git.ensures.1 in
+pub returns-in_err-stream-clause-refused : goal.returns-in_err-stream-clause-refused
+returns-in_err-stream-clause-refused g c =
+    let p = err_from_is_err_and c.from_residual-in_err-stream.result c.from_residual-in_err-stream.ensures.1 in
+    rw (p.1, p.2) tt
+
+pub returns-in_err-joined-clause-refused : goal.returns-in_err-joined-clause-refused
+returns-in_err-joined-clause-refused g c =
+    let p = err_from_is_err_and c.from_residual-in_err-joined.result c.from_residual-in_err-joined.ensures.1 in
     rw (p.1, p.2) tt
 
 pub returns-in_err-bundle-clause-names : goal.returns-in_err-bundle-clause-names
@@ -46,7 +52,12 @@ returns-in_err-first-clause-names g c =
     let p = err_from_is_err_and c.from_residual-in_err-first.result c.from_residual-in_err-first.ensures.1 in
     rw (p.1, p.2) c.in_err-first.ensures.names
 
-pub returns-in_err-dump_git-clause-names : goal.returns-in_err-dump_git-clause-names
-returns-in_err-dump_git-clause-names g c =
-    let p = err_from_is_err_and c.from_residual-in_err-dump_git.result c.from_residual-in_err-dump_git.ensures.1 in
+pub returns-in_err-stream-clause-names : goal.returns-in_err-stream-clause-names
+returns-in_err-stream-clause-names g c =
+    let p = err_from_is_err_and c.from_residual-in_err-stream.result c.from_residual-in_err-stream.ensures.1 in
+    rw (p.1, p.2) tt
+
+pub returns-in_err-joined-clause-names : goal.returns-in_err-joined-clause-names
+returns-in_err-joined-clause-names g c =
+    let p = err_from_is_err_and c.from_residual-in_err-joined.result c.from_residual-in_err-joined.ensures.1 in
     rw (p.1, p.2) tt

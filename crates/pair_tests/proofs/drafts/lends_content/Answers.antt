@@ -25,5 +25,5 @@ pub content_text-requires : goal.content_text-requires
 content_text-requires c =
     let git = c.args.known.now.git in
     let none = none-of _ c.get.result (object_at c.args.c.now.fresh c.args.id.now) c.get.ensures (sym c.is_some.ensures ∙ c.if-is_some.false) in
-    let at = some-of _ _ c.shared_content.result (object_at git c.args.id.now) c.shared_content.ensures.content (c.is_none.ensures ∙ ap not c.if-is_none.false) in
+    let at = some-of _ _ c.shared_object.result (object_at git c.args.id.now) c.shared_object.ensures.content (c.is_none.ensures ∙ ap not c.if-is_none.false) in
     record { held = held c.args.c.now.fresh git c.args.id.now none at }

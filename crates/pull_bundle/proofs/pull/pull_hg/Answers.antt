@@ -175,7 +175,7 @@ returns-clause-next g c =
     let next = c.in_ok-state.field-0 in
     let taken = c.in_ok-state.ensures.ok in
     rw (c.from_parts.ensures, sym c.into_parts-parts.ensures.parts)
-    (next-goes-on s t next list c.len-first_new.result c.keep.result c.len-first_new.ensures refer taken c.in_ok-check_left_over.ensures.ok (λ cs h. c.keep.ensures ∙ c.in_ok-made.ensures cs h) came read)
+    (next-goes-on s t next list c.len-first_new.result c.in_ok-made.made c.len-first_new.ensures refer taken c.in_ok-check_left_over.ensures.ok (λ cs h. c.in_ok-made.ensures cs h) came read)
 
 pub returns-clause-pulled : goal.returns-clause-pulled
 returns-clause-pulled g c =
@@ -188,4 +188,4 @@ returns-clause-pulled g c =
     let next = c.in_ok-state.field-0 in
     let taken = c.in_ok-state.ensures.ok in
     rw (c.from_parts.ensures, sym c.into_parts-parts.ensures.parts)
-    (pulled s t next list c.len-first_new.result c.keep.result c.len-first_new.ensures refer taken c.in_ok-check_left_over.ensures.ok (λ cs h. c.keep.ensures ∙ c.in_ok-made.ensures cs h) (g.S.Source.left c.args.src.now) told)
+    (pulled s t next list c.len-first_new.result c.in_ok-made.made c.len-first_new.ensures refer taken c.in_ok-check_left_over.ensures.ok (λ cs h. c.in_ok-made.ensures cs h) (g.S.Source.left c.args.src.now) told)

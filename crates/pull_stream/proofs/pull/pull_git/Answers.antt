@@ -103,7 +103,7 @@ returns-in_err-parts-2-clause-cause g c =
 pub returns-clause-pulled : goal.returns-clause-pulled
 returns-clause-pulled g c =
     let s = c.into_parts-parts.result in
-    let p : GitPulled = record { state = c.in_ok-parts-2.parts; arrivals = c.in_ok-parts.came; first_new = c.len-first_new.result; made = c.keep.result } in
+    let p : GitPulled = record { state = c.in_ok-parts-2.parts; arrivals = c.in_ok-parts.came; first_new = c.len-first_new.result; made = c.in_ok-made.made } in
     rw (c.from_parts.ensures, sym c.into_parts-parts.ensures.parts)
     (over-all s (g.S.Source.left c.args.src.now) (λ (blocks : List Block) (bytes : Bytes). PulledGit s blocks bytes p) (λ blocks all.
     let r = c.in_ok-parts.ensures.ready blocks all in
@@ -112,14 +112,14 @@ returns-clause-pulled g c =
     let count = count-is s blocks c.len-first_new.result all.state c.len-first_new.ensures in
     let saved = c.len-saved.ensures ∙ ap length c.as_list.ensures in
     let held = subst (λ (ids : List Id). AreChangesetsHeld p.state.known.hg ids (changesets_in (blocks ++ t.0))) (sym c.as_list-list.ensures) (held-nodes p.state (blocks ++ t.0) t.1.state.state) in
-    let made = c.keep.ensures ∙ c.in_ok-made.ensures (changesets_in (blocks ++ t.0)) held in
+    let made = c.in_ok-made.ensures (changesets_in (blocks ++ t.0)) held in
     some-map (g.S.Source.left c.args.src.now) (λ (bytes : Bytes). stream_reading s.known.git bytes ≡ Ok r.0) (λ (bytes : Bytes). PulledGit s blocks bytes p)
     (λ bytes reads. accepted s blocks all c.in_ok-parts.parts c.in_ok-parts.came c.in_ok-ordered.ordered r.0 o p refl t.0 t.1 count c.len-saved.result saved made bytes reads) r.2))
 
 pub returns-clause-next : goal.returns-clause-next
 returns-clause-next g c =
     let s = c.into_parts-parts.result in
-    let p : GitPulled = record { state = c.in_ok-parts-2.parts; arrivals = c.in_ok-parts.came; first_new = c.len-first_new.result; made = c.keep.result } in
+    let p : GitPulled = record { state = c.in_ok-parts-2.parts; arrivals = c.in_ok-parts.came; first_new = c.len-first_new.result; made = c.in_ok-made.made } in
     rw (c.from_parts.ensures, sym c.into_parts-parts.ensures.parts)
     (λ blocks all.
     let r = c.in_ok-parts.ensures.ready blocks all in
@@ -128,7 +128,7 @@ returns-clause-next g c =
     let count = count-is s blocks c.len-first_new.result all.state c.len-first_new.ensures in
     let saved = c.len-saved.ensures ∙ ap length c.as_list.ensures in
     let held = subst (λ (ids : List Id). AreChangesetsHeld p.state.known.hg ids (changesets_in (blocks ++ t.0))) (sym c.as_list-list.ensures) (held-nodes p.state (blocks ++ t.0) t.1.state.state) in
-    let made = c.keep.ensures ∙ c.in_ok-made.ensures (changesets_in (blocks ++ t.0)) held in
+    let made = c.in_ok-made.ensures (changesets_in (blocks ++ t.0)) held in
     goes-on s blocks all c.in_ok-parts.parts c.in_ok-parts.came c.in_ok-ordered.ordered r.0 o p refl t.0 t.1 count c.len-saved.result saved made c.in_ok-parts.ensures.tags c.in_ok-parts.ensures.names)
 
 pub returns-clause-held : goal.returns-clause-held

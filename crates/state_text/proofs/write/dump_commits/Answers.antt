@@ -10,5 +10,5 @@ write-requires-clause-commits c =
 
 pub returns : goal.returns
 returns c = IfOk-weaker c.write.result _ _
-    (λ bytes written m h. stream-is c.args.state.now m h c.known.result.now c.known.ensures c.commits.result.now bytes.items c.commits.ensures written)
+    (λ bytes written m h. stream-is c.args.state.now m h c.known.result.now c.known.ensures c.commits.result.now bytes c.commits.ensures written)
     c.write.ensures

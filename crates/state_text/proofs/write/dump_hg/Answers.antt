@@ -10,5 +10,5 @@ write-requires-clause-held c =
 
 pub returns : goal.returns
 returns c = IfOk-weaker c.write.result _ _
-    (λ bytes written m h. bundle-is c.args.state.now m h c.known.result.now c.known.ensures c.changesets.result.now bytes.items c.changesets.ensures written)
+    (λ bytes written m h. bundle-is c.args.state.now m h c.known.result.now c.known.ensures c.changesets.result.now bytes c.changesets.ensures written)
     c.write.ensures

@@ -9,10 +9,10 @@ use Rattle.state_text.proofs.write.put_tag.Goals as goal
 pub returns-in-Some : goal.returns-in-Some
 returns-in-Some c =
     let is : Some (object_kind c.in-Some.kind, c.in-Some.content.now) ≡ option_map {U = ObjectKind × List ℕ} (λ (o : Object). (o.kind, o.content)) (object_at c.args.store.now c.args.id.now) =
-    rw c.in-Some.is at c.content.ensures.content in
+    rw c.in-Some.is at c.shared_object.ensures.content in
     on_ok_weaker c.put_with_id.result
-    (λ written. put-same c.args.store.now c.args.id.now (object_kind c.in-Some.kind) c.in-Some.content.now c.args.out.now.items c.put_with_id.new.out.items is written)
+    (λ written. put-same c.args.store.now c.args.id.now (object_kind c.in-Some.kind) c.in-Some.content.now c.args.out.now c.put_with_id.new.out is written)
     c.put_with_id.ensures.ok
 
 pub returns-in-None : goal.returns-in-None
-returns-in-None c = λ o at. absurd (none-known c.args.store.now c.args.id.now o (rw c.in-None.is at c.content.ensures.content) at)
+returns-in-None c = λ o at. absurd (none-known c.args.store.now c.args.id.now o (rw c.in-None.is at c.shared_object.ensures.content) at)

@@ -5,4 +5,4 @@ use Rattle.state_text.specs.Stands.{AreAt}
 use Rattle.state_text.proofs.write.put_tags.Given as goal
 
 abbrev pub invariant-loop-id : goal.invariant-loop-id
-invariant-loop-id l = (objects : List Object) → AreAt l.store l.ids objects → l.out.items ≡ l.initial.out.items ++ stream_text (take l.id-index objects)
+invariant-loop-id l = (objects : List Object) → AreAt l.store l.ids objects → l.out ≡ l.initial.out ++ stream_text (take l.id-index objects)

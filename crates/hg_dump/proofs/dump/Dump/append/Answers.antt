@@ -9,5 +9,5 @@ put_bundle-requires c = (c.requires.1.revisions, c.requires.1.brought)
 pub returns-clause-ok : goal.returns-clause-ok
 returns-clause-ok c =
     on_ok_weaker c.put_bundle.result
-    (λ put text is. put is.revisions is.brought ∙ ap (λ (t : Bytes). c.args.out.now.items ++ t) (sym is.text_is))
+    (λ put text is. put is.revisions is.brought ∙ ap (λ (t : Bytes). c.args.out.now ++ t) (sym is.text_is))
     c.put_bundle.ensures.ok
