@@ -3,8 +3,8 @@
 Only deltas change: the texts and the nodes are the same. hg checks a node where it builds the text, which small deltas spare it; so each delta is tried here.
 """
 import io
-import itertools
 import operator
+import re
 import struct
 
 from repositories import Fault
@@ -14,6 +14,7 @@ HEADER = 80  # a node, its parents and its link node
 HUNK = struct.Struct('>III')
 TEXT = HEADER + HUNK.size  # where the text begins in an entry whose delta is one hunk
 NEAR = 256  # bytes that are compared as a number
+CHANGED = re.compile(b'\1+')  # rows of lines that differ
 
 
 def write_small(source, target, before_end=lambda: None):
@@ -101,16 +102,16 @@ def changes(place, old, new):
     """What differs between two pieces at this place: lines in a row with the beginning and the end of those that they replace. Where the pieces have as many
     lines, each is compared with the one in its row."""
     rows, others = lines_of(old), lines_of(new)
-    if len(rows) != len(others):
+    if len(rows) != len(others) or len(rows) == 1:
         yield place, place + len(old), new
         return
-    differs = list(map(operator.ne, rows, others))
-    places = list(itertools.accumulate(map(len, rows), initial=place))
-    for is_change, run in itertools.groupby(range(len(rows)), differs.__getitem__):
-        if is_change:
-            run = list(run)
-            first, last = run[0], run[-1]
-            yield places[first], places[last + 1], b''.join(others[first:last + 1])
+    row = 0
+    for run in CHANGED.finditer(bytes(map(operator.ne, rows, others))):
+        first, end = run.span()
+        start = place + sum(map(len, rows[row:first]))
+        place = start + sum(map(len, rows[first:end]))
+        yield start, place, b''.join(others[first:end])
+        row = end
 
 
 def lines_of(piece):
@@ -126,7 +127,7 @@ def common(one, other, most):
     low, high = 0, most
     while high - low > NEAR:
         middle = (low + high) // 2
-        if one[low:middle] == other[low:middle]:
+        if other.startswith(one[low:middle], low):
             low = middle
         else:
             high = middle
@@ -139,7 +140,7 @@ def common_end(one, other, most):
     end, other_end = len(one), len(other)
     while high - low > NEAR:
         middle = (low + high) // 2
-        if one[end - middle:end - low] == other[other_end - middle:other_end - low]:
+        if other.endswith(one[end - middle:end - low], 0, other_end - low):
             low = middle
         else:
             high = middle
