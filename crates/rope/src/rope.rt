@@ -15,12 +15,17 @@ const BLOCK_LEN: usize = 1 << 16;
 
 /// A text in pieces that grows at its end: short pieces are copied, one behind the other, and long ones that have an owner already get another one.
 /// Contracts see its bytes.
-#[derive(Drop)]
 pub struct Rope {
     pieces: Vec<Bytes>,
     // What was copied behind the last piece.
     tail: BytesMut,
     alloc: Global,
+}
+
+impl Drop for Rope {
+    fn drop(self) {
+        let Rope { pieces: _, tail: _, alloc: _ } = self;
+    }
 }
 
 impl Model for Rope {
