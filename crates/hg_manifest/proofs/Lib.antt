@@ -1,3 +1,4 @@
 pub mod LineTurns
 pub mod ReadLemmas
 pub mod CursorLemmas
+pub mod NearLemmas

@@ -1,14 +1,16 @@
 -- How far a text is read: what was read, and what is left to judge.
-use Rattle.std.proofs.Common.{◌≡◌, ◌+◌, ◌-◌, ◌<◌, ℕ, true, false, List, [], ◌∷◌, ◌++◌, length, Option, Some, None, refl, sym, ap, subst, ◌∙◌, append_assoc, arith, map, IsTrue}
-use Rattle.std.proofs.lemmas.List.{length-append, append-nil, map-append}
+use Rattle.std.proofs.Common.{◌≡◌, ◌+◌, ◌-◌, ◌<◌, ◌≤◌, ℕ, true, false, List, [], ◌∷◌, ◌++◌, length, take, drop, Option, Some, None, refl, sym, ap, subst, ◌∙◌, append_assoc, arith, map, IsTrue}
+use Rattle.std.specs.Prelude.{slice_range}
+use Rattle.std.proofs.lemmas.List.{length-append, append-nil, map-append, take_at, drop_at}
 use Rattle.text_model.specs.Text.{Bytes, IsBytes, whole_lines}
-use Rattle.hg_model.specs.Manifest.{ManifestEntry, entry_text, manifest_text, IsManifest, IsManifestText, ManifestFault, BadLine, UnfitPath, last_path, rises_above, entry_of_line, entry_fault, path_of_line, lines_fault, manifest_fault}
-use Rattle.text_model.specs.Id.{IsId}
+use Rattle.hg_model.specs.Manifest.{ManifestEntry, flag_text, entry_text, manifest_text, IsManifest, IsManifestText, ManifestFault, BadLine, UnfitPath, last_path, rises_above, entry_of_line, entry_fault, path_of_line, lines_fault, manifest_fault}
+use Rattle.text_model.specs.Id.{IsId, hex}
 use Rattle.text_model.specs.Path.{is_fit_path}
 use Rattle.hg_manifest.specs.declared.entry.Entry.{Entry}
 use Rattle.hg_manifest.specs.Values.{manifest_entry}
+use Rattle.hg_manifest.specs.Near.{IsFit}
 use Rattle.text_model.proofs.ByteLemmas.{IsBytes-front, IsBytes-rest}
-use Rattle.hg_model.proofs.EntryLemmas.{entry_of_line-takes, at_nul, path_of_line-text, is_fit_path-plain}
+use Rattle.hg_model.proofs.EntryLemmas.{entry_of_line-text, entry_of_line-takes, at_nul, path_of_line-text, whole_lines-text, is_fit_path-plain}
 use Rattle.hg_model.proofs.ManifestLemmas.{IsManifest-push, manifest_text-none, manifest_text-push, last_path-push, entry_fault-fits, entry_fault-falls, entry_fault-unfit, lines_fault-bad, lines_fault-fits}
 
 -- the entries are the lines before the rest, and the fault of the text is that of the rest
@@ -80,6 +82,37 @@ module _ (text : Bytes) (last : Option Bytes) (entries : List ManifestEntry) (re
             r.fault ∙ ap (lines_fault last (length text - length rest)) l.lines ∙ lines_fault-fits last (length text - length rest) line (whole_lines after) fits
             ∙ (λ i. lines_fault (Some (path i)) (at i) (whole_lines after));
       }
+
+  -- the part of the text that is the path of the line
+  pub path_within : (e : ManifestEntry) → Some e ≡ entry_of_line line → length text - length rest + length e.path ≤ length text
+  path_within e reads =
+      let spelled = entry_of_line-takes line e (sym reads) in
+      let long : length line ≡ length e.path + length (0 ∷ (hex e.node ++ (flag_text e.flag ++ 10 ∷ []))) = ap (λ (x : Bytes). length x) (spelled.whole ∙ at_nul e) ∙ length-append e.path (0 ∷ (hex e.node ++ (flag_text e.flag ++ 10 ∷ []))) in
+      omega (arith, long, ap (λ (x : Bytes). length x) r.whole, length-append (manifest_text entries) rest, ap (λ (x : Bytes). length x) l.whole, length-append line after)
+
+  pub path_is : (e : ManifestEntry) → Some e ≡ entry_of_line line → slice_range text (length text - length rest) (length text - length rest + length e.path) ≡ e.path
+  path_is e reads =
+      let spelled = entry_of_line-takes line e (sym reads) in
+      let tail : Bytes = 0 ∷ (hex e.node ++ (flag_text e.flag ++ 10 ∷ [])) in
+      let at : length (manifest_text entries) ≡ length text - length rest = omega (arith, ap (λ (x : Bytes). length x) r.whole, length-append (manifest_text entries) rest) in
+      let dropped : drop (length text - length rest) text ≡ rest = ap (λ (x : Bytes). drop (length text - length rest) x) r.whole ∙ drop_at (manifest_text entries) rest (length text - length rest) at in
+      let begins : rest ≡ e.path ++ (0 ∷ (hex e.node ++ (flag_text e.flag ++ 10 ∷ [])) ++ after) = l.whole ∙ ap (λ (x : Bytes). x ++ after) (spelled.whole ∙ at_nul e) ∙ append_assoc e.path (0 ∷ (hex e.node ++ (flag_text e.flag ++ 10 ∷ []))) after in
+      let long : length e.path ≡ length text - length rest + length e.path - (length text - length rest) = omega arith in
+      ap (λ (x : Bytes). take (length text - length rest + length e.path - (length text - length rest)) x) (dropped ∙ begins)
+      ∙ take_at e.path (0 ∷ (hex e.node ++ (flag_text e.flag ++ 10 ∷ [])) ++ after) (length text - length rest + length e.path - (length text - length rest)) long
+
+-- one entry more, whose line is that of an entry which a manifest may have
+pub goes_near : (text : Bytes) (last : Option Bytes) (entries : List ManifestEntry) (rest after : Bytes) (e : ManifestEntry) → IsReadTo text last entries rest → rest ≡ entry_text e ++ after → IsFit e
+    → rises_above last e.path ≡ true → IsReadTo text (Some e.path) (entries ++ e ∷ []) after
+goes_near text last entries rest after e r begins is above =
+    let plain = is_fit_path-plain e.path is.0 in
+    let long : length (entry_text e) ≡ length e.path + length (0 ∷ (hex e.node ++ (flag_text e.flag ++ 10 ∷ []))) = ap (λ (x : Bytes). length x) (at_nul e) ∙ length-append e.path (0 ∷ (hex e.node ++ (flag_text e.flag ++ 10 ∷ []))) in
+    let l : IsLineOf rest (entry_text e) after = record {
+      lines = ap whole_lines begins ∙ whole_lines-text e after plain.no_lf is.2;
+      whole = begins;
+      some = omega (arith, long);
+    } in
+    goes_on text last entries rest (entry_text e) after r l e (sym (entry_of_line-text e plain.no_nul is.2)) above is.0
 
 -- an entry put behind the others
 pub pushed : (items new : List Entry) (e : Entry) → new ≡ items ++ e ∷ [] → IsManifest (map manifest_entry items)

@@ -1,4 +1,7 @@
-use bridge_text::{Bytes, Id};
+ghost use Rattle.std.specs.Prelude.{◌≡◌, IfOk};
+
+use bridge_text::{Id, NoMemory};
+use shared_text::{Text, again};
 
 /// What kind of file an entry is.
 #[derive(Clone, Copy, Debug, PartialEq, Eq)]
@@ -11,10 +14,23 @@ pub enum Flag {
     Link,
 }
 
-/// A file of a manifest: its path, the node of its revision, and what kind of file it is.
-#[derive(Debug, Drop)]
+/// A file of a manifest: its path, which is a part of the text of a manifest, the node of its revision, and what kind of file it is.
+#[derive(Drop)]
 pub struct Entry {
-    pub path: Bytes,
+    pub path: Text,
     pub node: Id,
     pub flag: Flag,
+}
+
+impl Entry {
+    /// The same entry once more, with no copy of the path.
+    pub fn again(&self) -> Result<Entry, NoMemory>
+        ensures { IfOk result (λ entry. entry ≡ self.now) }
+    {
+        Ok(Entry {
+            path: again(&self.path)?,
+            node: self.node,
+            flag: self.flag,
+        })
+    }
 }

@@ -8,6 +8,7 @@ mod law;
 mod line;
 mod lines;
 mod list;
+mod near;
 mod rev;
 
 pub use cursor::Cursor;
@@ -16,4 +17,5 @@ pub use fault::ManifestFault;
 pub use law::reads_exactly;
 pub use lines::{line_len, put_line};
 pub use list::Manifest;
+pub use near::Near;
 pub use rev::ManifestRev;

@@ -1,4 +1,4 @@
-ghost use Rattle.std.specs.Prelude.{◌≡◌, ◌==◌, ◌<◌, ◌++◌, [], ◌∷◌, length, slice_get, Some, MatchResult, OnOk, OnErr, IfOk, IsTrue, option_map, find, bytes_eq};
+ghost use Rattle.std.specs.Prelude.{◌≡◌, ◌==◌, ◌<◌, ◌++◌, [], ◌∷◌, length, slice_get, Some, MatchResult, OnOk, OnErr, IfOk, IsTrue, map, option_map, find, bytes_eq};
 ghost use Rattle.std.specs.Option.{option_copied};
 ghost use Rattle.std.specs.Ordering.{nat_cmp};
 ghost use Rattle.std.specs.Cmp.Lexicographic.{slice_cmp};
@@ -10,7 +10,9 @@ use crate::entry::Entry;
 use crate::fault::ManifestFault;
 use crate::line::read_line;
 use crate::lines::put_lines;
-use bridge_text::{Bytes, NoMemory, each_is_byte, first_line, fit_path};
+use crate::near::Near;
+use bridge_text::{NoMemory, each_is_byte, first_line, fit_path};
+use shared_text::{Text, part};
 use std::alloc::Global;
 use std::cmp::Ordering;
 use std::marker::Model;
@@ -19,7 +21,7 @@ use std::marker::Model;
 const SHORTEST_LINE: usize = 43;
 
 /// The entries of a manifest, whose paths are fit and rise strictly as bytes. Contracts see the list.
-#[derive(Debug, Drop)]
+#[derive(Drop)]
 pub struct Manifest {
     entries: Vec<Entry>,
 }
@@ -48,32 +50,42 @@ impl Manifest {
 
     /// The manifest whose text this is. The lines are a path, NUL, the 40 lower case hex digits of a node, nothing or `x` or `l`, and LF;
     /// their paths rise strictly as bytes and are fit. The first line that doesn't fit decides the fault, and on one line Shape comes before PathUnfit.
-    /// Memory comes where memory runs out.
-    pub fn read(alloc: Global, text: &[u8]) -> Result<Manifest, ManifestFault>
+    /// Memory comes where memory runs out. Where most lines are those of another manifest, as of a parent's, they are read the faster near that one.
+    pub fn read(alloc: Global, text: &Text, near: Near<'_>) -> Result<Manifest, ManifestFault>
         ensures { MatchResult result (IsManifestText text.now) (IsFault text.now) }
     {
-        let mut manifest = room_for(alloc, text)?;
+        let mut manifest = room_for(alloc, text.as_slice())?;
+        let mut near = near;
         let mut last = None;
-        let mut rest = text;
+        let mut rest = text.as_slice();
         while !rest.is_empty() {
             let place = text.len() - rest.len();
-            let (line, after) = first_line(rest);
-            let Some(line) = read_line(line) else {
-                return Err(ManifestFault::Shape(place));
-            };
-            if !rises_above(last, line.path) {
-                return Err(ManifestFault::Shape(place));
+            if let Some((entry, after)) = near.take(rest)
+                && rises_above(last, entry.path.as_slice())
+            {
+                manifest.push(entry.again()?)?;
+                last = Some(entry.path.as_slice());
+                rest = after;
+            } else {
+                let (line, after) = first_line(rest);
+                let Some(line) = read_line(line) else {
+                    return Err(ManifestFault::Shape(place));
+                };
+                if !rises_above(last, line.path) {
+                    return Err(ManifestFault::Shape(place));
+                }
+                if !fit_path(line.path) {
+                    return Err(ManifestFault::PathUnfit(place));
+                }
+                near.pass(line.path);
+                manifest.push(Entry {
+                    path: part(text, place..place + line.path.len())?,
+                    node: line.node,
+                    flag: line.flag,
+                })?;
+                last = Some(line.path);
+                rest = after;
             }
-            if !fit_path(line.path) {
-                return Err(ManifestFault::PathUnfit(place));
-            }
-            manifest.push(Entry {
-                path: Bytes::of(alloc, line.path)?,
-                node: line.node,
-                flag: line.flag,
-            })?;
-            last = Some(line.path);
-            rest = after;
         }
         manifest.entries.shrink_to_fit();
         Ok(manifest)
@@ -96,6 +108,14 @@ impl Manifest {
         ensures { IsManifest self.now }
     {
         let _entries = &self.entries;
+    }
+
+    // The entries.
+    pub(crate) fn entries(&self) -> &[Entry]
+        ensures entries { map manifest_entry result.now ≡ self.now }
+        ensures manifest { IsManifest self.now }
+    {
+        &self.entries
     }
 
     /// How many entries there are. They are those of a manifest.

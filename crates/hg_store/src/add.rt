@@ -14,6 +14,7 @@ use crate::held::Parsed;
 use crate::parse::parse;
 use crate::store::HgStore;
 use bridge_text::{Added, Id, node_id};
+use hg_manifest::Near;
 use shared_text::Text;
 
 impl HgStore {
@@ -232,11 +233,33 @@ impl HgStore {
         ensures value { IfOk result (HasValue (group_value addition.now.group) addition.now.text) }
         ensures fault { IfErr result (IsFault (text_fault self.now (revision_value addition.now))) }
     {
-        let parsed = parse(self.alloc(), addition.group, addition.text.as_slice(), blob)?;
+        let near = self.near(addition);
+        let parsed = parse(self.alloc(), addition.group, &addition.text, blob, near)?;
         if self.is_taken(addition) {
             return Err(AddFault::Collision);
         }
         Ok(parsed)
+    }
+
+    // The lines of the manifest of the first parent, where the addition is a manifest and has one.
+    fn near(&self, addition: &Addition<'_>) -> Near<'_> {
+        match addition.group {
+            Group::Changesets => Near::none(),
+            Group::Manifests => self.lines_of(&addition.p),
+            Group::FilesAt(_) => Near::none(),
+        }
+    }
+
+    // The lines of a manifest, if it is known.
+    fn lines_of(&self, node: &Id) -> Near<'_> {
+        let Some(held) = self.get(Group::Manifests, node) else {
+            return Near::none();
+        };
+        match &held.parsed {
+            Parsed::Changeset(_) => Near::none(),
+            Parsed::Manifest(manifest) => Near::of(manifest, held.text.as_slice()),
+            Parsed::File(_) => Near::none(),
+        }
     }
 
     // Whether the node is null or known.

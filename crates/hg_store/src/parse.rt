@@ -12,15 +12,18 @@ use crate::held::Parsed;
 use bridge_text::{Id, Kind, object_id};
 use hg_changeset::{Changeset, ChangesetFault};
 use hg_filelog::split;
-use hg_manifest::{Manifest, ManifestFault};
+use hg_manifest::{Manifest, ManifestFault, Near};
+use shared_text::Text;
 use std::alloc::Global;
 
-// What a text of a group says. Where the id that a file's body has as a Git blob is given, nothing is hashed.
+// What a text of a group says. Where the id that a file's body has as a Git blob is given, nothing is hashed. A manifest is read near another
+// one, if there is one.
 pub fn parse(
     alloc: Global,
     group: Group<'_>,
-    text: &[u8],
+    text: &Text,
     blob: Option<Id>,
+    near: Near<'_>,
 ) -> Result<Parsed, AddFault>
     requires blob { IfSome blob (HasBlob text.now) }
     ensures shape { OnOk result (shape_fault (group_value group.entry) text.now ≡ None) }
@@ -28,9 +31,9 @@ pub fn parse(
     ensures fault { IfErr result (IsFault (shape_fault (group_value group.entry) text.now)) }
 {
     match group {
-        Group::Changesets => parse_changeset(alloc, text),
-        Group::Manifests => parse_manifest(alloc, text),
-        Group::FilesAt(_) => Ok(Parsed::File(blob_of(text, blob)?)),
+        Group::Changesets => parse_changeset(alloc, text.as_slice()),
+        Group::Manifests => parse_manifest(alloc, text, near),
+        Group::FilesAt(_) => Ok(Parsed::File(blob_of(text.as_slice(), blob)?)),
     }
 }
 
@@ -46,12 +49,12 @@ fn parse_changeset(alloc: Global, text: &[u8]) -> Result<Parsed, AddFault>
     }
 }
 
-fn parse_manifest(alloc: Global, text: &[u8]) -> Result<Parsed, AddFault>
+fn parse_manifest(alloc: Global, text: &Text, near: Near<'_>) -> Result<Parsed, AddFault>
     ensures shape { OnOk result (shape_fault Manifests text.now ≡ None) }
     ensures value { IfOk result (HasValue Manifests text.now) }
     ensures fault { IfErr result (IsFault (shape_fault Manifests text.now)) }
 {
-    match Manifest::read(alloc, text) {
+    match Manifest::read(alloc, text, near) {
         Ok(manifest) => Ok(Parsed::Manifest(manifest)),
         Err(ManifestFault::Shape(_)) => Err(AddFault::ManifestShape),
         Err(ManifestFault::PathUnfit(_)) => Err(AddFault::PathUnfit),

@@ -1,6 +1,7 @@
 // Texts of manifests.
-use bridge_text::{Bytes, Id, fit_path};
-use hg_manifest::{Cursor, Entry, Flag, Manifest, ManifestFault};
+use bridge_text::{Id, fit_path};
+use hg_manifest::{Cursor, Entry, Flag, Manifest, ManifestFault, Near};
+use shared_text::{Text, keep};
 use std::alloc::Global;
 use std::process::Abort;
 use std::test::Fail;
@@ -27,6 +28,27 @@ const CASES: &[Case] = &[
     Case {
         text: THREE,
         answer: Ok(3),
+    },
+    // A line of the three is lacking, another node stands in one, and one more stands between two of them.
+    Case {
+        text: b"a/b\01111111111111111111111111111111111111111l\nb\01111111111111111111111111111111111111111\n",
+        answer: Ok(2),
+    },
+    Case {
+        text: b"a\02222222222222222222222222222222222222222x\na/b\01111111111111111111111111111111111111111l\n",
+        answer: Ok(2),
+    },
+    Case {
+        text: b"a\01111111111111111111111111111111111111111x\na-\01111111111111111111111111111111111111111\na/b\01111111111111111111111111111111111111111l\n",
+        answer: Ok(3),
+    },
+    Case {
+        text: b"b\01111111111111111111111111111111111111111\na\01111111111111111111111111111111111111111x\n",
+        answer: Err(ManifestFault::Shape(43)),
+    },
+    Case {
+        text: b"a\01111111111111111111111111111111111111111x\na\01111111111111111111111111111111111111111x\n",
+        answer: Err(ManifestFault::Shape(44)),
     },
     Case {
         text: b"\n",
@@ -105,8 +127,8 @@ fn is_appended(alloc: Global, manifest: &Manifest, text: &[u8]) -> Result<bool, 
     Ok(out.strip_prefix(b"front ") == Some(text))
 }
 
-fn is_answered(alloc: Global, case: &Case) -> Result<bool, Fail> {
-    match Manifest::read(alloc, case.text) {
+fn is_answered(alloc: Global, case: &Case, near: Near<'_>) -> Result<bool, Fail> {
+    match Manifest::read(alloc, &text(alloc, case.text)?, near) {
         Ok(manifest) => {
             let is_appended = is_appended(alloc, &manifest, case.text)?;
             Ok(is_appended && case.answer == Ok(manifest.len()))
@@ -115,10 +137,26 @@ fn is_answered(alloc: Global, case: &Case) -> Result<bool, Fail> {
     }
 }
 
+fn text(alloc: Global, bytes: &[u8]) -> Result<Text, Fail> {
+    Ok(keep(bytes.to_vec(alloc)?)?)
+}
+
 #[test]
 fn texts_read_and_write(rt: HostRuntime) -> Result<(), Fail> {
     for (i, case) in CASES.iter().enumerate() {
-        let is_answered = is_answered(rt.alloc(), case)?;
+        let is_answered = is_answered(rt.alloc(), case, Near::none())?;
+        assert!(rt; is_answered, "at {i}");
+    }
+    Ok(())
+}
+
+// The answers are the same near a manifest that has some of the lines.
+#[test]
+fn texts_near_others(rt: HostRuntime) -> Result<(), Fail> {
+    let three = text(rt.alloc(), THREE)?;
+    let other = Manifest::read(rt.alloc(), &three, Near::none()).map_err(|_| "a manifest")?;
+    for (i, case) in CASES.iter().enumerate() {
+        let is_answered = is_answered(rt.alloc(), case, Near::of(&other, three.as_slice()))?;
         assert!(rt; is_answered, "at {i}");
     }
     Ok(())
@@ -164,7 +202,8 @@ fn has_any(manifest: &Manifest, paths: &[&[u8]]) -> bool {
 
 #[test]
 fn entries_by_place_and_path(rt: HostRuntime) -> Result<(), Fail> {
-    let manifest = Manifest::read(rt.alloc(), THREE).map_err(|_| "a manifest")?;
+    let three = text(rt.alloc(), THREE)?;
+    let manifest = Manifest::read(rt.alloc(), &three, Near::none()).map_err(|_| "a manifest")?;
     assert!(rt; manifest.len() == ROWS.len() && !manifest.is_empty());
     for (i, row) in ROWS.iter().enumerate() {
         assert!(rt; is_row(manifest.at(i), row) && has_row_at(&manifest, row));
@@ -177,13 +216,14 @@ fn entries_by_place_and_path(rt: HostRuntime) -> Result<(), Fail> {
 fn with_entry(rt: &impl Abort, alloc: Global) -> Result<Manifest, Fail> {
     let mut manifest = Manifest::new(alloc);
     assert!(rt; manifest.is_empty());
-    let path = Bytes::of(alloc, b"a")?;
+    let path = text(alloc, b"a")?;
     assert!(rt; fit_path(path.as_slice()));
-    manifest.push(Entry {
+    let entry = Entry {
         path,
         node: Id::NULL,
         flag: Flag::Exec,
-    })?;
+    };
+    manifest.push(entry.again()?)?;
     Ok(manifest)
 }
 
@@ -207,7 +247,8 @@ const LINES: [(&[u8], u8, bool); 5] = [
 
 #[test]
 fn lines_by_a_cursor(rt: HostRuntime) -> Result<(), Fail> {
-    let manifest = Manifest::read(rt.alloc(), THREE).map_err(|_| "a manifest")?;
+    let three = text(rt.alloc(), THREE)?;
+    let manifest = Manifest::read(rt.alloc(), &three, Near::none()).map_err(|_| "a manifest")?;
     let mut cursor = Cursor::new(&manifest);
     for (path, byte, want) in LINES {
         assert!(rt; cursor.has_line(path, &Id::new([byte; 20])) == want);

@@ -2,9 +2,10 @@
 use crate::sides::{NULL, Revision, id, store_of};
 use bridge_text::{Bytes, Id};
 use file_rule::{is_plain, is_ruled, parents_over};
-use hg_manifest::{Flag, Manifest};
+use hg_manifest::{Flag, Manifest, Near};
 use hg_store::{Group, HgStore};
 use pair_known::HgRow;
+use shared_text::keep;
 use std::alloc::Global;
 use std::test::Fail;
 
@@ -44,7 +45,7 @@ fn manifest_of(alloc: Global, path: &[u8], node: &[u8]) -> Result<Manifest, Fail
         text.extend_from_slice(node)?;
         text.push(b'\n')?;
     }
-    Ok(Manifest::read(alloc, text.as_slice()).map_err(|_| "a manifest")?)
+    Ok(Manifest::read(alloc, &keep(text)?, Near::none()).map_err(|_| "a manifest")?)
 }
 
 fn row_of(alloc: Global, store: &HgStore, path: &[u8], node: Id) -> Result<HgRow, Fail> {

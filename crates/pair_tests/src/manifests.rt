@@ -2,10 +2,11 @@
 use crate::sides::{NULL, Revision, id, store_of};
 use bridge_text::{Bytes, Id, Paths};
 use file_rule::Parent;
-use hg_manifest::{Entry, Manifest, ManifestRev};
+use hg_manifest::{Entry, Manifest, ManifestRev, Near};
 use hg_store::{Group, HgStore};
 use manifest_rule::{are_same_paths, is_ruled_manifest, lines_fit, make_manifest, ruled_files};
 use pair_known::{HgRow, HgRows};
+use shared_text::keep;
 use std::alloc::Global;
 use std::test::Fail;
 
@@ -25,7 +26,7 @@ fn manifest_of(alloc: Global, files: &[File]) -> Result<Manifest, Fail> {
     for (path, digit, flag) in files {
         put_line(&mut text, path, *digit, flag)?;
     }
-    Ok(Manifest::read(alloc, text.as_slice()).map_err(|_| "a manifest")?)
+    Ok(Manifest::read(alloc, &keep(text)?, Near::none()).map_err(|_| "a manifest")?)
 }
 
 fn row_of(alloc: Global, entry: &Entry) -> Result<HgRow, Fail> {

@@ -24,7 +24,11 @@ pub struct Rope {
 
 impl Drop for Rope {
     fn drop(self) {
-        let Rope { pieces: _, tail: _, alloc: _ } = self;
+        let Rope {
+            pieces: _,
+            tail: _,
+            alloc: _,
+        } = self;
     }
 }
 

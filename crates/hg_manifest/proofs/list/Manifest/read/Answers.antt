@@ -1,30 +1,55 @@
-use Rattle.std.proofs.Common.{sym, arith}
+use Rattle.std.proofs.Common.{sym, ap, subst, arith, ◌∙◌}
+use Rattle.text_model.specs.Text.{Bytes, IsBytes}
 use Rattle.text_model.proofs.ByteLemmas.{IsBytes-by_index}
-use Rattle.hg_manifest.proofs.ReadLemmas.{IsLineOf, at_start, no_entry, falls, unfit, goes_on}
+use Rattle.std.specs.Option.{option_copied}
+use Rattle.hg_model.specs.Manifest.{rises_above}
+use Rattle.hg_manifest.specs.Values.{manifest_entry}
+use Rattle.hg_manifest.proofs.ReadLemmas.{IsLineOf, at_start, no_entry, falls, unfit, goes_on, goes_near, path_within, path_is}
 use Rattle.hg_manifest.proofs.list.Manifest.read.Goals as goal
 
-pub loop-last-init : goal.loop-last-init
-loop-last-init c = rw c.in_ok-manifest.ensures (at_start c.args.text.now (IsBytes-by_index c.args.text.now (λ i. omega (arith, c.type_inv.text i))))
+pub loop-near-init : goal.loop-near-init
+loop-near-init c =
+    let fits = subst (λ (x : Bytes). IsBytes x) c.as_slice-rest.ensures (IsBytes-by_index c.as_slice-rest.result.now (λ i. omega (arith, c.type_inv.rest i))) in
+    rw (c.in_ok-manifest.ensures, c.as_slice-rest.ensures) (at_start c.args.text.now fits)
+
+pub loop-near-preserved-in-loop-near : goal.loop-near-preserved-in-loop-near
+loop-near-preserved-in-loop-near c =
+    rw (c.as_slice-in-loop-near-2.ensures, c.in_ok-push.ensures.ok, c.in_ok-again.ensures)
+    (goes_near c.args.text.now _ c.loop-near.manifest c.loop-near.rest.now c.in-Some.after.now (manifest_entry c.in-Some.entry.now) c.loop-near.invariant c.in-Some.ensures.0 c.in-Some.ensures.1
+    (ap (λ (p : Bytes). rises_above (option_copied c.loop-near.last) p) (sym c.as_slice-in-loop-near.ensures) ∙ sym c.if-rises_above.ensures))
 
 pub returns-in_default : goal.returns-in_default
 returns-in_default c =
-    let line = c.first_line.result.0.now in
-    let after = c.first_line.result.1.now in
-    let l : IsLineOf c.loop-last.rest.now c.first_line.result.0.now c.first_line.result.1.now = record { lines = c.first_line.ensures.lines; whole = c.first_line.ensures.whole; some = c.first_line.ensures.some } in
-    no_entry c.args.text.now _ c.loop-last.manifest c.loop-last.rest.now c.first_line.result.0.now c.first_line.result.1.now c.loop-last.invariant l c.in_default.ensures
+    let l : IsLineOf c.loop-near.rest.now c.first_line.result.0.now c.first_line.result.1.now = record { lines = c.first_line.ensures.lines; whole = c.first_line.ensures.whole; some = c.first_line.ensures.some } in
+    rw (c.len.ensures.value) (no_entry c.args.text.now _ c.loop-near.manifest c.loop-near.rest.now c.first_line.result.0.now c.first_line.result.1.now c.loop-near.invariant l c.in_default-2.ensures)
 
 pub returns-then-not-rises_above : goal.returns-then-not-rises_above
 returns-then-not-rises_above c =
-    let l : IsLineOf c.loop-last.rest.now c.first_line.result.0.now c.first_line.result.1.now = record { lines = c.first_line.ensures.lines; whole = c.first_line.ensures.whole; some = c.first_line.ensures.some } in
-    falls c.args.text.now _ c.loop-last.manifest c.loop-last.rest.now c.first_line.result.0.now c.first_line.result.1.now c.loop-last.invariant l _ c.in-Some.ensures (sym c.if-not-rises_above.ensures)
+    let l : IsLineOf c.loop-near.rest.now c.first_line.result.0.now c.first_line.result.1.now = record { lines = c.first_line.ensures.lines; whole = c.first_line.ensures.whole; some = c.first_line.ensures.some } in
+    rw (c.len.ensures.value) (falls c.args.text.now _ c.loop-near.manifest c.loop-near.rest.now c.first_line.result.0.now c.first_line.result.1.now c.loop-near.invariant l _ c.in-Some-read_line.ensures (sym c.if-not-rises_above.ensures))
 
 pub returns-then-not-fit_path : goal.returns-then-not-fit_path
 returns-then-not-fit_path c =
-    let l : IsLineOf c.loop-last.rest.now c.first_line.result.0.now c.first_line.result.1.now = record { lines = c.first_line.ensures.lines; whole = c.first_line.ensures.whole; some = c.first_line.ensures.some } in
-    unfit c.args.text.now _ c.loop-last.manifest c.loop-last.rest.now c.first_line.result.0.now c.first_line.result.1.now c.loop-last.invariant l _ c.in-Some.ensures (sym c.if-not-rises_above.ensures) (sym c.if-not-fit_path.ensures)
+    let l : IsLineOf c.loop-near.rest.now c.first_line.result.0.now c.first_line.result.1.now = record { lines = c.first_line.ensures.lines; whole = c.first_line.ensures.whole; some = c.first_line.ensures.some } in
+    rw (c.len.ensures.value) (unfit c.args.text.now _ c.loop-near.manifest c.loop-near.rest.now c.first_line.result.0.now c.first_line.result.1.now c.loop-near.invariant l _ c.in-Some-read_line.ensures (sym c.if-not-rises_above.ensures) (sym c.if-not-fit_path.ensures))
 
-pub loop-last-preserved : goal.loop-last-preserved
-loop-last-preserved c =
-    let l : IsLineOf c.loop-last.rest.now c.first_line.result.0.now c.first_line.result.1.now = record { lines = c.first_line.ensures.lines; whole = c.first_line.ensures.whole; some = c.first_line.ensures.some } in
-    let r = goes_on c.args.text.now _ c.loop-last.manifest c.loop-last.rest.now c.first_line.result.0.now c.first_line.result.1.now c.loop-last.invariant l _ c.in-Some.ensures (sym c.if-not-rises_above.ensures) (sym c.if-not-fit_path.ensures) in
-    rw (c.in_ok-push.ensures.ok, c.in_ok-of.ensures) r
+pub part-requires-clause-within : goal.part-requires-clause-within
+part-requires-clause-within c =
+    let l : IsLineOf c.loop-near.rest.now c.first_line.result.0.now c.first_line.result.1.now = record { lines = c.first_line.ensures.lines; whole = c.first_line.ensures.whole; some = c.first_line.ensures.some } in
+    rw (c.len.ensures.value) (path_within c.args.text.now _ c.loop-near.manifest c.loop-near.rest.now c.first_line.result.0.now c.first_line.result.1.now c.loop-near.invariant l _ c.in-Some-read_line.ensures)
+
+pub push-requires-in_default-clause-fit : goal.push-requires-in_default-clause-fit
+push-requires-in_default-clause-fit c =
+    let l : IsLineOf c.loop-near.rest.now c.first_line.result.0.now c.first_line.result.1.now = record { lines = c.first_line.ensures.lines; whole = c.first_line.ensures.whole; some = c.first_line.ensures.some } in
+    rw (c.in_ok-part.ensures, c.len.ensures.value, path_is c.args.text.now _ c.loop-near.manifest c.loop-near.rest.now c.first_line.result.0.now c.first_line.result.1.now c.loop-near.invariant l _ c.in-Some-read_line.ensures) (sym c.if-not-fit_path.ensures)
+
+pub push-requires-in_default-clause-rises : goal.push-requires-in_default-clause-rises
+push-requires-in_default-clause-rises c =
+    let l : IsLineOf c.loop-near.rest.now c.first_line.result.0.now c.first_line.result.1.now = record { lines = c.first_line.ensures.lines; whole = c.first_line.ensures.whole; some = c.first_line.ensures.some } in
+    rw (c.in_ok-part.ensures, c.len.ensures.value, path_is c.args.text.now _ c.loop-near.manifest c.loop-near.rest.now c.first_line.result.0.now c.first_line.result.1.now c.loop-near.invariant l _ c.in-Some-read_line.ensures, ← c.loop-near.invariant.last_is) (sym c.if-not-rises_above.ensures)
+
+pub loop-near-preserved : goal.loop-near-preserved
+loop-near-preserved c =
+    let l : IsLineOf c.loop-near.rest.now c.first_line.result.0.now c.first_line.result.1.now = record { lines = c.first_line.ensures.lines; whole = c.first_line.ensures.whole; some = c.first_line.ensures.some } in
+    let r = goes_on c.args.text.now _ c.loop-near.manifest c.loop-near.rest.now c.first_line.result.0.now c.first_line.result.1.now c.loop-near.invariant l _ c.in-Some-read_line.ensures (sym c.if-not-rises_above.ensures) (sym c.if-not-fit_path.ensures) in
+    rw (c.in_ok-push-2.ensures.ok, c.in_ok-part.ensures, c.len.ensures.value, path_is c.args.text.now _ c.loop-near.manifest c.loop-near.rest.now c.first_line.result.0.now c.first_line.result.1.now c.loop-near.invariant l _ c.in-Some-read_line.ensures) r

@@ -1,19 +1,16 @@
-use Rattle.std.proofs.Common.{◌≡◌, None, Bool, sym, ap, ◌∙◌}
-use Rattle.text_model.specs.Text.{Bytes}
+use Rattle.std.proofs.Common.{Bool, sym, ap, ◌∙◌}
 use Rattle.text_model.specs.Fault.{Collision}
-use Rattle.hg_model.specs.Revision.{named_if, shape_fault}
-use Rattle.hg_store.specs.Groups.{group_value, revision_value}
+use Rattle.hg_model.specs.Revision.{named_if}
+use Rattle.hg_store.specs.Groups.{revision_value}
 use Rattle.hg_store.proofs.KnownLemmas.{fresh-fault}
 use Rattle.hg_store.proofs.store.HgStore.parse_hashed.Goals as goal
 
 pub returns-then-is_taken-clause-fault : goal.returns-then-is_taken-clause-fault
 returns-then-is_taken-clause-fault c =
     let a = c.args.addition.now in
-    let shape : shape_fault (group_value a.group) a.text ≡ None = ap (λ (t : Bytes). shape_fault (group_value a.group) t) (sym c.as_slice.ensures) ∙ c.in_ok-parsed.ensures.shape in
-    fresh-fault c.args.self.now (revision_value a) c.alloc.ensures c.requires.other c.requires.its_node shape ∙ ap (λ (b : Bool). named_if b Collision) (sym c.is_taken.ensures ∙ c.if-is_taken.true)
+    fresh-fault c.args.self.now (revision_value a) c.alloc.ensures c.requires.other c.requires.its_node c.in_ok-parsed.ensures.shape ∙ ap (λ (b : Bool). named_if b Collision) (sym c.is_taken.ensures ∙ c.if-is_taken.true)
 
 pub returns-clause-ok : goal.returns-clause-ok
 returns-clause-ok c =
     let a = c.args.addition.now in
-    let shape : shape_fault (group_value a.group) a.text ≡ None = ap (λ (t : Bytes). shape_fault (group_value a.group) t) (sym c.as_slice.ensures) ∙ c.in_ok-parsed.ensures.shape in
-    fresh-fault c.args.self.now (revision_value a) c.alloc.ensures c.requires.other c.requires.its_node shape ∙ ap (λ (b : Bool). named_if b Collision) (sym c.is_taken.ensures ∙ c.if-is_taken.false)
+    fresh-fault c.args.self.now (revision_value a) c.alloc.ensures c.requires.other c.requires.its_node c.in_ok-parsed.ensures.shape ∙ ap (λ (b : Bool). named_if b Collision) (sym c.is_taken.ensures ∙ c.if-is_taken.false)
