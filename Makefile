@@ -13,7 +13,7 @@ BIN := $(DESTDIR)$(PREFIX)/bin
 LIB := $(DESTDIR)$(PREFIX)/lib/hggit
 SHARE := $(DESTDIR)$(PREFIX)/share
 TOOLS := hggit-sync hggit-graph git-remote-hggit git-load
-MODULES := repositories slot sync_names sync_objects sync_setting sync_run small_deltas pack_deltas hg_away progress graph_lanes
+MODULES := repositories slot sync_names sync_objects sync_setting sync_run small_deltas first_store stream_bundle stream_share pack_deltas hg_away progress graph_lanes
 SOURCES := crates.txt $(shell find crates -name out -prune -o -type f \( -name '*.rt' -o -name '*.antt' \) -print)
 
 .PHONY: all run-examples try try-list try-pull test bench install gate-table clean

@@ -14,6 +14,7 @@ EMPTY_TREE = '4b825dc642cb6eb9a060e54bf8d69288fbee4904'
 PIECE = 1 << 20
 LEAST_HG = (5, 0)
 LEAST_GIT = (2, 28)
+APART = os.path.join('.hg', 'hggit')
 HG_SETTINGS = ['--config', 'ui.interactive=no', '--config', 'phases.new-commit=draft', '--config', 'ui.quiet=no']
 
 
@@ -70,10 +71,10 @@ def words_of(text):
 
 class Mercurial:
     """A Mercurial repository, asked by way of one command server, so that hg starts once. It works in the repository's folder, since hg takes a path with a
-    `#` for another one. What is written into the sink hg can read as the file `fed`."""
+    `#` for another one. What is written into the sink hg can read as the file `fed`. It `is_made` where this run has made it."""
 
     def __init__(self, path):
-        self.path = path
+        self.path, self.is_made = path, False
         words = ['hg', '-R', '.', *HG_SETTINGS, 'serve', '--cmdserver', 'pipe']
         self.errors = tempfile.TemporaryFile()
         self.source, self.sink = (os.fdopen(end, mode, PIECE) for end, mode in zip(os.pipe(), ('rb', 'wb')))
@@ -144,8 +145,30 @@ def make_hg_repository(path):
     make_repository(['hg', 'init'], path)
 
 
+@contextlib.contextmanager
+def apart(path):
+    """A folder in a repository, where a first move writes its store, and which other runs leave alone meanwhile. It is taken away at the end. Where the
+    repository has no store, since a run ended just when it was to be replaced, it gets that one."""
+    folder, store = os.path.join(path, APART), os.path.join(path, '.hg', 'store')
+    os.makedirs(folder, exist_ok=True)
+    descriptor = os.open(folder, os.O_RDONLY)
+    try:
+        fcntl.flock(descriptor, fcntl.LOCK_EX | fcntl.LOCK_NB)
+        try:
+            yield
+        finally:
+            if not os.path.exists(store):
+                os.rename(os.path.join(folder, '.hg', 'store'), store)
+            shutil.rmtree(folder)
+    finally:
+        os.close(descriptor)
+
+
 def open_mercurial(path, recovers=True):
-    """The repository, recovered first where a command of hg was killed in it."""
+    """The repository, recovered first where a command of hg, or a first move, was killed in it."""
+    if recovers and os.path.exists(os.path.join(path, APART)):
+        with contextlib.suppress(BlockingIOError), apart(path):
+            pass
     mercurial = Mercurial(path)
     need_version('hg', LEAST_HG, 'Mercurial', mercurial.output('version', '-q'))
     if recovers and os.path.exists(os.path.join(path, '.hg', 'store', 'journal')):
@@ -167,6 +190,7 @@ class Opening(threading.Thread):
             if self.makes:
                 make_hg_repository(self.path)
             self.mercurial = open_mercurial(self.path, self.recovers)
+            self.mercurial.is_made = self.makes
         except Exception as fault:
             self.fault = fault
 

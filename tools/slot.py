@@ -2,6 +2,7 @@
 import contextlib
 import fcntl
 import glob
+import io
 import os
 import re
 import shutil
@@ -20,6 +21,7 @@ NAMES = 'names'
 WORK = 'work'
 NOTE = 'locks'
 STILL_SECONDS = 1.0
+PAUSE = 0.005
 NO_ID = '0' * 40
 ANY, IN_TREE = b'any', b'tree:'
 LOCKS_OF_REFS = {name: ANY for name in (b'HEAD.lock', b'packed-refs.lock', b'packed-refs.new', b'reftable/tables.list.lock')}
@@ -222,6 +224,25 @@ class Run:
             raise Fault(f'{self.state_path} holds no state of this program ({said})')
         if status:
             raise Fault(f'hggit {self.word} ended with status {status}: {said or "it said nothing"}')
+
+
+class Growing(io.RawIOBase):
+    """A file that the program writes, read while it grows."""
+
+    def __init__(self, file, pull):
+        super().__init__()
+        self.file, self.pull = file, pull
+
+    def readable(self):
+        return True
+
+    def readinto(self, target):
+        while True:
+            has_ended = self.pull.has_ended()
+            count = self.file.readinto(target)
+            if count or has_ended:
+                return count
+            time.sleep(PAUSE)
 
 
 def pairs_text(path):

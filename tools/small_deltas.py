@@ -19,10 +19,7 @@ CHANGED = re.compile(b'\1+')  # rows of lines that differ
 
 def write_small(source, target, before_end=lambda: None):
     """Reads a bundle from a file, and writes it to another; something else is done before the last chunk, which ends the bundle, is written."""
-    magic = source.read(len(MAGIC))
-    if magic != MAGIC:
-        raise Fault('the program wrote no bundle HG10UN')
-    target.write(magic)
+    target.write(read_magic(source))
     copy_changesets(source, target)
     copy_group(source, target)
     while path := read_chunk(source):
@@ -31,6 +28,14 @@ def write_small(source, target, before_end=lambda: None):
     target.flush()
     before_end()
     write_chunk(target, b'')
+
+
+def read_magic(source):
+    """What a bundle begins with."""
+    magic = source.read(len(MAGIC))
+    if magic != MAGIC:
+        raise Fault('the program wrote no bundle HG10UN')
+    return magic
 
 
 def copy_changesets(source, target):
@@ -42,14 +47,19 @@ def copy_changesets(source, target):
 
 def copy_group(source, target):
     """The entries of a kind or a path, each over the text before it."""
-    before = None
-    while entry := read_chunk(source):
-        text = whole_text(before, entry)
+    for entry, before, text in texts_of(source):
         if text is not None and before is not None:
             entry = entry[:HEADER] + difference(before, text)
         write_chunk(target, entry)
-        before = text
     write_chunk(target, b'')
+
+
+def texts_of(source, before=None):
+    """Each entry of a group with the text before it and its own; None stands for one that isn't known."""
+    while entry := read_chunk(source):
+        text = whole_text(before, entry)
+        yield entry, before, text
+        before = text
 
 
 def whole_text(before, entry):

@@ -12,13 +12,14 @@ import time
 from typing import Dict, NamedTuple, Optional
 from urllib.parse import quote_from_bytes
 
+from first_store import is_filled
 from repositories import NULL, PIECE, Fault, environment, git, nodes_of, nodes_there, objects_missing, reaches_whole, words_of
-from slot import WORK
+from slot import PAUSE, WORK, Growing
 from small_deltas import write_small
 from sync_names import HEADS, KEPT, TAGS, can_be_hg_name
 
 HERE = os.path.dirname(os.path.realpath(__file__))
-PAUSE, LONGEST_PAUSE = 0.005, 0.05
+LONGEST_PAUSE = 0.05
 SLOWER = 1.25
 
 
@@ -175,10 +176,10 @@ def carry_to_hg(mercurial, folder, slot, pairs, refs, new, tags, loads=True):
         bundle = slot.path(WORK, 'new.hg')
         with open(bundle, 'wb') as target:
             pull = start_pull(folder, slot, refs, new, tags, target)
-        if new.ids and loads:
-            unbundle(mercurial, slot, pull, bundle)
-        else:
+        if not (new.ids and loads):
             pull.finish()
+        elif not (mercurial.is_made and not len(pairs) and is_filled(mercurial, slot, pull, bundle, len(new.ids))):
+            unbundle(mercurial, slot, pull, bundle)
         os.remove(bundle)
     if new.ids:
         pairs = slot.pairs()
@@ -259,25 +260,6 @@ class Feed(threading.Thread):
             if select.select([source], [], [], PAUSE)[0]:
                 os.read(source, PIECE)
         self.mercurial.sink.close()
-
-
-class Growing(io.RawIOBase):
-    """A file that the program writes, read while it grows."""
-
-    def __init__(self, file, pull):
-        super().__init__()
-        self.file, self.pull = file, pull
-
-    def readable(self):
-        return True
-
-    def readinto(self, target):
-        while True:
-            has_ended = self.pull.has_ended()
-            count = self.file.readinto(target)
-            if count or has_ended:
-                return count
-            time.sleep(PAUSE)
 
 
 def make_small(slot, path):

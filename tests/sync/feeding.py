@@ -38,10 +38,14 @@ def fed(place, words, meanwhile=lambda mercurial: None, source=None):
     return fault
 
 
-def fed_once(place, mercurial, words, source=None):
+def write_program(words):
     with open(os.environ['HGGIT'], 'w') as file:
         file.write('#!/bin/sh\n' + words + '\n')
     os.chmod(file.name, 0o755)
+
+
+def fed_once(place, mercurial, words, source=None):
+    write_program(words)
     path = os.path.join(place, 'new.hg')
     with open(path, 'wb') as target:
         pull = Slot(place).start('pull-git', None, target, source)
