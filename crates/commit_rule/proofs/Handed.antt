@@ -59,19 +59,6 @@ bare-with items ts =
     ∙ ap (in_order is_path_below) (map_append file_row_of (map (tree_row_with items) ts) (map no_content (filter_map row_of_item items))
     ∙ (λ i. with-mapped items ts i ++ bare-mapped (filter_map row_of_item items) i))
 
-pub empty-is : {X : Type 0} (xs : List X) → (length xs == 0) ≡ true → xs ≡ []
-empty-is [] e = refl
-empty-is (x ∷ xs) e = absurd (grind (arith, e))
-
--- nothing is handed on by no items
-pub none-with : (files : List FileRow) → Ascends path_of files → rows_with [] files ≡ files
-unfolding rows_with
-none-with files up = ap (in_order is_path_below) (append_none (map (file_with []) files) ∙ same files) ∙ order-same path_of files up
-  where
-    same : (rows : List FileRow) → map (file_with []) rows ≡ rows
-    same [] = refl
-    same (row ∷ rows) = ap (λ (l : List FileRow). row ∷ l) (same rows)
-
 -- ---- the files among them
 
 blob-with : (items : List ResidueItem) (path : Bytes) (mode : Mode) → is_blob_mode mode ≡ true → is_blob_mode (mode_with items path mode) ≡ true

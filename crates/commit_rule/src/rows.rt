@@ -6,11 +6,12 @@ ghost use Rattle.tree_shape.specs.Sets.{IsFiles};
 ghost use Rattle.pair_model.specs.Rule.{mode_of_flag};
 ghost use Rattle.commit_rule.specs.Parts.{file_of_row, residue_below};
 
-use bridge_text::{Bytes, Id, NoMemory};
+use bridge_text::{Id, NoMemory};
 use git_object::Mode;
 use git_store::GitStore;
 use hg_manifest::Flag;
 use pair_known::{HgRow, HgRows};
+use shared_text::again;
 use std::alloc::Global;
 use tree_residue::{carry, residue_at, with_residue};
 use tree_shape::{FileRow, Files};
@@ -26,11 +27,11 @@ fn mode_of(flag: Flag) -> Mode
 }
 
 // The file of a tree for one of a changeset.
-fn file_of(alloc: Global, row: &HgRow) -> Result<FileRow, NoMemory>
+fn file_of(row: &HgRow) -> Result<FileRow, NoMemory>
     ensures { IfOk result (λ file. file ≡ file_of_row row.now) }
 {
     Ok(FileRow {
-        path: Bytes::of(alloc, row.path.as_slice())?,
+        path: again(&row.path)?,
         mode: mode_of(row.flag),
         blob: row.blob,
     })
@@ -44,7 +45,7 @@ pub fn files_of(alloc: Global, rows: &HgRows) -> Result<Files, NoMemory>
     let mut files = Files::new(alloc);
     let rows = rows.as_slice();
     for row in rows {
-        let file = file_of(alloc, row)?;
+        let file = file_of(row)?;
         files.push(file)?;
     }
     Ok(files)
@@ -66,8 +67,5 @@ pub fn hand_on(
     };
     let residue = residue_at(alloc, git, &root)?;
     let items = carry(alloc, &residue, &files)?;
-    if items.is_empty() {
-        return Ok(files);
-    }
     with_residue(alloc, files, &items)
 }

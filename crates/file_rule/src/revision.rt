@@ -138,11 +138,11 @@ fn flag_of(mode: Mode) -> Flag
 }
 
 // A file with the node of its revision.
-fn row_of(alloc: Global, file: &FileRow, node: Id) -> Result<HgRow, NoMemory>
+fn row_of(file: &FileRow, node: Id) -> Result<HgRow, NoMemory>
     ensures { IfOk result (λ row. row ≡ record { path = file.now.path; flag = rule.flag_of_mode file.now.mode; node = node; blob = file.now.id }) }
 {
     Ok(HgRow {
-        path: Bytes::of(alloc, file.path())?,
+        path: again(&file.path)?,
         flag: flag_of(file.mode()),
         node,
         blob: *file.blob(),
@@ -178,7 +178,7 @@ pub fn row_with_text(
     ensures fresh { IfOk result (λ made. IsFresh store.now file.now.path made.fresh) }
 {
     let node = node_id(&parents.0, &parents.1, text.as_slice());
-    let row = row_of(alloc, file, node)?;
+    let row = row_of(file, node)?;
     if is_held(store, file.path(), &node, parents, text.as_slice()) {
         return Ok(RuledRow { row, fresh: None });
     }
@@ -234,6 +234,6 @@ pub fn make_row(
     let Some(node) = kept_node(&known.hg, first, second, file.blob()) else {
         return new_row(alloc, known, c, file, first, second);
     };
-    let row = row_of(alloc, file, node)?;
+    let row = row_of(file, node)?;
     Ok(RuledRow { row, fresh: None })
 }

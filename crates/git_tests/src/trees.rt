@@ -1,8 +1,9 @@
 // Trees and the rows that they stand for.
-use bridge_text::{Bytes, Id, Kind, object_id};
+use bridge_text::{Id, Kind, object_id};
 use git_object::ResidueKind::{Empty, Group, Link};
 use git_object::{Mode, Residue, ResidueKind};
 use git_store::GitStore;
+use shared_text::Text;
 use std::alloc::Global;
 use std::test::Fail;
 use tree_rebuild::{rebuild, rebuild_over};
@@ -26,7 +27,7 @@ fn id(digits: &[u8]) -> Result<Id, Fail> {
 
 fn row_of(alloc: Global, row: &Row) -> Result<FileRow, Fail> {
     let (path, mode, byte) = *row;
-    let path = Bytes::of(alloc, path)?;
+    let path = Text::copy_from_slice(alloc, path)?;
     Ok(FileRow {
         path,
         mode,
@@ -211,7 +212,7 @@ fn a_path_has_256_names_at_most(rt: HostRuntime) -> Result<(), Fail> {
 // The row of a path, a mode and an id.
 fn file_row(alloc: Global, row: &(&[u8], Mode, Id)) -> Result<FileRow, Fail> {
     let (path, mode, blob) = *row;
-    let path = Bytes::of(alloc, path)?;
+    let path = Text::copy_from_slice(alloc, path)?;
     Ok(FileRow { path, mode, blob })
 }
 

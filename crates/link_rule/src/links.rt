@@ -12,10 +12,11 @@ ghost use Rattle.link_rule.specs.Links.{IsLinkOf, IsLinkOver, AreLinksMade};
 
 use crate::chain::chain_of;
 use crate::link::Link;
-use bridge_text::{Bytes, IdList, NoMemory};
+use bridge_text::{IdList, NoMemory};
 use pair_known::{
     DraftTexts, FreshFiles, GitDraft, HgDraft, HgDrafts, HgRow, HgRows, Known, draft_of_changeset,
 };
+use shared_text::again;
 use std::alloc::Global;
 
 /// The links of a commit whose parents have partners; none below three parents. Each has the files of the first parent's partner, which are
@@ -96,7 +97,7 @@ fn copy_of(alloc: Global, rows: &HgRows) -> Result<HgRows, NoMemory>
     let mut copy = HgRows::new(alloc);
     for row in rows.as_slice() {
         copy.push(HgRow {
-            path: Bytes::of(alloc, row.path.as_slice())?,
+            path: again(&row.path)?,
             flag: row.flag,
             node: row.node,
             blob: row.blob,

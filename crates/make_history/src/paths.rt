@@ -3,10 +3,11 @@ ghost use Rattle.std.specs.Prelude.{◌≡◌, ◌<◌, ◌++◌, IfOk, codes, d
 ghost use Rattle.make_model.specs.History.{made_path, made_body};
 
 use bridge_text::{Bytes, NoMemory, decimal_into};
+use shared_text::{Text, keep};
 use std::alloc::Global;
 
 /// The path of a file of a directory, both by their numbers.
-pub fn path_of(alloc: Global, directory: u64, file: u64) -> Result<Bytes, NoMemory>
+pub fn path_of(alloc: Global, directory: u64, file: u64) -> Result<Text, NoMemory>
     ensures { IfOk result (λ path. path ≡ made_path directory file) }
 {
     let mut out = Vec::new(alloc);
@@ -14,7 +15,7 @@ pub fn path_of(alloc: Global, directory: u64, file: u64) -> Result<Bytes, NoMemo
     decimal_into(&mut out, directory)?;
     out.extend_from_slice(b"/f")?;
     decimal_into(&mut out, file)?;
-    Ok(Bytes::keep(out))
+    keep(out)
 }
 
 /// What a changeset with this number writes into its file.

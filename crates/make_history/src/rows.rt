@@ -9,10 +9,11 @@ ghost use Rattle.view_model.specs.Held.{IsFileHeld};
 ghost use Rattle.pair_known.specs.Rows.{row_value};
 ghost use Rattle.make_model.specs.History.{with_row};
 
-use bridge_text::{Bytes, NoMemory};
+use bridge_text::NoMemory;
 use hg_manifest::{Entry, Manifest};
 use hg_store::HgStore;
 use pair_known::{HgRow, HgRows};
+use shared_text::again;
 use std::alloc::Global;
 
 /// The files of a manifest whose revisions are held, and this one in its place.
@@ -26,21 +27,13 @@ pub fn rows_with(
     ensures { IfOk result (λ rows. (new : Row) (old : List Row) → row ≡ row_value new → map entry_of_row old ≡ manifest.now → Each (IsFileHeld store.now) old
         → rows ≡ map row_value (with_row new old)) }
 {
-    let path = Bytes::of(alloc, row.path.as_slice())?;
+    let path = again(&row.path)?;
     let path = path.as_slice();
     let place = place_of(manifest, path);
     let mut rows = HgRows::new(alloc);
-    push_others(alloc, store, manifest, 0, place, path, &mut rows)?;
+    push_others(store, manifest, 0, place, path, &mut rows)?;
     rows.push(row)?;
-    push_others(
-        alloc,
-        store,
-        manifest,
-        place,
-        manifest.len(),
-        path,
-        &mut rows,
-    )?;
+    push_others(store, manifest, place, manifest.len(), path, &mut rows)?;
     Ok(rows)
 }
 
@@ -60,7 +53,6 @@ fn place_of(manifest: &Manifest, path: &[u8]) -> usize
 
 // Puts the files of the entries between two places at the end, but for one with this path.
 fn push_others(
-    alloc: Global,
     store: &HgStore,
     manifest: &Manifest,
     from: usize,
@@ -75,14 +67,13 @@ fn push_others(
         → rows.new ≡ rows.old ++ map row_value (filter (λ row. not (bytes_eq row.path path.now)) (drop from (take end old)))) }
 {
     for place in from..end {
-        push_other(alloc, store, manifest.at(place), path, rows)?;
+        push_other(store, manifest.at(place), path, rows)?;
     }
     Ok(())
 }
 
 // Puts the file of an entry whose revision is held at the end, unless it has this path.
 fn push_other(
-    alloc: Global,
     store: &HgStore,
     entry: &Entry,
     path: &[u8],
@@ -95,19 +86,19 @@ fn push_other(
     if entry.path.as_slice() == path {
         return Ok(());
     }
-    let row = row_of(alloc, store, entry)?;
+    let row = row_of(store, entry)?;
     rows.push(row)
 }
 
 // The file of an entry whose revision is held.
-fn row_of(alloc: Global, store: &HgStore, entry: &Entry) -> Result<HgRow, NoMemory>
+fn row_of(store: &HgStore, entry: &Entry) -> Result<HgRow, NoMemory>
     requires held { (row : Row) × (entry_of_row row ≡ manifest_entry entry.now) × IsFileHeld store.now row }
     ensures { IfOk result (λ made. (row : Row) → entry_of_row row ≡ manifest_entry entry.now → IsFileHeld store.now row → made ≡ row_value row) }
 {
     let path = entry.path.as_slice();
     match store.file_blob(path, &entry.node) {
         Some(blob) => Ok(HgRow {
-            path: Bytes::of(alloc, path)?,
+            path: again(&entry.path)?,
             flag: entry.flag,
             node: entry.node,
             blob,

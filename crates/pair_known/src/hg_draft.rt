@@ -16,10 +16,11 @@ use crate::draft_texts::DraftTexts;
 use crate::fresh_files::FreshFiles;
 use crate::hg_row::{HgRow, HgRows};
 use crate::known::Known;
-use bridge_text::{Bytes, Id, NoMemory};
+use bridge_text::{Id, NoMemory};
 use hg_changeset::{Changeset, ChangesetFault};
 use hg_manifest::{Entry, Manifest, ManifestRev};
 use hg_store::{HgStore, ViewFault};
+use shared_text::again;
 use std::alloc::Global;
 
 /// A changeset with all that it stands for.
@@ -147,18 +148,18 @@ fn rows_of(alloc: Global, store: &HgStore, manifest: &Manifest) -> Result<HgRows
         let Some(blob) = store.file_blob(entry.path.as_slice(), &entry.node) else {
             return Err(DraftFault::Unknown(ViewFault::FileUnknown(line)));
         };
-        let row = row_of(alloc, entry, blob)?;
+        let row = row_of(entry, blob)?;
         rows.push(row)?;
     }
     Ok(rows)
 }
 
 // The file of an entry, with the id that its revision's body has as a blob.
-fn row_of(alloc: Global, entry: &Entry, blob: Id) -> Result<HgRow, NoMemory>
+fn row_of(entry: &Entry, blob: Id) -> Result<HgRow, NoMemory>
     ensures { IfOk result (λ made. made ≡ record { path = entry.now.path; flag = file_flag entry.now.flag; node = entry.now.node; blob = blob }) }
 {
     Ok(HgRow {
-        path: Bytes::of(alloc, entry.path.as_slice())?,
+        path: again(&entry.path)?,
         flag: entry.flag,
         node: entry.node,
         blob,

@@ -1,15 +1,16 @@
 ghost use Rattle.std.specs.Prelude.{◌≡◌};
 
-use bridge_text::{Bytes, Id, List};
+use bridge_text::{Id, List};
 use hg_manifest::Flag;
+use shared_text::Text;
 use std::marker::Model;
 use tree_shape::HasPath;
 
 /// A file of a changeset, by its revision's node and by the id of its body as a Git blob.
 #[derive(Debug, Drop)]
 pub struct HgRow {
-    /// Its path from the root, with slashes between the names.
-    pub path: Bytes,
+    /// Its path from the root, with slashes between the names, which others may own too.
+    pub path: Text,
     /// What kind of file it is.
     pub flag: Flag,
     /// The node of its revision.

@@ -1,11 +1,11 @@
 // Whether a file of a changeset is the one that the rule gives.
 use crate::sides::{NULL, Revision, id, store_of};
-use bridge_text::{Bytes, Id};
+use bridge_text::Id;
 use file_rule::{is_plain, is_ruled, parents_over};
 use hg_manifest::{Flag, Manifest, Near};
 use hg_store::{Group, HgStore};
 use pair_known::HgRow;
-use shared_text::keep;
+use shared_text::{Text, keep};
 use std::alloc::Global;
 use std::test::Fail;
 
@@ -49,7 +49,7 @@ fn manifest_of(alloc: Global, path: &[u8], node: &[u8]) -> Result<Manifest, Fail
 }
 
 fn row_of(alloc: Global, store: &HgStore, path: &[u8], node: Id) -> Result<HgRow, Fail> {
-    let path = Bytes::of(alloc, path)?;
+    let path = Text::copy_from_slice(alloc, path)?;
     match store.file_blob(path.as_slice(), &node) {
         Some(blob) => Ok(HgRow {
             path,

@@ -1,12 +1,12 @@
 // Manifests and lists of files that the rule gives.
 use crate::sides::{NULL, Revision, id, store_of};
-use bridge_text::{Bytes, Id, Paths};
+use bridge_text::{Id, Paths};
 use file_rule::Parent;
 use hg_manifest::{Entry, Manifest, ManifestRev, Near};
 use hg_store::{Group, HgStore};
 use manifest_rule::{are_same_paths, is_ruled_manifest, lines_fit, make_manifest, ruled_files};
 use pair_known::{HgRow, HgRows};
-use shared_text::keep;
+use shared_text::{again, keep};
 use std::alloc::Global;
 use std::test::Fail;
 
@@ -29,9 +29,9 @@ fn manifest_of(alloc: Global, files: &[File]) -> Result<Manifest, Fail> {
     Ok(Manifest::read(alloc, &keep(text)?, Near::none()).map_err(|_| "a manifest")?)
 }
 
-fn row_of(alloc: Global, entry: &Entry) -> Result<HgRow, Fail> {
+fn row_of(entry: &Entry) -> Result<HgRow, Fail> {
     Ok(HgRow {
-        path: Bytes::of(alloc, entry.path.as_slice())?,
+        path: again(&entry.path)?,
         flag: entry.flag,
         node: entry.node,
         blob: Id::NULL,
@@ -41,7 +41,7 @@ fn row_of(alloc: Global, entry: &Entry) -> Result<HgRow, Fail> {
 fn rows_of(alloc: Global, manifest: &Manifest) -> Result<HgRows, Fail> {
     let mut rows = HgRows::new(alloc);
     for place in 0..manifest.len() {
-        let row = row_of(alloc, manifest.at(place))?;
+        let row = row_of(manifest.at(place))?;
         rows.push(row)?;
     }
     Ok(rows)

@@ -6,7 +6,7 @@ use pair_known::{
     DraftTexts, FreshBlob, FreshBlobs, FreshFile, FreshFiles, HgDraft, HgDrafts, HgRow, HgRows,
     Partners,
 };
-use shared_text::keep;
+use shared_text::{Text, keep};
 use std::alloc::Global;
 use std::test::Fail;
 
@@ -87,7 +87,7 @@ fn fresh_blobs(rt: HostRuntime) -> Result<(), Fail> {
 fn rows(rt: HostRuntime) -> Result<(), Fail> {
     let mut rows = HgRows::new(rt.alloc());
     rows.push(HgRow {
-        path: Bytes::new(rt.alloc()),
+        path: Text::new(),
         flag: Flag::Exec,
         node: id(1),
         blob: id(2),

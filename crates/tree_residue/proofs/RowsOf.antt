@@ -1,14 +1,15 @@
 -- Residues whose paths rise, and lists that are distinct by their order.
-use Rattle.std.proofs.Common.{◌≡◌, ◌≢◌, ◌++◌, ℕ, zero, suc, take, Bool, true, false, true≢false, List, [], ◌∷◌, map, Option, Some, None, refl, sym, ap, subst, ◌∙◌, inl, inr}
-use Rattle.std.specs.Prelude.{if◌then◌else◌}
+use Rattle.std.proofs.Common.{◌≡◌, ◌≢◌, ◌++◌, ℕ, zero, suc, take, Bool, true, false, true≢false, List, [], ◌∷◌, map, length, Option, Some, None, refl, sym, ap, subst, ◌∙◌, inl, inr, arith}
+use Rattle.std.specs.Prelude.{◌==◌, if◌then◌else◌}
 use Rattle.std.specs.List.{filter_map}
 use Rattle.text_model.specs.Lists.{In, Each, in_order, with_inserted}
 use Rattle.text_model.specs.Text.{Bytes, is_below}
 use Rattle.text_model.proofs.OrderLemmas.{is_below-irreflexive}
-use Rattle.git_model.specs.Unfold.{FileRow, by_paths}
+use Rattle.git_model.specs.Unfold.{FileRow, by_paths, is_path_below}
 use Rattle.git_model.specs.Residue.{ResidueItem, ResidueKind, kind_of_row, item_of, residue_of, carried, fits, rows_with, file_with, row_of_item}
 use Rattle.text_model.proofs.Elements.{each_in as each-of, each_from as each-by}
-use Rattle.git_model.proofs.SortLemmas.{Ascends, Distinct, by_key, in-order, in-inserted, ascends-rises, rises-ascends, ascends-distinct}
+use Rattle.git_model.proofs.SortLemmas.{Ascends, Distinct, by_key, in-order, in-inserted, ascends-rises, rises-ascends, ascends-distinct, order-same}
+use Rattle.git_model.proofs.ResidueLemmas.{path_of, append_none}
 use Rattle.git_model.proofs.RowOrder.{kept, filter_is, KeepsKey}
 use Rattle.git_object.specs.Values.{AreItems}
 use Rattle.tree_shape.specs.Sets.{IsFiles}
@@ -77,3 +78,18 @@ rows-are items files = refl
 pub rows-distinct : (items : List ResidueItem) (files rows : List FileRow) → rows ≡ map (file_with items) files ++ filter_map row_of_item items → IsFiles (rows_with items files) → Distinct (λ (r : FileRow). r.path) rows
 rows-distinct items files rows is h =
     order-distinct (λ (r : FileRow). r.path) rows (rises-ascends (λ (r : FileRow). r.path) (by_paths rows) (subst IsFiles (rows-are items files ∙ ap by_paths (sym is)) h).in_order)
+
+-- ---- nothing beside the files
+
+pub empty-is : {X : Type 0} (xs : List X) → (length xs == 0) ≡ true → xs ≡ []
+empty-is [] e = refl
+empty-is (x ∷ xs) e = absurd (grind (arith, e))
+
+-- no items change nothing
+pub none-with : (files : List FileRow) → Ascends path_of files → rows_with [] files ≡ files
+unfolding rows_with
+none-with files up = ap (in_order is_path_below) (append_none (map (file_with []) files) ∙ same files) ∙ order-same path_of files up
+  where
+    same : (rows : List FileRow) → map (file_with []) rows ≡ rows
+    same [] = refl
+    same (row ∷ rows) = ap (λ (l : List FileRow). row ∷ l) (same rows)

@@ -6,8 +6,9 @@ ghost use Rattle.git_object.specs.Values.{mode_value};
 
 use crate::carried::carry;
 use crate::items::residue_of;
-use bridge_text::{Bytes, NoMemory};
+use bridge_text::NoMemory;
 use git_object::{Mode, Residue, ResidueItem};
+use shared_text::again;
 use std::alloc::Global;
 use tree_shape::{FileRow, Files};
 
@@ -38,12 +39,12 @@ fn plain_mode(mode: Mode) -> Option<Mode>
 }
 
 /// The file of a row as a changeset has it; `None` exactly where the row is no file's.
-fn plain_file(alloc: Global, row: &FileRow) -> Result<Option<FileRow>, NoMemory>
+fn plain_file(row: &FileRow) -> Result<Option<FileRow>, NoMemory>
     ensures { IfOk result (λ file. file ≡ (if is_blob_mode row.now.mode then Some (plain_file row.now) else None)) }
 {
     match plain_mode(row.mode()) {
         Some(mode) => {
-            let path = Bytes::of(alloc, row.path())?;
+            let path = again(&row.path)?;
             let blob = *row.blob();
             Ok(Some(FileRow { path, mode, blob }))
         }
@@ -58,7 +59,7 @@ fn plain_files(alloc: Global, files: &Files) -> Result<Files, NoMemory>
     let rows = files.as_slice();
     let mut plain = Vec::new(alloc);
     for row in rows {
-        if let Some(file) = plain_file(alloc, row)? {
+        if let Some(file) = plain_file(row)? {
             plain.push(file)?;
         }
     }

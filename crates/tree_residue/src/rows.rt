@@ -5,8 +5,9 @@ ghost use Rattle.git_model.specs.Residue.{rows_with, file_with, row_of_item, mod
 ghost use Rattle.git_object.specs.Values.{mode_value};
 ghost use Rattle.tree_shape.specs.Sets.{IsFiles};
 
-use bridge_text::{Bytes, Kind, NoMemory, object_id};
+use bridge_text::{Kind, NoMemory, object_id};
 use git_object::{Mode, Residue, ResidueItem, ResidueKind};
+use shared_text::Text;
 use std::alloc::Global;
 use tree_shape::{FileRow, Files, by_paths};
 
@@ -54,7 +55,7 @@ fn row_of_item(alloc: Global, item: &ResidueItem) -> Result<Option<FileRow>, NoM
         ResidueKind::Link(id) => (Mode::Gitlink, id),
         ResidueKind::Empty => (Mode::Dir, object_id(Kind::Tree, b"")),
     };
-    let path = Bytes::of(alloc, item.path())?;
+    let path = Text::copy_from_slice(alloc, item.path())?;
     Ok(Some(FileRow { path, mode, blob }))
 }
 
@@ -83,13 +84,17 @@ fn put_items(alloc: Global, items: &[ResidueItem], rows: &mut Vec<FileRow>) -> R
 }
 
 /// The rows of the tree of these files with these items: a file that a group's item names has that mode, and the other items
-/// have rows of their own among those of the files.
+/// have rows of their own among those of the files. Without items these are the files, not copied.
 pub fn with_residue(alloc: Global, files: Files, items: &Residue) -> Result<Files, NoMemory>
     requires { IsFiles (rows_with items.now files) }
     ensures { IfOk result (λ rows. rows ≡ rows_with items.now files) }
 {
     let items = items.as_slice();
-    let mut rows = Vec::new(alloc);
+    let count = files.as_slice().len();
+    if items.is_empty() {
+        return Ok(files);
+    }
+    let mut rows = Vec::with_capacity(alloc, count)?;
     put_files(items, files.into_rows(), &mut rows)?;
     put_items(alloc, items, &mut rows)?;
     let sorted = by_paths(alloc, rows)?;

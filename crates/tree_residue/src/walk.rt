@@ -11,8 +11,9 @@ ghost use Rattle.tree_shape.specs.Walks.{row_at, entries_visits};
 ghost use Rattle.tree_residue.specs.Items.{has_item, item_rows};
 
 use crate::items::residue_in;
-use bridge_text::{Bytes, COMPONENT_LIMIT, Id, NoMemory};
+use bridge_text::{COMPONENT_LIMIT, Id, NoMemory};
 use git_object::{Mode, Objects, Residue, Tree, TreeEntry};
+use shared_text::Text;
 use std::alloc::Global;
 use tree_shape::{FileRow, by_paths, is_leaf, push_name};
 
@@ -37,7 +38,7 @@ fn put_entry<G: Objects>(
     ensures { OnOk result (rows.new.items ≡ rows.old.items ++ item_rows (G.objects store.now) (row_at path.now entry.now ∷ [])) }
 {
     if is_leaf(store, entry) && has_item(entry.mode()) {
-        let path = Bytes::of(alloc, path)?;
+        let path = Text::copy_from_slice(alloc, path)?;
         rows.push(FileRow {
             path,
             mode: entry.mode(),

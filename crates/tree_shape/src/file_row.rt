@@ -2,15 +2,16 @@ ghost use Rattle.std.specs.Prelude.{◌≡◌};
 ghost use Rattle.git_object.specs.Values.{mode_value};
 
 use crate::clash::HasPath;
-use bridge_text::{Bytes, Id};
+use bridge_text::Id;
 use git_object::Mode;
+use shared_text::Text;
 use std::marker::Model;
 
 /// A row of a tree, as `git ls-tree -r` lists it: a file, a gitlink, or an empty subtree.
 #[derive(Debug, Drop)]
 pub struct FileRow {
-    /// Its path from the root, with slashes between the names.
-    pub path: Bytes,
+    /// Its path from the root, with slashes between the names, which others may own too.
+    pub path: Text,
     /// What it is.
     pub mode: Mode,
     /// The id of its blob; of a gitlink that of the commit of the other repository, of an empty subtree that of the tree

@@ -9,8 +9,9 @@ ghost use Rattle.git_model.proofs.SortLemmas.{Ascends, Distinct};
 ghost use Rattle.tree_shape.specs.Orders.{counts_as_folder, key_in, Same};
 
 use crate::file_row::FileRow;
-use bridge_text::{Bytes, NoMemory};
+use bridge_text::NoMemory;
 use git_object::OrderName;
+use shared_text::again;
 use std::alloc::Global;
 
 /// An order of rows.
@@ -84,24 +85,24 @@ pub fn by_paths(alloc: Global, rows: Vec<FileRow>) -> Result<Vec<FileRow>, NoMem
     Ok(sorted)
 }
 
-fn copy_of(alloc: Global, row: &FileRow) -> Result<FileRow, NoMemory>
+fn copy_of(row: &FileRow) -> Result<FileRow, NoMemory>
     ensures { IfOk result (λ copy. copy ≡ row.now) }
 {
     Ok(FileRow {
-        path: Bytes::of(alloc, row.path())?,
+        path: again(&row.path)?,
         mode: row.mode(),
         blob: *row.blob(),
     })
 }
 
-/// Copies of these rows in the order of a walk.
+/// These rows again in the order of a walk, whose paths are not copied.
 pub fn by_walk(alloc: Global, rows: &[FileRow]) -> Result<Vec<FileRow>, NoMemory>
     requires { Distinct (key_in Order.Walk) rows.now }
     ensures { IfOk result (λ sorted. sorted.items ≡ by_walk rows.now) }
 {
     let mut sorted = Vec::new(alloc);
     for row in rows {
-        let copy = copy_of(alloc, row)?;
+        let copy = copy_of(row)?;
         insert(Order::Walk, &mut sorted, copy)?;
     }
     Ok(sorted)

@@ -11,8 +11,9 @@ ghost use Rattle.tree_shape.specs.Walks.{row_at, refused, entries_visits, IsFron
 
 use crate::fault::TreeFault;
 use crate::file_row::FileRow;
-use bridge_text::{Bytes, Id, Kind, NoMemory, PATH_LIMIT, ROWS_LIMIT};
+use bridge_text::{Id, Kind, NoMemory, PATH_LIMIT, ROWS_LIMIT};
 use git_object::{Objects, Tree, TreeEntry};
+use shared_text::Text;
 use std::alloc::Global;
 
 /// What a walk has come to.
@@ -57,7 +58,7 @@ impl Walk {
         let Some(size) = grown(self.size, self.path.len()) else {
             return Err(TreeFault::Limit);
         };
-        let path = Bytes::of(alloc, self.path.as_slice())?;
+        let path = text_of(alloc, self.path.as_slice())?;
         self.rows.push(FileRow {
             path,
             mode: entry.mode(),
@@ -109,6 +110,13 @@ impl Walk {
         }
         self.put_row(alloc, entry)
     }
+}
+
+// A text of these bytes.
+fn text_of(alloc: Global, path: &[u8]) -> Result<Text, NoMemory>
+    ensures { IfOk result (λ text. text ≡ path.now) }
+{
+    Ok(Text::copy_from_slice(alloc, path)?)
 }
 
 /// Turns the path of a directory, empty for the root, into that of an entry of this name.
