@@ -11,12 +11,28 @@ use state_part::SharedPart;
 use std::alloc::Global;
 
 /// The commits of a saved state.
-#[derive(Drop)]
 pub struct GitSection {
     /// All their objects.
     pub store: GitStore,
     /// The ids of the commits, in their order.
     pub ids: IdList,
+}
+
+impl Drop for GitSection {
+    fn drop(self) {
+        let GitSection { store: _, ids: _ } = self;
+    }
+}
+
+impl GitSection {
+    /// The objects, and the ids.
+    pub fn into_parts(self) -> (GitStore, IdList)
+        ensures store { result.0 ≡ self.store }
+        ensures ids { result.1 ≡ self.ids }
+    {
+        let GitSection { store, ids } = self;
+        (store, ids)
+    }
 }
 
 /// The objects that these bytes bring to an empty store; `None` exactly where the bytes are refused. Blobs that are known

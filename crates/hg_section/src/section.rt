@@ -14,7 +14,6 @@ use shared_text::Text;
 use std::alloc::Global;
 
 /// The changesets of a saved state.
-#[derive(Drop)]
 pub struct HgSection {
     /// What their dump brings, in its order.
     pub store: HgStore,
@@ -22,6 +21,30 @@ pub struct HgSection {
     pub nodes: IdList,
     /// All the entries of their dump.
     pub arrivals: Arrivals,
+}
+
+impl Drop for HgSection {
+    fn drop(self) {
+        let HgSection {
+            store: _,
+            nodes: _,
+            arrivals: _,
+        } = self;
+    }
+}
+
+impl HgSection {
+    /// What their dump brings.
+    pub fn into_store(self) -> HgStore
+        ensures { result ≡ self.store }
+    {
+        let HgSection {
+            store,
+            nodes: _,
+            arrivals: _,
+        } = self;
+        store
+    }
 }
 
 /// The changesets whose dump these bytes are; `None` exactly where no list of changesets that can be saved has this dump.

@@ -28,7 +28,7 @@ use Rattle.pair_known.specs.declared.git_draft.GitDraft.{GitDraft}
 use Rattle.pair_known.specs.declared.hg_block.HgBlock.{HgBlock}
 use Rattle.link_rule.specs.Links.{AreLinksMade}
 use Rattle.pair_choice.specs.Chosen.{IsChosenBlock, CommitRefuses}
-use Rattle.pair_choice.specs.Fault.{choice_fault}
+use Rattle.pair_known.specs.Fault.{choice_fault}
 use Rattle.pair_choice.specs.Parts.{IsBlockMade}
 use Rattle.pair_choice.specs.Depths.{MeetsNone}
 use Rattle.commit_rule.proofs.Tables.{table}

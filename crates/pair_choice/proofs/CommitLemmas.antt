@@ -28,7 +28,7 @@ use Rattle.pair_known.specs.declared.fault.PairFault.TheVariants as made
 use Rattle.pair_known.specs.declared.known.Known.{Known}
 use Rattle.pair_known.specs.declared.git_draft.GitDraft.{GitDraft}
 use Rattle.pair_choice.specs.Chosen.{IsChosenCommit, ChangesetRefuses}
-use Rattle.pair_choice.specs.Fault.{choice_fault}
+use Rattle.pair_known.specs.Fault.{choice_fault}
 use Rattle.pair_choice.specs.Parts.{is_bare_date}
 use Rattle.pair_choice.specs.Depths.{MeetsNone}
 use Rattle.commit_rule.proofs.Tables.{table}

@@ -16,7 +16,7 @@ use Rattle.pair_choice.specs.Chosen.{ChangesetRefuses}
 use Rattle.pair_choice.specs.Depths.{IsDepth}
 use Rattle.pair_choice.specs.Parts.{IsUnmarkedCommit, is_bare_date}
 use Rattle.pair_choice.specs.declared.depth.Depth.TheVariants.{Even, Odd, TooDeep, Collides}
-use Rattle.pair_choice.specs.declared.fault.ChoiceFault.TheVariants.{Collision, NestLimit}
+use Rattle.pair_known.specs.declared.choice_fault.ChoiceFault.TheVariants.{Collision, NestLimit}
 use Rattle.pair_choice.proofs.BodyLemmas.{built-of}
 use Rattle.pair_choice.proofs.Collisions.{none-collide, collides}
 use Rattle.pair_choice.proofs.Collisions as bodies

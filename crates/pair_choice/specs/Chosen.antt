@@ -13,8 +13,8 @@ use Rattle.pair_known.specs.Ruled.{IsRuledCommit, IsMadeChangeset}
 use Rattle.pair_known.specs.declared.known.Known.{Known}
 use Rattle.pair_known.specs.declared.git_draft.GitDraft.{GitDraft}
 use Rattle.pair_known.specs.declared.hg_block.HgBlock.{HgBlock}
-use Rattle.pair_choice.specs.declared.fault.ChoiceFault.{ChoiceFault}
-use Rattle.pair_choice.specs.declared.fault.ChoiceFault.TheVariants.{PathClash, ParentIsLink, NestLimit, PairLimit, Collision, Memory}
+use Rattle.pair_known.specs.declared.choice_fault.ChoiceFault.{ChoiceFault}
+use Rattle.pair_known.specs.declared.choice_fault.ChoiceFault.TheVariants.{PathClash, ParentIsLink, NestLimit, PairLimit, Collision, Memory}
 
 -- The partner of the changeset, and that none of the refusals is due. The draft of a commit with links stands for it, so that its links can be asked.
 pub record IsChosenCommit (k : Known) (blocks : List Block) (h : ChangesetView) (d : GitDraft) (c : CommitView) : Type 0 where

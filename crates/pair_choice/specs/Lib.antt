@@ -1,5 +1,4 @@
 pub mod Bodies
 pub mod Chosen
 pub mod Depths
-pub mod Fault
 pub mod Parts

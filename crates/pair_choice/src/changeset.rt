@@ -10,14 +10,13 @@ ghost use Rattle.pair_choice.specs.Parts.{IsUnmarkedCommit, IsAlone, is_bare_dat
 use crate::bodies::has_bodies;
 use crate::clash::has_clash;
 use crate::depth::{Depth, depth_of_changeset};
-use crate::fault::ChoiceFault;
 use crate::parents::has_link_parent;
 use crate::within::unmarked_commit;
 use bridge_io::Steps;
 use changeset_unmark::unmark_changeset;
 use commit_mark::mark_commit;
 use hg_changeset::{Changeset, DateLine};
-use pair_known::{GitDraft, HgDraft, Known};
+use pair_known::{ChoiceFault, GitDraft, HgDraft, Known};
 use std::alloc::Global;
 use std::sync::ledger::Ledger;
 

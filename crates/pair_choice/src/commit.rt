@@ -6,11 +6,10 @@ ghost use Rattle.pair_choice.specs.Chosen.{IsChosenBlock, CommitRefuses};
 ghost use Rattle.pair_choice.specs.Parts.{IsUnmarkedChangeset};
 
 use crate::depth::{Depth, depth_of_commit};
-use crate::fault::ChoiceFault;
 use crate::within::{marked_block, unmarked_block};
 use bridge_io::Steps;
 use commit_unmark::unmark_commit;
-use pair_known::{GitDraft, HgBlock, HgDraft, Known};
+use pair_known::{ChoiceFault, GitDraft, HgBlock, HgDraft, Known};
 use std::alloc::Global;
 use std::sync::ledger::Ledger;
 

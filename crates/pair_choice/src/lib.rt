@@ -7,11 +7,9 @@ mod clash;
 mod commit;
 mod depth;
 mod draft;
-mod fault;
 mod parents;
 mod unmark;
 mod within;
 
 pub use changeset::pair_of_changeset;
 pub use commit::pair_of_commit;
-pub use fault::ChoiceFault;

@@ -6,3 +6,4 @@ pub mod GitDrafts
 pub mod Blocks
 pub mod Over
 pub mod Ruled
+pub mod Fault

@@ -2,6 +2,7 @@
 //! drafts of members that are to be added.
 #![tactic(auto)]
 
+mod choice_fault;
 mod draft_fault;
 mod draft_texts;
 mod fault;
@@ -14,6 +15,7 @@ mod hg_row;
 mod known;
 mod partners;
 
+pub use choice_fault::ChoiceFault;
 pub use draft_fault::DraftFault;
 pub use draft_texts::DraftTexts;
 pub use fault::PairFault;

@@ -8,10 +8,15 @@ use std::alloc::Global;
 use std::marker::Model;
 
 /// A list of nodes, of which each is found at once. Contracts see the list.
-#[derive(Drop)]
 pub struct NodeList {
     nodes: IdList,
     set: IndexSet<Id>,
+}
+
+impl Drop for NodeList {
+    fn drop(self) {
+        let NodeList { nodes: _, set: _ } = self;
+    }
 }
 
 impl Model for NodeList {

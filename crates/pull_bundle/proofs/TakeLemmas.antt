@@ -15,8 +15,8 @@ use Rattle.partner_model.specs.Clash.{commit_side_collides}
 use Rattle.partner_model.specs.Given.{block_with, has_late_file, has_late_manifest}
 use Rattle.history_model.specs.Pull.{BringBlocks, ChangesetRefused, ViewRefused, BlockRefused, IsKnownLink, is_saved}
 use Rattle.bridge_text.specs.Refusals.{fault_name}
-use Rattle.pair_choice.specs.declared.fault.ChoiceFault.{ChoiceFault}
-use Rattle.pair_choice.specs.declared.fault.ChoiceFault.TheVariants as choice
+use Rattle.pair_known.specs.declared.choice_fault.ChoiceFault.{ChoiceFault}
+use Rattle.pair_known.specs.declared.choice_fault.ChoiceFault.TheVariants as choice
 use Rattle.pair_choice.specs.Chosen.{IsChosenCommit, ChangesetRefuses}
 use Rattle.pair_known.specs.declared.hg_draft.HgDraft.{HgDraft}
 use Rattle.pair_known.specs.declared.git_draft.GitDraft.{GitDraft}

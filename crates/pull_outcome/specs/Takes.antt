@@ -3,8 +3,8 @@ use Rattle.std.specs.Prelude.{⊤}
 use Rattle.text_model.specs.Fault.{FaultName}
 use Rattle.tree_shape.specs.declared.fault.TreeFault.{TreeFault}
 use Rattle.tree_shape.specs.declared.fault.TreeFault.TheVariants as tree
-use Rattle.pair_choice.specs.declared.fault.ChoiceFault.{ChoiceFault}
-use Rattle.pair_choice.specs.declared.fault.ChoiceFault.TheVariants as choice
+use Rattle.pair_known.specs.declared.choice_fault.ChoiceFault.{ChoiceFault}
+use Rattle.pair_known.specs.declared.choice_fault.ChoiceFault.TheVariants as choice
 use Rattle.pair_state.specs.declared.fault.PushFault.{PushFault}
 use Rattle.pair_state.specs.declared.fault.PushFault.TheVariants as push
 use Rattle.bridge_text.specs.Refusals.{fault_name}

@@ -4,7 +4,7 @@ ghost use Rattle.pull_outcome.specs.Takes.{tree_refused, choice_refused, push_re
 ghost use Rattle.pull_outcome.specs.declared.take_fault.TakeFault.TheVariants.{Memory};
 
 use bridge_text::{Fault, NoMemory};
-use pair_choice::ChoiceFault;
+use pair_known::ChoiceFault;
 use pair_state::PushFault;
 use tree_shape::TreeFault;
 

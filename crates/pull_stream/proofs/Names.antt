@@ -6,8 +6,8 @@ use Rattle.view_model.specs.View.{CommitView}
 use Rattle.pair_model.specs.Block.{Block}
 use Rattle.pair_known.specs.declared.known.Known.{Known}
 use Rattle.pair_choice.specs.Chosen.{CommitRefuses}
-use Rattle.pair_choice.specs.declared.fault.ChoiceFault.{ChoiceFault}
-use Rattle.pair_choice.specs.declared.fault.ChoiceFault.TheVariants as choice
+use Rattle.pair_known.specs.declared.choice_fault.ChoiceFault.{ChoiceFault}
+use Rattle.pair_known.specs.declared.choice_fault.ChoiceFault.TheVariants as choice
 use Rattle.pair_state.specs.declared.fault.PushFault.{PushFault}
 use Rattle.pair_state.specs.declared.fault.PushFault.TheVariants as push
 use Rattle.git_batch.specs.StreamFaults.{IsOfStream}

@@ -15,8 +15,8 @@ use Rattle.pair_known.specs.Ruled.{HasManifestParents}
 use Rattle.pair_known.specs.declared.hg_block.HgBlock.{HgBlock}
 use Rattle.pair_known.specs.declared.git_draft.GitDraft.{GitDraft}
 use Rattle.pair_choice.specs.Chosen.{IsChosenBlock, CommitRefuses}
-use Rattle.pair_choice.specs.declared.fault.ChoiceFault.{ChoiceFault}
-use Rattle.pair_choice.specs.declared.fault.ChoiceFault.TheVariants as choice
+use Rattle.pair_known.specs.declared.choice_fault.ChoiceFault.{ChoiceFault}
+use Rattle.pair_known.specs.declared.choice_fault.ChoiceFault.TheVariants as choice
 use Rattle.pair_state.specs.declared.state_parts.StateParts.{StateParts}
 use Rattle.pair_state.specs.declared.fault.PushFault.{PushFault}
 use Rattle.pair_state.specs.declared.fault.PushFault.TheVariants as push

@@ -21,8 +21,8 @@ use Rattle.pair_known.specs.Partners.{hg_at}
 use Rattle.pair_known.specs.declared.known.Known.{Known}
 use Rattle.pair_known.specs.declared.git_draft.GitDraft.{GitDraft}
 use Rattle.pair_known.proofs.PartnerLemmas.{hg-pairs, block-of-id, block-there}
-use Rattle.pair_choice.specs.declared.fault.ChoiceFault.{ChoiceFault}
-use Rattle.pair_choice.specs.declared.fault.ChoiceFault.TheVariants.{PathClash, ParentIsLink, NestLimit, PairLimit, Collision, Memory}
+use Rattle.pair_known.specs.declared.choice_fault.ChoiceFault.{ChoiceFault}
+use Rattle.pair_known.specs.declared.choice_fault.ChoiceFault.TheVariants.{PathClash, ParentIsLink, NestLimit, PairLimit, Collision, Memory}
 use Rattle.pair_choice.specs.Chosen.{IsChosenCommit, ChangesetRefuses}
 use Rattle.state_audit.specs.Before.{is_there, are_there, IsBefore, GetsBlock, HasNone, IsPartnerHere}
 

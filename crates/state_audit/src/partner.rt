@@ -4,13 +4,13 @@ ghost use Rattle.view_model.specs.View.{ChangesetView, CommitView};
 ghost use Rattle.pair_model.specs.Block.{Block};
 ghost use Rattle.pair_model.specs.Octopus.{is_link_view};
 ghost use Rattle.pair_known.specs.Over.{IsChangesetIn};
-ghost use Rattle.pair_choice.specs.declared.fault.ChoiceFault.TheVariants.{Memory};
+ghost use Rattle.pair_known.specs.declared.choice_fault.ChoiceFault.TheVariants.{Memory};
 ghost use Rattle.state_audit.specs.Before.{IsBefore, HasNone, IsPartnerHere, is_there, are_there};
 
 use bridge_io::Steps;
 use bridge_text::{Id, IdSet, NoMemory};
-use pair_choice::{ChoiceFault, pair_of_changeset};
-use pair_known::{GitDraft, HgDraft, Known, Partners};
+use pair_choice::pair_of_changeset;
+use pair_known::{ChoiceFault, GitDraft, HgDraft, Known, Partners};
 use std::alloc::Global;
 use std::sync::ledger::Ledger;
 

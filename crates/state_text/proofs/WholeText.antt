@@ -1,5 +1,5 @@
 -- What the sections say of the whole text, as far as they have been read.
-use Rattle.std.proofs.Common.{◌≡◌, ◌≢◌, ◌≤◌, ℕ, ◌+◌, Bool, true, false, List, [], ◌∷◌, ◌++◌, length, map, refl, sym, ap, subst, ◌∙◌, arith}
+use Rattle.std.proofs.Common.{◌≡◌, ◌≢◌, ◌≤◌, ℕ, ◌+◌, Bool, true, false, List, [], ◌∷◌, ◌++◌, length, map, refl, sym, ap, subst, ◌∙◌, append_assoc, arith}
 use Rattle.std.specs.Prelude.{Result, Err, IfErr, Option, None, ok_or}
 use Rattle.std.proofs.lemmas.List.{length-map}
 use Rattle.text_model.specs.Text.{Bytes}
@@ -30,7 +30,7 @@ use Rattle.tag_section.specs.Tags.{HoldsTags}
 use Rattle.pair_state.specs.declared.blocks.Block as pair
 use Rattle.state_text.specs.declared.heads.Head.{Head}
 use Rattle.state_text.specs.Heads.{heads_of}
-use Rattle.state_text.specs.Sections.{NoHg, HasHg, NoGit, HasGit, NoTags, HasTags, HasNames, paired, pairs_text, names_text, targets_read}
+use Rattle.state_text.specs.Sections.{IsEnd, hg_text, NoHg, HasHg, NoGit, HasGit, NoTags, HasTags, HasNames, paired, pairs_text, names_text, targets_read}
 use Rattle.state_text.specs.Whole.{block_in, AreSectionsOf}
 use Rattle.state_text.proofs.BlockLemmas.{Made, blocks-made, head_in, heads-blocks, paired-blocks, partners-blocks, nodes-once, ids-once, pairs-section, map_text_of}
 use Rattle.state_text.proofs.SectionLemmas.{IsRead, read-first, read-more}
@@ -78,6 +78,9 @@ module _ (text r0 : Bytes) (first : text ≡ head_line ++ r0) where
   module _ (hg : HgSection) (heads : List Head) (r1 : Bytes) (hs : List ChangesetView) (h : HasHg r0 hg heads r1 hs) where
     read-1 : (cs : List CommitView) (tags : List Object) → IsRead 1 text (so_far hs cs tags) r1
     read-1 cs tags = read-more 0 text r0 r1 (so_far hs cs tags) (read-0 (so_far hs cs tags)) h.is h.saved
+
+    pub behind-hg : IsEnd text r1
+    behind-hg = (head_line ++ hg_text hs, first ∙ ap (λ (l : Bytes). head_line ++ l) h.is ∙ sym (append_assoc head_line (hg_text hs) r1))
 
     pub no-git : NoGit r1 → IsShapeFault text 2
     no-git none = shape-2 text (so_far hs [] []) r0 r1 (read-0 (so_far hs [] [])) (read-1 [] []) none

@@ -27,20 +27,21 @@ pub fn assemble(
     ensures exactly { IfOk result (λ s. (m : model.State) → AreSectionsOf hg blocks tags named.names m → HoldsExactly s m) }
 {
     hg.store.check();
-    let partners = named.partners;
+    let (partners, names) = named.into_parts();
     partners.check();
     let changesets = node_list(alloc, hg.nodes.as_slice())?;
+    let (git, commits, tags) = tags.into_parts();
     Ok(State::from_parts(StateParts {
         known: Known {
-            hg: hg.store,
-            git: tags.store,
+            hg: hg.into_store(),
+            git,
             partners,
         },
         blocks,
         changesets,
-        commits: tags.ids,
-        tags: tags.tags,
-        names: named.names,
+        commits,
+        tags,
+        names,
         agreed: IdSet::new(alloc),
         alloc,
     }))

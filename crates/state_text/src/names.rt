@@ -21,12 +21,31 @@ use std::alloc::Global;
 pub const NAMES: &[u8] = b"names";
 
 /// The section of the names that bytes are, over pairs.
-#[derive(Drop)]
 pub struct NamePart {
     /// The pairs.
     pub partners: Partners,
     /// The names.
     pub names: Rows,
+}
+
+impl Drop for NamePart {
+    fn drop(self) {
+        let NamePart {
+            partners: _,
+            names: _,
+        } = self;
+    }
+}
+
+impl NamePart {
+    /// The pairs, and the names.
+    pub fn into_parts(self) -> (Partners, Rows)
+        ensures partners { result.0 ≡ self.partners }
+        ensures names { result.1 ≡ self.names }
+    {
+        let NamePart { partners, names } = self;
+        (partners, names)
+    }
 }
 
 /// The names whose section the bytes are, over these blocks and the tags with these ids; `None` exactly where the bytes are the section of

@@ -10,7 +10,7 @@ use crate::blocks::blocks_of;
 use crate::fault::StateFault;
 use crate::names::read_named;
 use crate::sections::{read_git, read_hg, read_pairs, read_tagged};
-use crate::shared::shared_rest;
+use crate::shared::behind_head;
 use bridge_text::SLOT_LIMIT;
 use pair_state::State;
 use shared_text::Text;
@@ -22,15 +22,14 @@ pub fn read(alloc: Global, text: &Text) -> Result<State, StateFault>
     ensures ok { IfOk result (λ s. (m : model.State) × IsStateText text.now m × Stands s m × HoldsExactly s m) }
     ensures fault { IfErr result (IsStateFault text.now) }
 {
-    let rest = shared_rest(text)?;
-    let hg = read_hg(alloc, &rest)?.ok_or(StateFault::StateShape(1))?;
-    let git = read_git(alloc, &hg.rest, &hg.section)?.ok_or(StateFault::StateShape(2))?;
+    let rest = behind_head(text)?;
+    let hg = read_hg(alloc, text, rest)?.ok_or(StateFault::StateShape(1))?;
+    let git = read_git(alloc, text, hg.rest, &hg.section)?.ok_or(StateFault::StateShape(2))?;
     if hg.heads.as_slice().len() != git.section.ids.len() {
         return Err(StateFault::StateShape(3));
     }
     let blocks = blocks_of(alloc, hg.heads.as_slice(), git.section.ids.as_slice())?;
-    let after = git.rest;
-    let rest = read_pairs(alloc, &blocks, after.as_slice())?.ok_or(StateFault::StateShape(3))?;
+    let rest = read_pairs(alloc, &blocks, git.rest)?.ok_or(StateFault::StateShape(3))?;
     let tags = read_tagged(alloc, git.section, git.used, rest)?.ok_or(StateFault::StateShape(4))?;
     let named = read_named(alloc, &blocks, tags.section.tags.as_slice(), tags.rest)?.ok_or(
         StateFault::StateShape(5),

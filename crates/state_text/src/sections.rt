@@ -5,7 +5,7 @@ ghost use Rattle.view_model.specs.View.{ChangesetView, CommitView};
 ghost use Rattle.git_model.specs.Object.{Object};
 ghost use Rattle.git_section.specs.Sections.{HoldsCommits};
 ghost use Rattle.state_model.specs.Kept as kept;
-ghost use Rattle.state_text.specs.Sections.{NoHg, HasHg, NoGit, HasGit, NoTags, HasTags, pairs_text};
+ghost use Rattle.state_text.specs.Sections.{IsEnd, NoHg, HasHg, NoGit, HasGit, NoTags, HasTags, pairs_text};
 
 use crate::blocks::pairs_of;
 use crate::heads::{Heads, heads_among};
@@ -31,24 +31,24 @@ pub const TAGS: &[u8] = b"tags";
 
 /// The section of the changesets that bytes begin with.
 #[derive(Drop)]
-pub struct HgPart {
+pub struct HgPart<'a> {
     /// The changesets.
     pub section: HgSection,
     /// Those that are no links.
     pub heads: Heads,
     /// What follows the section.
-    pub rest: Text,
+    pub rest: &'a [u8],
 }
 
 /// The section of the commits that bytes begin with.
 #[derive(Drop)]
-pub struct GitPart {
+pub struct GitPart<'a> {
     /// The commits.
     pub section: GitSection,
     /// The size of their dump.
     pub used: usize,
     /// What follows the section.
-    pub rest: Text,
+    pub rest: &'a [u8],
 }
 
 /// The section of the kept tags that bytes begin with.
@@ -60,12 +60,18 @@ pub struct TagPart<'a> {
     pub rest: &'a [u8],
 }
 
-/// The changesets whose section begins the bytes; `None` exactly where no changesets that can be saved have such a section.
-pub fn read_hg(alloc: Global, bytes: &Text) -> Result<Option<HgPart>, NoMemory>
-    ensures { IfOk result (λ found. MatchOption found (NoHg bytes.now)
-        (λ p. (hs : List ChangesetView) × HasHg bytes.now p.section p.heads p.rest hs)) }
+/// The changesets whose section begins the bytes, an end of the text, of which they keep parts; `None` exactly where no changesets that can
+/// be saved have such a section.
+pub fn read_hg<'a>(
+    alloc: Global,
+    text: &Text,
+    bytes: &'a [u8],
+) -> Result<Option<HgPart<'a>>, NoMemory>
+    requires ends { IsEnd text.now bytes.now }
+    ensures { IfOk result (λ found. MatchOption found (NoHg bytes.entry.now)
+        (λ p. (hs : List ChangesetView) × HasHg bytes.entry.now p.section p.heads p.rest.now hs)) }
 {
-    let Some(part) = shared_section(HG, bytes)? else {
+    let Some(part) = shared_section(HG, text, bytes)? else {
         return Ok(None);
     };
     let Some(section) = read_changesets(alloc, &part.text)? else {
@@ -81,13 +87,19 @@ pub fn read_hg(alloc: Global, bytes: &Text) -> Result<Option<HgPart>, NoMemory>
     }))
 }
 
-/// The commits whose section begins the bytes; `None` exactly where no commits that can be saved have such a section. Blobs that
-/// are bodies of the changesets' files aren't hashed again.
-pub fn read_git(alloc: Global, bytes: &Text, hg: &HgSection) -> Result<Option<GitPart>, NoMemory>
-    ensures { IfOk result (λ found. MatchOption found (NoGit bytes.now)
-        (λ p. (cs : List CommitView) × HasGit bytes.now p.section p.used p.rest cs)) }
+/// The commits whose section begins the bytes, an end of the text, of which they keep parts; `None` exactly where no commits that can be
+/// saved have such a section. Blobs that are bodies of the changesets' files aren't hashed again.
+pub fn read_git<'a>(
+    alloc: Global,
+    text: &Text,
+    bytes: &'a [u8],
+    hg: &HgSection,
+) -> Result<Option<GitPart<'a>>, NoMemory>
+    requires ends { IsEnd text.now bytes.now }
+    ensures { IfOk result (λ found. MatchOption found (NoGit bytes.entry.now)
+        (λ p. (cs : List CommitView) × HasGit bytes.entry.now p.section p.used p.rest.now cs)) }
 {
-    let Some(part) = shared_section(GIT, bytes)? else {
+    let Some(part) = shared_section(GIT, text, bytes)? else {
         return Ok(None);
     };
     let known = KnownBlobs::new(alloc, &hg.store, &hg.arrivals)?;

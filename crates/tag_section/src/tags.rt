@@ -17,7 +17,6 @@ use git_store::GitStore;
 use std::alloc::Global;
 
 /// The commits and the kept tags of a saved state.
-#[derive(Drop)]
 pub struct TagSection {
     /// All the objects of the commits, and behind them the tags.
     pub store: GitStore,
@@ -25,6 +24,28 @@ pub struct TagSection {
     pub ids: IdList,
     /// The ids of the tags, in their order.
     pub tags: IdList,
+}
+
+impl Drop for TagSection {
+    fn drop(self) {
+        let TagSection {
+            store: _,
+            ids: _,
+            tags: _,
+        } = self;
+    }
+}
+
+impl TagSection {
+    /// The objects, the ids of the commits, and those of the tags.
+    pub fn into_parts(self) -> (GitStore, IdList, IdList)
+        ensures store { result.0 ≡ self.store }
+        ensures ids { result.1 ≡ self.ids }
+        ensures tags { result.2 ≡ self.tags }
+    {
+        let TagSection { store, ids, tags } = self;
+        (store, ids, tags)
+    }
 }
 
 /// The tags whose stream these bytes are, over the commits of a section; `None` exactly where no tags that can be saved over
@@ -42,15 +63,16 @@ pub fn read_tags(
     if !is_short(used as u64, bytes.len() as u64) {
         return Ok(None);
     }
-    let Some(arrived) = read_stream(alloc, section.store, bytes)? else {
+    let (store, ids) = section.into_parts();
+    let Some(arrived) = read_stream(alloc, store, bytes)? else {
         return Ok(None);
     };
-    let Some(tags) = kept_tags(alloc, &arrived.store, section.ids.as_slice(), &arrived.came)? else {
+    let Some(tags) = kept_tags(alloc, &arrived.store, ids.as_slice(), &arrived.came)? else {
         return Ok(None);
     };
     Ok(Some(TagSection {
         store: arrived.store,
-        ids: section.ids,
+        ids,
         tags,
     }))
 }

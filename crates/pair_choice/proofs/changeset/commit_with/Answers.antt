@@ -3,7 +3,7 @@ use Rattle.hg_model.specs.Changeset.{Changeset}
 use Rattle.partner_model.specs.Mark.{mark_commit}
 use Rattle.partner_model.specs.Partner.{OfHg}
 use Rattle.pair_choice.specs.Depths.{IsDepth}
-use Rattle.pair_choice.specs.Fault.{choice_fault}
+use Rattle.pair_known.specs.Fault.{choice_fault}
 use Rattle.pair_choice.specs.Parts.{is_bare_date}
 use Rattle.pair_choice.specs.declared.depth.Depth.{Depth}
 use Rattle.pair_choice.proofs.LimitLemmas.{err-is}

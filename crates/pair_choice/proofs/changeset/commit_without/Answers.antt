@@ -1,7 +1,7 @@
 use Rattle.std.proofs.Common.{Err, sym, ap, ◌∙◌}
 use Rattle.partner_model.specs.Mark.{mark_commit}
 use Rattle.pair_known.specs.Over.{IsChangesetOver}
-use Rattle.pair_choice.specs.Fault.{choice_fault}
+use Rattle.pair_known.specs.Fault.{choice_fault}
 use Rattle.pair_choice.proofs.LimitLemmas.{err-is}
 use Rattle.pair_choice.proofs.ParentLemmas.{no-link-parents}
 use Rattle.pair_choice.proofs.CommitLemmas.{chosen, refused, alone-choice}

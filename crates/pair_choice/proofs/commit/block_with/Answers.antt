@@ -6,7 +6,7 @@ use Rattle.pair_model.specs.Octopus.{links_of}
 use Rattle.partner_model.specs.Mark.{mark_changeset}
 use Rattle.partner_model.specs.Partner.{OfGit}
 use Rattle.pair_choice.specs.Depths.{IsDepth}
-use Rattle.pair_choice.specs.Fault.{choice_fault}
+use Rattle.pair_known.specs.Fault.{choice_fault}
 use Rattle.pair_choice.proofs.LimitLemmas.{err-is}
 use Rattle.pair_choice.proofs.ChangesetLemmas.{chosen, refused, plain-choice, odd-choice, even-choice, no-headers, not-plain}
 use Rattle.pair_choice.proofs.commit.block_with.Goals as goal

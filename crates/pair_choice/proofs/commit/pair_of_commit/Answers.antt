@@ -4,7 +4,7 @@ use Rattle.view_model.specs.View.{ChangesetView}
 use Rattle.partner_model.specs.Mark.{mark_changeset}
 use Rattle.partner_model.specs.Partner.{UnmarksCommit}
 use Rattle.pair_known.specs.Ruled.{IsMadeChangeset}
-use Rattle.pair_choice.specs.Fault.{choice_fault}
+use Rattle.pair_known.specs.Fault.{choice_fault}
 use Rattle.pair_choice.proofs.LimitLemmas.{err-is, match-some, match-none}
 use Rattle.pair_choice.proofs.ChangesetLemmas.{chosen, refused, alone-choice}
 use Rattle.pair_choice.proofs.commit.pair_of_commit.Goals as goal

@@ -8,26 +8,26 @@ use Rattle.state_text.proofs.assemble.assemble.Goals as goal
 pub from_parts-requires : goal.from_parts-requires
 from_parts-requires c =
     let s : StateParts = record {
-      known = record { hg = c.args.hg.store; git = c.args.tags.store; partners = c.args.named.partners };
+      known = record { hg = c.into_store.result; git = c.into_parts-git.result.0; partners = c.into_parts-partners.result.0 };
       blocks = c.args.blocks;
       changesets = c.in_ok-changesets.changesets;
-      commits = c.args.tags.ids;
-      tags = c.args.tags.tags;
-      names = c.args.named.names;
+      commits = c.into_parts-git.result.1;
+      tags = c.into_parts-git.result.2;
+      names = c.into_parts-partners.result.1;
       agreed = c.new.result;
       alloc = c.args.alloc;
     } in
     let made : IsMadeOf s c.args.hg c.args.blocks c.args.tags c.args.named.names = record {
-      hg_is = refl;
-      git_is = refl;
-      partners_are = c.requires.partners;
+      hg_is = c.into_store.ensures;
+      git_is = c.into_parts-git.ensures.store;
+      partners_are = c.into_parts-partners.ensures.partners ∙ c.requires.partners;
       blocks_are = refl;
       changesets_are = c.in_ok-changesets.ensures ∙ c.as_slice.ensures;
-      commits_are = refl;
-      tags_are = refl;
-      names_are = refl;
+      commits_are = c.into_parts-git.ensures.ids;
+      tags_are = c.into_parts-git.ensures.tags;
+      names_are = c.into_parts-partners.ensures.names;
       none_agreed = c.new.ensures;
-      added = c.check.ensures;
+      added = subst AreAdded (sym c.into_store.ensures) c.check.ensures;
       partners = c.check-2.ensures;
     } in
     record { history = has-blocks s c.args.hg c.args.blocks c.args.tags c.args.named.names c.requires.sections.0 c.requires.sections.1 made }
@@ -37,16 +37,16 @@ returns-clause-stands c =
     let s = c.from_parts.result in
     let e = c.from_parts.ensures in
     let made : IsMadeOf s c.args.hg c.args.blocks c.args.tags c.args.named.names = record {
-      hg_is = ap (λ (x : StateParts). x.known.hg) e;
-      git_is = ap (λ (x : StateParts). x.known.git) e;
-      partners_are = ap (λ (x : StateParts). x.known.partners) e ∙ c.requires.partners;
+      hg_is = ap (λ (x : StateParts). x.known.hg) e ∙ c.into_store.ensures;
+      git_is = ap (λ (x : StateParts). x.known.git) e ∙ c.into_parts-git.ensures.store;
+      partners_are = ap (λ (x : StateParts). x.known.partners) e ∙ c.into_parts-partners.ensures.partners ∙ c.requires.partners;
       blocks_are = ap (λ (x : StateParts). x.blocks) e;
       changesets_are = ap (λ (x : StateParts). x.changesets) e ∙ c.in_ok-changesets.ensures ∙ c.as_slice.ensures;
-      commits_are = ap (λ (x : StateParts). x.commits) e;
-      tags_are = ap (λ (x : StateParts). x.tags) e;
-      names_are = ap (λ (x : StateParts). x.names) e;
+      commits_are = ap (λ (x : StateParts). x.commits) e ∙ c.into_parts-git.ensures.ids;
+      tags_are = ap (λ (x : StateParts). x.tags) e ∙ c.into_parts-git.ensures.tags;
+      names_are = ap (λ (x : StateParts). x.names) e ∙ c.into_parts-partners.ensures.names;
       none_agreed = ap (λ (x : StateParts). x.agreed) e ∙ c.new.ensures;
-      added = subst (λ (x : StateParts). AreAdded x.known.hg) (sym e) c.check.ensures;
+      added = subst (λ (x : StateParts). AreAdded x.known.hg) (sym e) (subst AreAdded (sym c.into_store.ensures) c.check.ensures);
       partners = subst (λ (x : StateParts). ArePartners x.known.partners) (sym e) c.check-2.ensures;
     } in
     (λ m a. stands s c.args.hg c.args.blocks c.args.tags c.args.named.names m a made)
@@ -56,16 +56,16 @@ returns-clause-exactly c =
     let s = c.from_parts.result in
     let e = c.from_parts.ensures in
     let made : IsMadeOf s c.args.hg c.args.blocks c.args.tags c.args.named.names = record {
-      hg_is = ap (λ (x : StateParts). x.known.hg) e;
-      git_is = ap (λ (x : StateParts). x.known.git) e;
-      partners_are = ap (λ (x : StateParts). x.known.partners) e ∙ c.requires.partners;
+      hg_is = ap (λ (x : StateParts). x.known.hg) e ∙ c.into_store.ensures;
+      git_is = ap (λ (x : StateParts). x.known.git) e ∙ c.into_parts-git.ensures.store;
+      partners_are = ap (λ (x : StateParts). x.known.partners) e ∙ c.into_parts-partners.ensures.partners ∙ c.requires.partners;
       blocks_are = ap (λ (x : StateParts). x.blocks) e;
       changesets_are = ap (λ (x : StateParts). x.changesets) e ∙ c.in_ok-changesets.ensures ∙ c.as_slice.ensures;
-      commits_are = ap (λ (x : StateParts). x.commits) e;
-      tags_are = ap (λ (x : StateParts). x.tags) e;
-      names_are = ap (λ (x : StateParts). x.names) e;
+      commits_are = ap (λ (x : StateParts). x.commits) e ∙ c.into_parts-git.ensures.ids;
+      tags_are = ap (λ (x : StateParts). x.tags) e ∙ c.into_parts-git.ensures.tags;
+      names_are = ap (λ (x : StateParts). x.names) e ∙ c.into_parts-partners.ensures.names;
       none_agreed = ap (λ (x : StateParts). x.agreed) e ∙ c.new.ensures;
-      added = subst (λ (x : StateParts). AreAdded x.known.hg) (sym e) c.check.ensures;
+      added = subst (λ (x : StateParts). AreAdded x.known.hg) (sym e) (subst AreAdded (sym c.into_store.ensures) c.check.ensures);
       partners = subst (λ (x : StateParts). ArePartners x.known.partners) (sym e) c.check-2.ensures;
     } in
     (λ m a. exactly s c.args.hg c.args.blocks c.args.tags c.args.named.names m a made)

@@ -8,4 +8,4 @@ returns-in_default-2 c =
     let section = rw c.in-Some.is at c.in_ok-part.ensures.section in
     let short = rw c.in-Some.is at c.in_ok-part.ensures.short in
     let none = rw c.in_default-2.is at c.in_ok-section.ensures in
-    no-commits bytes part.text part.rest short section none
+    no-commits bytes part.text part.rest.now short section none

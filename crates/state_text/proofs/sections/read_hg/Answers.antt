@@ -11,7 +11,7 @@ returns-in_default-2 c =
     let section = rw c.in-Some.is at c.in_ok-part.ensures.section in
     let short = rw c.in-Some.is at c.in_ok-part.ensures.short in
     let none = rw c.in_default-2.is at c.in_ok-section.ensures in
-    no-dump bytes part.text part.rest short section none
+    no-dump bytes part.text part.rest.now short section none
 
 pub returns-in_default-3 : goal.returns-in_default-3
 returns-in_default-3 c =
@@ -22,4 +22,4 @@ returns-in_default-3 c =
     let found = rw c.in-Some-2.is at c.in_ok-section.ensures in
     let held = subst (λ (l : List Id). AreChangesetsHeld c.in-Some-2.section.store l found.0) (sym c.as_slice.ensures) (found.3).held in
     let none = rw c.in_default-3.is at (c.in_ok-heads.ensures found.0 (c.as_slice.ensures ∙ (found.3).nodes, held)) in
-    no-heads bytes part.text part.rest short section found.0 found.1 found.2 none
+    no-heads bytes part.text part.rest.now short section found.0 found.1 found.2 none

@@ -1,9 +1,9 @@
 ghost use Rattle.std.specs.Prelude.{◌≡◌};
-ghost use Rattle.pair_choice.specs.Fault.{choice_fault};
-ghost use Rattle.pair_choice.specs.declared.fault.ChoiceFault.TheVariants.{Memory};
+ghost use Rattle.pair_known.specs.Fault.{choice_fault};
+ghost use Rattle.pair_known.specs.declared.choice_fault.ChoiceFault.TheVariants.{Memory};
 
+use crate::fault::PairFault;
 use bridge_text::NoMemory;
-use pair_known::PairFault;
 use thiserror::Error;
 
 /// Why a member has no partner.
