@@ -5,13 +5,14 @@ use Rattle.hg_model.specs.Revision.{Revision}
 use Rattle.text_model.specs.Id.{Id, null}
 use Rattle.hg_model.specs.Changeset.{changeset_text}
 use Rattle.hg_changeset.specs.Values.{changeset_value}
+use Rattle.hg_store.specs.Known.{IsFileBlob}
 use Rattle.hg_store.specs.Views.{IsView, IsViewFault}
 use Rattle.hg_store.specs.declared.view.View.{View}
 use Rattle.hg_store.specs.declared.fault.ViewFault.TheVariants.{ChangesetUnknown, ManifestUnknown, FileUnknown}
 use Rattle.view_model.specs.View.{ChangesetView, Row, rows_text}
 use Rattle.view_model.specs.Dump.{file_revision}
 use Rattle.view_model.specs.Held.{IsFileHeld}
-use Rattle.pair_known.specs.Rows.{row_value}
+use Rattle.pair_known.specs.Rows.{RowValue, row_value}
 use Rattle.hg_manifest.specs.Values.{manifest_value}
 use Rattle.pair_known.specs.declared.draft_texts.DraftTexts.{DraftTexts}
 use Rattle.pair_known.specs.declared.hg_draft.HgDraft.{HgDraft}
@@ -35,6 +36,10 @@ pub record IsHgDraft (known : List Revision) (d : HgDraft) (h : ChangesetView) :
   pub rows : d.rows ≡ map row_value h.rows
   pub files : Each (IsFileHeld (d.fresh ++ known)) h.rows
   pub texts : AreTextsOf d.texts h
+
+-- the blob of a row is that of its file revision's body
+abbrev pub IsRowKnown : List Revision → RowValue → Type 0
+IsRowKnown known row = IsFileBlob known row.path row.node row.blob
 
 -- the changeset, its manifest and the file revisions that this names are known
 abbrev pub HasView : List Revision → Id → Type 0

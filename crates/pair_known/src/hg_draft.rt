@@ -1,15 +1,17 @@
-ghost use Rattle.std.specs.Prelude.{◌≡◌, [], List, map, None, OnOk, IfOk, IfErr};
+ghost use Rattle.std.specs.Prelude.{◌≡◌, false, [], List, map, None, OnOk, IfOk, IfErr, IfSome, IsTrue, MatchOption};
 ghost use Rattle.text_model.specs.Lists.{Each};
 ghost use Rattle.text_model.specs.Id as model;
 ghost use Rattle.hg_model.specs.Changeset as fields;
+ghost use Rattle.hg_model.specs.Revision.{FilesAt, knows};
 ghost use Rattle.hg_changeset.specs.Values.{changeset_value};
 ghost use Rattle.hg_manifest.specs.Values.{file_flag};
+ghost use Rattle.hg_store.specs.Known.{IsFileBlob};
 ghost use Rattle.hg_store.specs.Views.{IsChangesetOf, first_unknown};
 ghost use Rattle.view_model.specs.View.{ChangesetView, ManifestParents, Row, entry_of_row};
 ghost use Rattle.view_model.specs.Held.{IsChangesetHeld, IsManifestHeld, IsFileHeld};
 ghost use Rattle.pair_known.specs.Rows.{row_value};
 ghost use Rattle.hg_manifest.specs.Values.{manifest_value};
-ghost use Rattle.pair_known.specs.Drafts.{HasView, IsHgDraft, IsDraftFault, IsLineFault};
+ghost use Rattle.pair_known.specs.Drafts.{HasView, IsHgDraft, IsRowKnown, IsDraftFault, IsLineFault};
 
 use crate::draft_fault::DraftFault;
 use crate::draft_texts::DraftTexts;
@@ -55,13 +57,48 @@ impl Drop for HgDraft {
     }
 }
 
+impl HgDraft {
+    /// Its files.
+    pub fn into_rows(self) -> HgRows
+        ensures { result ≡ self.rows }
+    {
+        let HgDraft {
+            p1: _,
+            p2: _,
+            changeset: _,
+            manifest: _,
+            rows,
+            fresh: _,
+            texts: _,
+        } = self;
+        rows
+    }
+}
+
 /// The draft of a changeset that has a view, as each one of a history that is stored has. No body is copied, and nothing is hashed.
 pub fn draft_of_changeset(alloc: Global, known: &Known, node: &Id) -> Result<HgDraft, NoMemory>
     requires view { HasView known.now.hg node.now }
     ensures draft { IfOk result (λ d. (h : ChangesetView) → IsChangesetHeld known.now.hg node.now h → IsHgDraft known.now.hg d h) }
     ensures nothing_fresh { IfOk result (λ d. d.fresh ≡ []) }
 {
-    match read_changeset_draft(alloc, known, node) {
+    draft_near(alloc, known, node, &[])
+}
+
+/// The same, and nothing is looked up for a file that stands with the same revision among these rows, as most of a changeset's files do among those of
+/// a parent.
+pub fn draft_near(
+    alloc: Global,
+    known: &Known,
+    node: &Id,
+    near: &[HgRow],
+) -> Result<HgDraft, NoMemory>
+    requires view { HasView known.now.hg node.now }
+    requires near { Each (IsRowKnown known.now.hg) near.now }
+    ensures draft { IfOk result (λ d. (h : ChangesetView) → IsChangesetHeld known.now.hg node.now h → IsHgDraft known.now.hg d h) }
+    ensures nothing_fresh { IfOk result (λ d. d.fresh ≡ []) }
+    ensures rows { IfOk result (λ d. Each (IsRowKnown known.now.hg) d.rows) }
+{
+    match read_draft_near(alloc, known, node, near) {
         Ok(draft) => Ok(draft),
         Err(DraftFault::Memory) => Err(NoMemory),
         Err(DraftFault::Unknown(_)) => unreachable!(),
@@ -76,8 +113,25 @@ pub fn read_changeset_draft(alloc: Global, known: &Known, node: &Id) -> Result<H
     ensures nothing_fresh { IfOk result (λ d. d.fresh ≡ []) }
     ensures fault { IfErr result (IsDraftFault known.now.hg node.now) }
 {
+    read_draft_near(alloc, known, node, &[])
+}
+
+// The same beside these rows.
+fn read_draft_near(
+    alloc: Global,
+    known: &Known,
+    node: &Id,
+    near: &[HgRow],
+) -> Result<HgDraft, DraftFault>
+    requires near { Each (IsRowKnown known.now.hg) near.now }
+    ensures view { OnOk result (HasView known.now.hg node.now) }
+    ensures draft { IfOk result (λ d. (h : ChangesetView) → IsChangesetHeld known.now.hg node.now h → IsHgDraft known.now.hg d h) }
+    ensures nothing_fresh { IfOk result (λ d. d.fresh ≡ []) }
+    ensures rows { IfOk result (λ d. Each (IsRowKnown known.now.hg) d.rows) }
+    ensures fault { IfErr result (IsDraftFault known.now.hg node.now) }
+{
     match known.hg.changeset(node) {
-        Some((p1, p2, fields)) => draft_with(alloc, &known.hg, node, p1, p2, fields),
+        Some((p1, p2, fields)) => draft_with(alloc, &known.hg, node, (p1, p2), fields, near),
         None => Err(DraftFault::Unknown(ViewFault::ChangesetUnknown)),
     }
 }
@@ -87,24 +141,26 @@ fn draft_with(
     alloc: Global,
     store: &HgStore,
     node: &Id,
-    p1: Id,
-    p2: Id,
+    parents: (Id, Id),
     fields: &Changeset,
+    near: &[HgRow],
 ) -> Result<HgDraft, DraftFault>
-    requires fields { IsChangesetOf store.now node.now p1 p2 (changeset_value fields.now) }
+    requires fields { IsChangesetOf store.now node.now parents.0 parents.1 (changeset_value fields.now) }
+    requires near { Each (IsRowKnown store.now) near.now }
     ensures view { OnOk result (HasView store.now node.now) }
     ensures draft { IfOk result (λ d. (h : ChangesetView) → IsChangesetHeld store.now node.now h → IsHgDraft store.now d h) }
     ensures nothing_fresh { IfOk result (λ d. d.fresh ≡ []) }
+    ensures rows { IfOk result (λ d. Each (IsRowKnown store.now) d.rows) }
     ensures fault { IfErr result (IsDraftFault store.now node.now) }
 {
     let Some(manifest) = store.manifest(&fields.manifest) else {
         return Err(DraftFault::Unknown(ViewFault::ManifestUnknown));
     };
-    let rows = rows_of(alloc, store, manifest)?;
+    let rows = rows_of(alloc, store, manifest, near)?;
     let changeset = read_changeset(alloc, store, node)?;
     Ok(HgDraft {
-        p1,
-        p2,
+        p1: parents.0,
+        p2: parents.1,
         changeset,
         manifest: manifest_of_node(store, &fields.manifest),
         rows,
@@ -137,21 +193,62 @@ pub fn manifest_of_node(store: &HgStore, node: &Id) -> ManifestRev
 }
 
 // The files of a manifest; or its first line whose file revision is unknown.
-fn rows_of(alloc: Global, store: &HgStore, manifest: &Manifest) -> Result<HgRows, DraftFault>
+fn rows_of(
+    alloc: Global,
+    store: &HgStore,
+    manifest: &Manifest,
+    near: &[HgRow],
+) -> Result<HgRows, DraftFault>
+    requires near { Each (IsRowKnown store.now) near.now }
     ensures known { OnOk result (first_unknown store.now manifest.now ≡ None) }
     ensures rows { IfOk result (λ made. (rows : List Row) → map entry_of_row rows ≡ manifest.now → Each (IsFileHeld store.now) rows → made ≡ map row_value rows) }
+    ensures blobs { IfOk result (λ made. Each (IsRowKnown store.now) made) }
     ensures fault { IfErr result (IsLineFault (first_unknown store.now manifest.now)) }
 {
     let mut rows = HgRows::new(alloc);
+    let mut place = 0;
     for line in 0..manifest.len() {
         let entry = manifest.at(line);
-        let Some(blob) = store.file_blob(entry.path.as_slice(), &entry.node) else {
+        place = place_from(near, place, entry.path.as_slice());
+        let Some(blob) = blob_near(store, entry, near.get(place)) else {
             return Err(DraftFault::Unknown(ViewFault::FileUnknown(line)));
         };
         let row = row_of(entry, blob)?;
         rows.push(row)?;
     }
     Ok(rows)
+}
+
+// The first place, from one on, whose row doesn't stand below a path.
+fn place_from(rows: &[HgRow], from: usize, path: &[u8]) -> usize {
+    let mut place = from;
+    'rows: while place < rows.len() && is_below(&rows[place], path) {
+        place += 1;
+    }
+    place
+}
+
+// Whether a row's path stands below another path.
+fn is_below(row: &HgRow, path: &[u8]) -> bool {
+    row.path.as_slice().cmp(path).is_lt()
+}
+
+// The blob of an entry's file revision: that of the row, where this has the same revision, or else what the store says.
+fn blob_near(store: &HgStore, entry: &Entry, row: Option<&HgRow>) -> Option<Id>
+    requires row { IfSome row (λ r. IsRowKnown store.now r.now) }
+    ensures { MatchOption result (knows store.now (FilesAt entry.now.path) entry.now.node ≡ false) (IsFileBlob store.now entry.now.path entry.now.node) }
+{
+    match row {
+        Some(row) if is_of(row, entry) => Some(row.blob),
+        _ => store.file_blob(entry.path.as_slice(), &entry.node),
+    }
+}
+
+// Whether a row has the path and the revision of an entry.
+fn is_of(row: &HgRow, entry: &Entry) -> bool
+    ensures { IsTrue result → (row.now.path ≡ entry.now.path) × (row.now.node ≡ entry.now.node) }
+{
+    row.node == entry.node && row.path.as_slice() == entry.path.as_slice()
 }
 
 // The file of an entry, with the id that its revision's body has as a blob.

@@ -23,7 +23,9 @@ pub use fresh_blobs::{FreshBlob, FreshBlobs};
 pub use fresh_files::{FreshFile, FreshFiles};
 pub use git_draft::{GitDraft, draft_of_commit, read_commit_draft};
 pub use hg_block::{HgBlock, HgDrafts};
-pub use hg_draft::{HgDraft, draft_of_changeset, manifest_of_node, read_changeset_draft};
+pub use hg_draft::{
+    HgDraft, draft_near, draft_of_changeset, manifest_of_node, read_changeset_draft,
+};
 pub use hg_manifest::Cursor;
 pub use hg_row::{HgRow, HgRows};
 pub use known::Known;

@@ -6,8 +6,8 @@ use git_view::commits_are_held;
 use hg_manifest::ManifestRev;
 use hg_store::ViewFault;
 use pair_known::{
-    DraftFault, GitDraft, HgDraft, Known, draft_of_changeset, draft_of_commit, manifest_of_node,
-    read_changeset_draft, read_commit_draft,
+    DraftFault, GitDraft, HgDraft, Known, draft_near, draft_of_changeset, draft_of_commit,
+    manifest_of_node, read_changeset_draft, read_commit_draft,
 };
 use std::alloc::Global;
 use std::test::Fail;
@@ -33,6 +33,17 @@ fn reads_changeset(alloc: Global, known: &Known, node: &Id) -> Result<bool, Fail
     is_changeset(known, &h)
 }
 
+// Whether it is read beside its own rows.
+fn reads_near(alloc: Global, known: &Known, node: &Id) -> Result<bool, Fail> {
+    if known.hg.view_of(node).is_err() {
+        return Ok(false);
+    }
+    let near = draft_near(alloc, known, node, &[])?.into_rows();
+    let h = draft_near(alloc, known, node, near.as_slice())?;
+    let has_blob = h.rows.len() == 1 && h.rows.at(0).blob == id(BLOB)?;
+    Ok(is_changeset(known, &h)? && has_blob)
+}
+
 // Whether one that may be missing is.
 fn finds_changeset(alloc: Global, known: &Known, node: &Id) -> Result<bool, Fail> {
     let h = read_changeset_draft(alloc, known, node)?;
@@ -49,8 +60,9 @@ fn drafts_of_changesets(rt: HostRuntime) -> Result<(), Fail> {
     let known = with_changeset(&rt, rt.alloc())?;
     let node = id(PLAIN)?;
     let reads = reads_changeset(rt.alloc(), &known, &node)?;
+    let near = reads_near(rt.alloc(), &known, &node)?;
     let finds = finds_changeset(rt.alloc(), &known, &node)?;
-    assert!(rt; reads && finds);
+    assert!(rt; reads && near && finds);
     let unknown = draft_fault(rt.alloc(), &known, &Id::NULL);
     assert!(rt; unknown == Some(DraftFault::Unknown(ViewFault::ChangesetUnknown)));
     assert!(rt; manifest_of_node(&known.hg, &Id::NULL) == ManifestRev::Null);

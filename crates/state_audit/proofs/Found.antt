@@ -37,6 +37,10 @@ use Rattle.state_audit.specs.Seen.{AreSeen}
 use Rattle.state_audit.proofs.SameBodies.{ids-known, bodies-same, bodies-too}
 use Rattle.state_audit.proofs.Turns.{history, is-before, changeset-held, commit-held, walk, block-at, link-nodes}
 
+-- what a draft stands for, over stores that are the same
+pub draft-over : (k l : Known) → k ≡ l → (node : Id) (h : HgDraft) → ((v : ChangesetView) → IsChangesetHeld k.hg node v → IsHgDraft k.hg h v) → (v : ChangesetView) → IsChangesetHeld l.hg node v → IsHgDraft l.hg h v
+draft-over k l same node h of = subst (λ (known : Known). (v : ChangesetView) → IsChangesetHeld known.hg node v → IsHgDraft known.hg h v) same of
+
 module _ (s : StateParts) (place : ℕ) (ck : Checked) (m : State) (front : List Block) (b : Block) (rest : List Block) (t : IsTurn s place ck m front b rest) (k : Known) (same : k ≡ s.known) where
   abbrev v : ChangesetView
   v = b.changeset

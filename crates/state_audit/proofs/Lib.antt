@@ -1,5 +1,6 @@
 pub mod Partners
 pub mod SameCommits
+pub mod KeptFiles
 pub mod SameBodies
 pub mod Grounds
 pub mod Rows

@@ -59,9 +59,13 @@ module _ (known : List Object) (id : Id) (e c : CommitView) (held : IsCommitHeld
       let same : commit_text e.value ≡ commit_text c.value = (bytes_eq-Decides (commit_text e.value) text).0 h ∙ text-of in
       one_commit (commit_text e.value) e.value c.value ((held.text).0, refl) (((made.view).value), same)
 
+  -- commits of one text whose files are the same
+  pub same-held : bytes_eq (commit_text e.value) text ≡ true → (e.value ≡ c.value → map file_row_of e.rows ≡ map file_row_of c.rows) → SameCommit e c
+  same-held h files = record { value = value-same h; rows = rows-same e.rows c.rows (files (value-same h)) }
+
   module _ (kept : GitDraft) (draft : IsGitDraft known kept e) (b : Bool) (files : IsTrue b ↔ (kept.files ≡ d.files)) where
     pub same-commit : bytes_eq (commit_text e.value) text ≡ true → IsTrue b ↔ SameCommit e c
     same-commit h = (
-      (λ t. record { value = value-same h; rows = rows-same e.rows c.rows (sym draft.files ∙ files.0 t ∙ made.files) }),
+      (λ t. same-held h (λ _. sym draft.files ∙ files.0 t ∙ made.files)),
       (λ s. files.1 (draft.files ∙ same-rows e.rows c.rows s.rows ∙ sym made.files)),
     )

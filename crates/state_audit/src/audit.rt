@@ -12,13 +12,15 @@ use crate::judge::{Judgement, judge};
 use crate::verdict::Verdict;
 use bridge_io::Steps;
 use bridge_text::NoMemory;
+use pair_known::{HgRows, draft_near};
 use pair_state::State;
 use std::sync::ledger::Ledger;
 
 /// Whether each block of a saved history is right: its commit is the partner of its changeset over the blocks before it, its links are those of the commit, and
 /// the blobs of its files are the bodies of the changeset. Or the first block that isn't.
 ///
-/// Nothing is taken for granted of whether both sides agree. Each file revision is compared with its blob once. A step is counted for each unmarking: at
+/// Nothing is taken for granted of whether both sides agree. Each file revision is compared with its blob once, and looked up where the block before
+/// doesn't have it too. A step is counted for each unmarking: at
 /// most 18 for each block.
 pub fn verify<L: Ledger>(state: &State, steps: &mut Steps<L>) -> Result<Verdict, NoMemory>
     requires saved { (m : saved.State) × IsState m × Stands state.now m }
@@ -28,17 +30,22 @@ pub fn verify<L: Ledger>(state: &State, steps: &mut Steps<L>) -> Result<Verdict,
         → (found ≡ verdict.Differs kept right) ↔ StateDiffers m kept right) }
     ensures steps { (steps.old ≤ steps.new) × (steps.new ≤ steps.old + 18 * length state.now.blocks) }
 {
-    let mut checked = Checked::none(state.alloc(), &state.known().hg)?;
+    let known = state.known();
+    let mut checked = Checked::none(state.alloc(), &known.hg)?;
+    let mut near = HgRows::new(state.alloc());
     for place in 0..state.len() {
-        match judge(state, place, &checked, steps)? {
+        let block = state.blocks().at(place);
+        let h = draft_near(state.alloc(), known, &block.node, near.as_slice())?;
+        match judge(state, place, block, &h, &checked, steps)? {
             Judgement::Right => checked.add(state, place)?,
             Judgement::Wrong(right) => {
                 return Ok(Verdict::Differs {
-                    kept: state.blocks().at(place).commit,
+                    kept: block.commit,
                     right,
                 });
             }
         }
+        near = h.into_rows();
     }
     Ok(Verdict::Holds(state.len() as u64))
 }

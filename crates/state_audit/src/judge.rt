@@ -1,7 +1,8 @@
 // One block of a saved history, over the blocks before it.
-ghost use Rattle.std.specs.Prelude.{◌≡◌, ◌≤◌, ◌+◌, [], List, IfOk};
-ghost use Rattle.view_model.specs.View.{CommitView};
-ghost use Rattle.pair_model.specs.Block.{Block};
+ghost use Rattle.std.specs.Prelude.{◌≡◌, ◌≤◌, ◌+◌, [], List, Some, slice_get, IfOk};
+ghost use Rattle.view_model.specs.View.{ChangesetView, CommitView};
+ghost use Rattle.view_model.specs.Held.{IsChangesetHeld};
+ghost use Rattle.pair_model.specs.Block as model;
 ghost use Rattle.state_model.specs.Kept as saved;
 ghost use Rattle.pair_known.specs.Drafts.{IsHgDraft};
 ghost use Rattle.state_audit.specs.Before.{IsPartnerHere};
@@ -17,8 +18,8 @@ use bridge_io::Steps;
 use bridge_text::{Id, Kind, NoMemory, object_id};
 use hg_manifest::Manifest;
 use hg_view::views_are_held;
-use pair_known::{GitDraft, HgDraft, draft_of_changeset};
-use pair_state::State;
+use pair_known::{GitDraft, HgDraft};
+use pair_state::{Block, State};
 use std::sync::ledger::Ledger;
 
 /// What a block is found to be.
@@ -30,24 +31,27 @@ pub enum Judgement {
     Wrong(Id),
 }
 
-/// Judges the block at this place of a saved state, which is the next one behind those that were found right.
+/// Judges the block at this place of a saved state, which is the next one behind those that were found right; the draft is that of its changeset.
 pub fn judge<L: Ledger>(
     state: &State,
     place: usize,
+    block: &Block,
+    h: &HgDraft,
     checked: &Checked,
     steps: &mut Steps<L>,
 ) -> Result<Judgement, NoMemory>
-    requires turn { (m : saved.State) × (front : List Block) × (b : Block) × (rest : List Block) × IsTurn state.now place checked.now m front b rest }
-    ensures judged { IfOk result (λ judgement. (m : saved.State) (front : List Block) (b : Block) (rest : List Block) → IsTurn state.now place checked.now m front b rest
+    requires block { slice_get state.now.blocks place ≡ Some block.now }
+    requires draft { (v : ChangesetView) → IsChangesetHeld state.now.known.hg block.now.node v → IsHgDraft state.now.known.hg h.now v }
+    requires nothing_fresh { h.now.fresh ≡ [] }
+    requires turn { (m : saved.State) × (front : List model.Block) × (b : model.Block) × (rest : List model.Block) × IsTurn state.now place checked.now m front b rest }
+    ensures judged { IfOk result (λ judgement. (m : saved.State) (front : List model.Block) (b : model.Block) (rest : List model.Block) → IsTurn state.now place checked.now m front b rest
         → IsJudged state.now.known.hg state.now.known.git front b judgement) }
     ensures steps { (steps.old ≤ steps.new) × (steps.new ≤ steps.old + 18) }
 {
     let known = state.known();
-    let node = &state.blocks().at(place).node;
-    views_are_held(&known.hg, node);
-    let h = draft_of_changeset(state.alloc(), known, node)?;
-    match partner_of(state.alloc(), known, &h, &checked.nodes, steps)? {
-        Some(partner) => judge_with(state, place, checked, &h, &partner),
+    views_are_held(&known.hg, &block.node);
+    match partner_of(state.alloc(), known, h, &checked.nodes, steps)? {
+        Some(partner) => judge_with(state, place, checked, h, &partner),
         None => Ok(Judgement::Wrong(Id::NULL)),
     }
 }
@@ -60,10 +64,10 @@ fn judge_with(
     h: &HgDraft,
     partner: &GitDraft,
 ) -> Result<Judgement, NoMemory>
-    requires partner { (m : saved.State) × (front : List Block) × (b : Block) × (rest : List Block) × (c : CommitView) × IsTurn state.now place checked.now m front b rest
+    requires partner { (m : saved.State) × (front : List model.Block) × (b : model.Block) × (rest : List model.Block) × (c : CommitView) × IsTurn state.now place checked.now m front b rest
         × IsHgDraft state.now.known.hg h.now b.changeset × IsPartnerHere state.now.known m.blocks front b.changeset partner.now c }
     requires nothing_fresh { h.now.fresh ≡ [] }
-    ensures { IfOk result (λ judgement. (m : saved.State) (front : List Block) (b : Block) (rest : List Block) (c : CommitView) → IsTurn state.now place checked.now m front b rest
+    ensures { IfOk result (λ judgement. (m : saved.State) (front : List model.Block) (b : model.Block) (rest : List model.Block) (c : CommitView) → IsTurn state.now place checked.now m front b rest
         → IsHgDraft state.now.known.hg h.now b.changeset → IsPartnerHere state.now.known m.blocks front b.changeset partner.now c
         → IsJudged state.now.known.hg state.now.known.git front b judgement) }
 {

@@ -1,7 +1,11 @@
 // Whether the commit of a block is the partner of its changeset.
-ghost use Rattle.std.specs.Prelude.{◌≡◌, ◌↔◌, List, map, None, IfOk, IsTrue, bytes_eq};
+ghost use Rattle.std.specs.Prelude.{◌≡◌, ◌↔◌, ◌&&◌, List, map, None, IfOk, IsTrue, bytes_eq};
+ghost use Rattle.std.specs.List.{list_all};
+ghost use Rattle.text_model.specs.Id.{tree, same_kind};
+ghost use Rattle.bridge_text.specs.Kinds.{object_kind};
 ghost use Rattle.git_model.specs.Commit.{commit_text};
 ghost use Rattle.git_model.specs.Unfold.{walk_fault};
+ghost use Rattle.git_store.specs.Known.{knows_same};
 ghost use Rattle.view_model.specs.View.{ChangesetView, CommitView, SameCommit, changeset_node};
 ghost use Rattle.view_model.specs.Held.{IsCommitHeld};
 ghost use Rattle.pair_model.specs.Block.{Block};
@@ -9,14 +13,14 @@ ghost use Rattle.pair_model.specs.Octopus as octopus;
 ghost use Rattle.pair_known.specs.Ruled.{IsMadeCommit};
 ghost use Rattle.pair_choice.specs.Chosen.{IsChosenCommit};
 
-use bridge_text::{Id, IdList, NoMemory};
+use bridge_text::{Id, IdList, Kind, NoMemory};
 use git_object::{Commit, Objects};
 use git_store::GitStore;
 use git_view::commits_are_held;
 use link_rule::link_nodes;
 use pair_known::{GitDraft, Known, draft_of_commit};
 use std::alloc::Global;
-use tree_shape::{FileRow, Files};
+use tree_shape::{FileRow, Files, TreeItem, TreeList};
 
 /// Whether the commit with this id is the one that a draft stands for, whose text this is: they have the same fields, and the same files by path, mode and id.
 pub fn is_kept(
@@ -31,8 +35,13 @@ pub fn is_kept(
     ensures { IfOk result (λ same. (e c : CommitView) → IsCommitHeld known.now.git id.now e → IsMadeCommit known.now.git partner.now c → (IsTrue same ↔ SameCommit e c)) }
 {
     commits_are_held(&known.git, id);
+    known.git.check();
     if !has_text(&known.git, id, text) {
         return Ok(false);
+    }
+    // Each tree of the draft's files is among those made for it or is stored. Where all are stored, a commit of this text has these files.
+    if are_stored(&known.git, &partner.trees) {
+        return Ok(true);
     }
     let kept = draft_of_commit(alloc, known, id)?;
     Ok(are_same_files(&kept.files, &partner.files))
@@ -46,6 +55,34 @@ fn has_text(git: &GitStore, id: &Id, text: &[u8]) -> bool
         Some((_, content)) => content == text,
         None => false,
     }
+}
+
+// Whether the store holds each of the trees.
+fn are_stored(git: &GitStore, trees: &TreeList) -> bool
+    ensures { result ≡ list_all (knows_same git.now) trees.now }
+{
+    trees.as_slice().iter().all(
+        |made: &TreeItem| -> bool
+            ensures { result ≡ knows_same git.entry.now made.now }
+        { is_stored(git, made) },
+    )
+}
+
+// Whether the store holds the tree.
+fn is_stored(git: &GitStore, made: &TreeItem) -> bool
+    ensures { result ≡ knows_same git.now made.now }
+{
+    match git.content(&made.id) {
+        Some((kind, content)) => is_tree(kind, content, made.content()),
+        None => false,
+    }
+}
+
+// Whether an object of this kind and content is the tree with this text.
+fn is_tree(kind: Kind, content: &[u8], text: &[u8]) -> bool
+    ensures { result ≡ (same_kind tree (object_kind kind) && bytes_eq text.now content.now) }
+{
+    Kind::Tree == kind && text == content
 }
 
 // Whether two lists of files are the same.

@@ -15,7 +15,7 @@ use Rattle.pair_known.proofs.hg_draft.draft_with.Goals as goal
 -- what the look-ups lend
 lent : (c : goal.After-none) → HasView c.args.store.now c.args.node.now
 lent c = (
-  record { p1 = c.args.p1; p2 = c.args.p2; changeset = c.args.fields; manifest_node = (c.args.fields).now.manifest; manifest = c.in-Some.manifest },
+  record { p1 = (c.args.parents).0; p2 = (c.args.parents).1; changeset = c.args.fields; manifest_node = (c.args.fields).now.manifest; manifest = c.in-Some.manifest },
   record { changeset = c.requires.fields; manifest_node = refl; manifest = c.in-Some.ensures.value; files = c.in_ok-rows.ensures.known },
 )
 
@@ -23,7 +23,7 @@ pub returns-clause-view : goal.returns-clause-view
 returns-clause-view c = lent c
 
 pub read_changeset-requires : goal.read_changeset-requires
-read_changeset-requires c = record { known = (c.args.p1, c.args.p2, changeset_value (c.args.fields).now, c.requires.fields) }
+read_changeset-requires c = record { known = ((c.args.parents).0, (c.args.parents).1, changeset_value (c.args.fields).now, c.requires.fields) }
 
 pub returns-clause-draft : goal.returns-clause-draft
 unfolding lent

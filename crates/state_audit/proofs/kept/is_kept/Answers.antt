@@ -1,5 +1,8 @@
-use Rattle.std.proofs.Common.{sym, ◌∙◌, true≢false}
-use Rattle.state_audit.proofs.SameCommits.{other-text, same-commit}
+use Rattle.std.proofs.Common.{◌≡◌, true≢false, None, refl, sym, subst, ◌∙◌}
+use Rattle.git_model.specs.Unfold.{walk_fault}
+use Rattle.view_model.specs.View.{CommitView}
+use Rattle.state_audit.proofs.KeptFiles.{kept-files}
+use Rattle.state_audit.proofs.SameCommits.{other-text, same-held, same-commit}
 use Rattle.state_audit.proofs.kept.is_kept.Goals as goal
 
 pub draft_of_commit-requires : goal.draft_of_commit-requires
@@ -10,6 +13,16 @@ returns-then-not-has_text c = λ e v held made. (
   (λ t. absurd (true≢false (sym t))),
   (λ s. absurd (other-text c.args.known.now.git c.args.id.now e v held c.args.partner.now made c.args.text.now c.requires.text (sym (c.has_text.ensures e held) ∙ c.if-not-has_text.true) s)),
 )
+
+pub returns-then-are_stored : goal.returns-then-are_stored
+returns-then-are_stored c = λ e v held made.
+    let walk : walk_fault c.args.known.now.git (e.value).tree_id ≡ None =
+    subst (λ (x : CommitView). walk_fault c.args.known.now.git (x.value).tree_id ≡ None) (c.commits_are_held.ensures.one c.requires.held.0 e c.requires.held.1 held) c.requires.held.2 in
+    let stored = sym c.are_stored.ensures ∙ c.if-are_stored.true in (
+      (λ t. same-held c.args.known.now.git c.args.id.now e v held c.args.partner.now made c.args.text.now c.requires.text (sym (c.has_text.ensures e held) ∙ c.if-not-has_text.false)
+          (λ same. kept-files c.args.known.now.git c.check.ensures c.args.partner.now v made stored c.args.id.now e held walk same)),
+      (λ s. refl),
+    )
 
 pub returns : goal.returns
 returns c = λ e v held made.

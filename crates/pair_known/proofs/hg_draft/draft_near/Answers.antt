@@ -2,7 +2,7 @@ use Rattle.std.proofs.Common.{subst}
 use Rattle.pair_known.specs.Drafts.{IsDraftFault}
 use Rattle.pair_known.specs.declared.draft_fault.DraftFault.{DraftFault}
 use Rattle.pair_known.proofs.ViewFaults.{viewed-there}
-use Rattle.pair_known.proofs.hg_draft.draft_of_changeset.Goals as goal
+use Rattle.pair_known.proofs.hg_draft.draft_near.Goals as goal
 
 pub unreachable-requires : goal.unreachable-requires
 unreachable-requires c =
