@@ -9,9 +9,8 @@ use Rattle.view_model.specs.View.{Row, TreeRow, files_among, tree_paths, paths_o
 use Rattle.pair_model.specs.Block.{Block, Parents}
 use Rattle.pair_model.specs.User.{UserDate, user_of_line, message_of, description_of}
 use Rattle.pair_model.specs.Rule.{author_by}
-use Rattle.pair_model.specs.MarkList.{Mark, marks_text, IsMarkList, AreHeadersOf}
-use Rattle.pair_model.specs.Octopus.{parents_of_commit}
-use Rattle.partner_model.specs.Mark.{entry_marks, commit_marks, parents_of_changeset}
+use Rattle.pair_model.specs.MarkList.{Mark, AreHeadersOf}
+use Rattle.partner_model.specs.Mark.{commit_marks, parents_of_changeset}
 use Rattle.partner_model.specs.Partner.{UnmarksCommit, IsUnmarkedRow}
 use Rattle.partner_model.specs.Table.{IsTable}
 use Rattle.partner_model.specs.Filled.{user_mark, extra_mark, date_mark, first_mark, filled_rows, changeset_by_marks, filled_changeset}
@@ -23,7 +22,7 @@ use Rattle.unmark_law.proofs.CommitOne.{author_is, headers_are, message_is}
 use Rattle.unmark_law.proofs.TreeRows.{IsFileOf, files_marked, residue_marked}
 use Rattle.depth_law.proofs.Back.{description_back}
 use Rattle.depth_law.proofs.PlainCommit.{committer_is, parents_same}
-use Rattle.filled_law.specs.Fillings.{FilledIsUnmarking, UnmarkingIsRight, IsFilledRight}
+use Rattle.filled_law.specs.Fillings.{FilledIsUnmarking, UnmarkingIsRight}
 use Rattle.filled_law.proofs.Walk.{walk, walked}
 use Rattle.filled_law.proofs.MarkedRows.{rows-named}
 use Rattle.filled_law.proofs.Parts.{starts-none, marks-are, manifest-filled, files-filled, user-filled, date-filled}

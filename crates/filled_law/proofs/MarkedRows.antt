@@ -16,8 +16,8 @@ use Rattle.pair_model.specs.Rule.{ruled_row}
 use Rattle.pair_model.specs.MarkList.{Mark, Rename, File, Manifest, Files, User, Date, RawDate, OneExtra}
 use Rattle.partner_model.specs.Mark.{node_in_parents, copy_in, named_source, rename_source, revision_mark, is_ruled, entry_marks}
 use Rattle.partner_model.specs.Partner.{IsUnmarkedRow}
-use Rattle.partner_model.specs.Filled.{entry_path, is_at, renamed, revision_of_mark, row_with_revision}
-use Rattle.mark_law.proofs.MarkTypes.{IsNamed, named}
+use Rattle.partner_model.specs.Filled.{entry_path, renamed, revision_of_mark, row_with_revision}
+use Rattle.mark_law.proofs.MarkTypes.{named}
 use Rattle.unmark_law.proofs.Rows.{apart, rises_rest}
 use Rattle.unmark_law.proofs.TreeRows.{IsFileOf}
 use Rattle.filled_law.specs.Walks.{named_row, mark_at, behind, starts_entry}

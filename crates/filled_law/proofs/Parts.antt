@@ -13,7 +13,7 @@ use Rattle.pair_model.specs.Rule.{ruled_manifest, ruled_files}
 use Rattle.pair_model.specs.MarkList.{Mark, Rename, File, Manifest, Files, User, Date, RawDate, OneExtra, mark_rank}
 use Rattle.partner_model.specs.Mark.{entry_marks, manifest_marks, same_manifest, files_marks, same_paths, user_marks, same_numbers, date_marks, commit_marks}
 use Rattle.partner_model.specs.Filled.{entry_path, manifest_mark, files_mark, user_mark, extra_mark, date_mark, first_mark}
-use Rattle.mark_law.proofs.Sections.{Within, wider, given_of, turned, from_user, from_files, from_manifest, entries_within, manifest_within, files_within, user_within, date_within, from_user_within, from_files_within, from_manifest_within}
+use Rattle.mark_law.proofs.Sections.{Within, wider, given_of, turned, from_user, from_files, from_manifest, entries_within, manifest_within, files_within, user_within, date_within, from_user_within, from_files_within}
 use Rattle.unmark_law.proofs.Tables.{eq_true}
 use Rattle.unmark_law.proofs.CommitOne.{same_manifest_is, same_paths_is, numbers_same}
 use Rattle.filled_law.specs.Walks.{starts_entry}

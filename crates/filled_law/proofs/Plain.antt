@@ -7,23 +7,22 @@ use Rattle.text_model.specs.Text.{Bytes}
 use Rattle.text_model.specs.Id.{is_null}
 use Rattle.text_model.proofs.Options.{some_is}
 use Rattle.hg_model.specs.Changeset.{Plain}
-use Rattle.view_model.specs.View.{Row, TreeRow, files_among, ChangesetView, IsChangesetView, CommitView, SameCommit}
+use Rattle.view_model.specs.View.{Row, TreeRow, files_among, ChangesetView, CommitView, SameCommit}
 use Rattle.pair_model.specs.Block.{Block, Parents, not_null}
 use Rattle.pair_model.specs.User.{UserDate, user_of_line}
 use Rattle.pair_model.specs.Octopus.{link_user, link_description, is_link, is_link_view, parents_of_commit}
-use Rattle.pair_model.specs.Plain.{IsPlainCommit, changeset_by_rule}
-use Rattle.pair_model.specs.Rule.{author_by, ruled_row, ruled_rows, ruled_manifest, ruled_files, rule_commit, rule_changeset}
+use Rattle.pair_model.specs.Plain.{changeset_by_rule}
+use Rattle.pair_model.specs.Rule.{author_by, ruled_row, rule_commit, rule_changeset}
 use Rattle.pair_model.specs.MarkList.{Mark, marks_text, AreHeadersOf}
-use Rattle.partner_model.specs.Mark.{is_ruled, entry_marks, commit_marks, parents_of_changeset, mark_commit, with_headers}
+use Rattle.partner_model.specs.Mark.{commit_marks, parents_of_changeset, mark_commit, with_headers}
 use Rattle.partner_model.specs.Partner.{IsUnmarkedRow, UnmarksCommit}
 use Rattle.partner_model.specs.Table.{IsTable}
-use Rattle.partner_model.specs.Filled.{filled_row, all_some, filled_rows, filled_changeset}
-use Rattle.mark_law.proofs.Sections.{given_of}
+use Rattle.partner_model.specs.Filled.{filled_row, all_some, filled_changeset}
 use Rattle.unmark_law.proofs.ChangesetOne.{IsFileRow, file_rows}
 use Rattle.depth_law.proofs.PlainCommit.{commit_few}
 use Rattle.depth_law.proofs.PlainChangeset.{no_marks, no_marks_text}
 use Rattle.partner_law.proofs.Given.{row_ruled, no_marks_again}
-use Rattle.filled_law.specs.Fillings.{IsNarrow, PlainIsUnmarked, UnmarkedIsPlain}
+use Rattle.filled_law.specs.Fillings.{PlainIsUnmarked, UnmarkedIsPlain}
 use Rattle.unmark_law.proofs.Tables.{HasNode}
 use Rattle.filled_law.proofs.Filled.{filled-is, marks-same}
 use Rattle.filled_law.proofs.Right.{over-named, parents-paired}

@@ -11,13 +11,12 @@ use Rattle.git_model.specs.Residue.{ResidueItem, rows_with}
 use Rattle.git_model.proofs.SortLemmas.{Ascends, rises-ascends, ascends-rises}
 use Rattle.git_model.specs.Tree.{is_blob_mode}
 use Rattle.view_model.specs.Held.{file_row_of}
-use Rattle.view_model.specs.View.{Row, TreeRow, files_among, tree_paths, ChangesetView, CommitView, SameTreeRows, SameCommit, root_of_rows}
+use Rattle.view_model.specs.View.{Row, TreeRow, files_among, tree_paths, ChangesetView, CommitView, SameTreeRows, SameCommit}
 use Rattle.pair_model.specs.Block.{Block, git_partner, hg_partner, not_null, changesets_in, Parents, parents_among}
-use Rattle.pair_model.specs.User.{message_of}
-use Rattle.pair_model.specs.Rule.{mode_of_flag, author_by, tree_row_of, ruled_row, carried_to, tree_rows_with}
+use Rattle.pair_model.specs.Rule.{mode_of_flag, tree_row_of, carried_to, tree_rows_with}
 use Rattle.pair_model.specs.MarkList.{Mark, marks_text, AreHeadersOf}
 use Rattle.pair_model.specs.Octopus.{partners_of_parents, parents_of_commit, first_of, second_of}
-use Rattle.partner_model.specs.Mark.{commit_marks, parents_of_changeset, mark_commit, residue_in}
+use Rattle.partner_model.specs.Mark.{parents_of_changeset, mark_commit, residue_in}
 use Rattle.partner_model.specs.Partner.{AreChangesetParentsPaired, AreCommitParentsPaired, IsUnmarkedRow, UnmarksCommit}
 use Rattle.partner_model.specs.Table.{IsTable}
 use Rattle.partner_model.specs.Filled.{filled_rows, changeset_by_marks, filled_changeset}

@@ -6,7 +6,7 @@ use Rattle.std.proofs.lemmas.List.Sums.{sum_by-cons}
 use Rattle.text_model.specs.Id.{Id}
 use Rattle.text_model.specs.Path.{is_fit_path}
 use Rattle.git_model.specs.Object.{Object, AreObjects}
-use Rattle.git_model.specs.Unfold.{FileRow, is_object_there, is_row, is_path_below, row_size, rows_limit, visit_fault, first_visit_fault, walk, walk_fault, met_rows, tree_rows}
+use Rattle.git_model.specs.Unfold.{FileRow, is_object_there, is_row, is_path_below, row_size, rows_limit, visit_fault, first_visit_fault, walk, walk_fault, met_rows}
 use Rattle.tree_shape.proofs.VisitLemmas.{fault_by, is_over}
 use Rattle.tree_shape.proofs.Walking.{sum-order}
 use Rattle.tree_shape.proofs.WalkLemmas.{next, step-none, fault-cons}

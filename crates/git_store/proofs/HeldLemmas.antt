@@ -9,7 +9,7 @@ use Rattle.text_model.specs.Text.{Bytes}
 use Rattle.text_model.specs.Lists.{Each}
 use Rattle.text_model.proofs.Options.{some_is}
 use Rattle.text_model.proofs.EachLemmas.{Each-push}
-use Rattle.text_model.specs.Id.{Id, IsId, object_id, same_kind}
+use Rattle.text_model.specs.Id.{Id, object_id, same_kind}
 use Rattle.text_model.specs.Id as kind
 use Rattle.git_model.specs.Tree.{has_distinct, TreeEntry, IsTreeText}
 use Rattle.git_model.specs.Object.{Object, object_at, knows_object, entries_of}

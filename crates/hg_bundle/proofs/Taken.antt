@@ -4,7 +4,7 @@ use Rattle.std.specs.Prelude.{option_map, if◌then◌else◌}
 use Rattle.std.proofs.lemmas.Bool.Decides.{nat_tests}
 use Rattle.text_model.specs.Text.{Bytes}
 use Rattle.text_model.specs.Path.{is_fit_path}
-use Rattle.text_model.specs.Fault.{FaultName, Refusal, refusal, refusal_at}
+use Rattle.text_model.specs.Fault.{FaultName, Refusal}
 use Rattle.text_model.specs.Fault as fault
 use Rattle.text_model.proofs.Options.{some_none}
 use Rattle.hg_model.specs.Chunk.{or_else}

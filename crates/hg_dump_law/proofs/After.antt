@@ -5,15 +5,14 @@ use Rattle.std.specs.List.{flat_map, filter_map}
 use Rattle.std.proofs.lemmas.Slice.Eq.{bytes_eq-Decides}
 use Rattle.std.proofs.lemmas.Bool.{or_cases, or_left, or_right}
 use Rattle.text_model.specs.Lists.{Each, first_of_each}
-use Rattle.text_model.specs.Text.{Bytes, is_below}
-use Rattle.text_model.specs.Id.{Id, is_null}
-use Rattle.text_model.proofs.OrderLemmas.{is_below-one_way, is_below-same}
+use Rattle.text_model.specs.Text.{Bytes}
+use Rattle.text_model.specs.Id.{Id}
 use Rattle.text_model.proofs.TestLemmas.{both, bytes_eq-self}
 use Rattle.text_model.proofs.Options.{none_some, some_is}
 use Rattle.hg_model.proofs.ParentOrder.{file_order-turned, manifest_order-turned}
 use Rattle.hg_model.specs.Changeset.{IsChangesetText}
 use Rattle.hg_model.specs.Manifest.{IsManifestText}
-use Rattle.hg_model.specs.FileText.{IsFileText, manifest_order, file_order, names_copy}
+use Rattle.hg_model.specs.FileText.{IsFileText, manifest_order, file_order}
 use Rattle.hg_model.specs.Revision.{Group, Changesets, Manifests, FilesAt, Revision, is_of, revision_of, knows, known_after, same_group, same_parents, known_after_all}
 use Rattle.hg_store.specs.Known.{AreAdded}
 use Rattle.view_model.specs.View.{Row, ManifestParents, NoManifest, Over, ChangesetView, changeset_node, entry_of_row, file_node}

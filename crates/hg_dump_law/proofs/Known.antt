@@ -6,8 +6,8 @@ use Rattle.std.proofs.lemmas.Slice.Eq.{bytes_eq-Decides}
 use Rattle.std.proofs.lemmas.Bool.{or_cases, or_left, or_right}
 use Rattle.text_model.specs.Lists.{Each, first_of_each, only_new}
 use Rattle.text_model.specs.Id.{Id}
-use Rattle.text_model.proofs.TestLemmas.{both, bytes_eq-self, bytes_eq-sym}
-use Rattle.hg_model.proofs.RevisionLemmas.{is_of-self, same_group-is, same_group-self, same_group-sym}
+use Rattle.text_model.proofs.TestLemmas.{both, bytes_eq-sym}
+use Rattle.hg_model.proofs.RevisionLemmas.{is_of-self, same_group-is, same_group-sym}
 use Rattle.hg_model.specs.Revision.{Group, Revision, is_of, knows, known_after, same_group, same_revision, known_after_all}
 use Rattle.view_model.specs.Dump.{of_group}
 

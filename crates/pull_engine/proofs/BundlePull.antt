@@ -9,7 +9,7 @@ use Rattle.git_store.specs.Growth.{IsWithin}
 use Rattle.pair_model.specs.Block.{Block, node_of}
 use Rattle.history_model.specs.Pull.{State, BundleBrings, PullHgRefuses, known_with, changesets_among}
 use Rattle.state_model.specs.Kept as saved
-use Rattle.state_model.specs.Kept.{Kept, kept_of, with_kept}
+use Rattle.state_model.specs.Kept.{Kept, kept_of}
 use Rattle.saved_model.specs.Step.{OfBundle, Refuses, known_of, first_large_block, place_of_node}
 use Rattle.bridge_text.specs.declared.fault.Fault.TheVariants.{StateLimit}
 use Rattle.pair_state.specs.declared.state_parts.StateParts.{StateParts}

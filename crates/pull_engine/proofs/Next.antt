@@ -10,7 +10,7 @@ use Rattle.git_model.specs.Object.{Object}
 use Rattle.git_store.specs.Growth.{IsWithin, IsThere}
 use Rattle.pair_model.specs.Block.{Block}
 use Rattle.state_model.specs.Kept as saved
-use Rattle.state_model.specs.Kept.{Kept, kept_of, with_kept, ids_of}
+use Rattle.state_model.specs.Kept.{Kept, kept_of, with_kept}
 use Rattle.saved_model.specs.Step.{known_of}
 use Rattle.pair_state.specs.declared.state_parts.StateParts.{StateParts}
 use Rattle.pair_state.specs.AllBlocks.{HasAllBlocks, state_value}

@@ -19,7 +19,7 @@ use Rattle.view_model.specs.Dump.{revisions_in, hg_increment}
 use Rattle.pair_model.specs.Block.{Block, id_of, changesets_in}
 use Rattle.history_model.specs.Pull.{State, StreamBrings, PullGitRefuses, objects_with, saved_ids, place_of}
 use Rattle.state_model.specs.Kept as saved
-use Rattle.state_model.specs.Kept.{Kept, kept_of, with_kept, ids_of}
+use Rattle.state_model.specs.Kept.{Kept, kept_of}
 use Rattle.saved_model.specs.Step.{OfStream, Refuses, known_of, with_blocks, first_large_block, first_large_tag, lacks_target, new_tags, next_of, made_of}
 use Rattle.bridge_text.specs.declared.fault.Fault.TheVariants.{StateLimit}
 use Rattle.pair_state.specs.declared.state_parts.StateParts.{StateParts}

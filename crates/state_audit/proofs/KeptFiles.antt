@@ -6,13 +6,12 @@ use Rattle.std.proofs.lemmas.Slice.Eq.{bytes_eq-Decides}
 use Rattle.text_model.specs.Lists.{Each, In}
 use Rattle.text_model.specs.Text.{Bytes}
 use Rattle.text_model.specs.Id.{Id, ObjectKind, same_kind}
-use Rattle.text_model.specs.Path.{components}
 use Rattle.text_model.proofs.EachLemmas.{Each-weaker}
 use Rattle.text_model.proofs.Elements.{each_in, each_from}
 use Rattle.text_model.proofs.TestLemmas.{both}
 use Rattle.git_model.specs.Commit.{Commit}
 use Rattle.git_model.specs.Object.{Object, object_at}
-use Rattle.git_model.specs.Unfold.{FileRow, IsUnfolding, walk_fault, met_rows, tree_rows, by_walk, by_paths, is_met_before}
+use Rattle.git_model.specs.Unfold.{FileRow, walk_fault, met_rows, tree_rows, by_walk, by_paths, is_met_before}
 use Rattle.git_model.specs.Shape.{Leaf, leaf_of, root_of, trees_of}
 use Rattle.git_model.proofs.SortLemmas.{of-order}
 use Rattle.git_store.specs.Known.{AreKnown, is_same_as, knows_same}
@@ -29,7 +28,7 @@ use Rattle.tree_shape.proofs.Names.{same-components}
 use Rattle.tree_shape.proofs.Rebuilding.{walk-leaves}
 use Rattle.tree_shape.proofs.Unfolding.{fit-short, unfolds}
 use Rattle.tree_shape.proofs.WalkOrder.{walk-good, walk-back, shorts-none, root-is, trees-is}
-use Rattle.view_model.specs.View.{CommitView, IsCommitView}
+use Rattle.view_model.specs.View.{CommitView}
 use Rattle.view_model.specs.Held.{file_row_of, IsCommitHeld}
 use Rattle.pair_known.specs.declared.git_draft.GitDraft.{GitDraft}
 use Rattle.pair_known.specs.Ruled.{IsMadeCommit}

@@ -20,7 +20,7 @@ use Rattle.name_model.specs.Reading.{refs_reading, names_reading, names_text}
 use Rattle.name_law.proofs.Across.{names-back, refs-back}
 use Rattle.name_law.proofs.Sizes.{refs-short}
 use Rattle.dump_law.proofs.Names.{targets-saved, names-saved}
-use Rattle.command_model.specs.Names.{with_names, within_limit, hg_names, git_names, hg_names_text, git_names_text}
+use Rattle.command_model.specs.Names.{hg_names, git_names, hg_names_text, git_names_text}
 use Rattle.command_model.specs.Names as command
 use Rattle.command_model.proofs.Limits.{within}
 use Rattle.command_model.specs.Command.{Written, named_by}
