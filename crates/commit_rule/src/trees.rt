@@ -2,7 +2,6 @@
 ghost use Rattle.std.specs.Prelude.{◌≡◌, ◌++◌, List, None, IfOk, MatchOption};
 ghost use Rattle.text_model.specs.Lists.{In, Each};
 ghost use Rattle.git_model.specs.Shape.{root_of, trees_of, first_clash};
-ghost use Rattle.git_model.specs.Unfold.{walk_fault};
 ghost use Rattle.pair_model.specs.Block.{Block, block_of_node};
 ghost use Rattle.pair_known.specs.Blocks.{AreBlocksHeld};
 ghost use Rattle.commit_rule.specs.Parts.{IsTreeOf, WalksThrough};
@@ -11,8 +10,8 @@ use bridge_text::{Id, NoMemory};
 use git_store::GitStore;
 use pair_known::Known;
 use std::alloc::Global;
-use tree_rebuild::rebuild_over;
-use tree_shape::{BuildFault, Files, Trees, build};
+use tree_rebuild::rebuild_apart;
+use tree_shape::{Files, Trees, build_apart};
 
 /// The tree of the commit that is the partner of a changeset; `None` exactly where this has no partner.
 pub fn tree_of_partner(known: &Known, node: &Id) -> Option<Id>
@@ -25,34 +24,6 @@ pub fn tree_of_partner(known: &Known, node: &Id) -> Option<Id>
     match known.git.commit(&partner) {
         Some(commit) => Some(commit.tree),
         None => None,
-    }
-}
-
-// The trees of rows of which none lies below another.
-fn new_trees(alloc: Global, files: &Files) -> Result<Trees, NoMemory>
-    requires apart { first_clash files.now ≡ None }
-    ensures root { IfOk result (λ trees. trees.root ≡ root_of files.now) }
-    ensures made { IfOk result (λ trees. trees.made ≡ trees_of files.now) }
-{
-    match build(alloc, files) {
-        Ok(trees) => Ok(trees),
-        Err(BuildFault::PathClash(_)) => unreachable!(),
-        Err(BuildFault::Memory) => Err(NoMemory),
-    }
-}
-
-// The same over a tree that is stored: what stands in both is kept.
-fn changed_trees(alloc: Global, git: &GitStore, old: &Id, files: &Files) -> Result<Trees, NoMemory>
-    requires walks { walk_fault git.now old.now ≡ None }
-    requires apart { first_clash files.now ≡ None }
-    ensures root { IfOk result (λ trees. trees.root ≡ root_of files.now) }
-    ensures are { IfOk result (λ trees. Each (λ o. In o (trees_of files.now)) trees.made) }
-    ensures held { IfOk result (λ trees. Each (λ o. In o (trees.made ++ git.now)) (trees_of files.now)) }
-{
-    match rebuild_over(alloc, git, old, files) {
-        Ok(trees) => Ok(trees),
-        Err(BuildFault::PathClash(_)) => unreachable!(),
-        Err(BuildFault::Memory) => Err(NoMemory),
     }
 }
 
@@ -70,7 +41,7 @@ pub fn trees_over(
     ensures held { IfOk result (λ trees. Each (λ o. In o (trees.made ++ git.now)) (trees_of files.now)) }
 {
     match old {
-        Some(root) => changed_trees(alloc, git, &root, files),
-        None => new_trees(alloc, files),
+        Some(root) => rebuild_apart(alloc, git, &root, files),
+        None => build_apart(alloc, files.as_slice()),
     }
 }

@@ -5,4 +5,4 @@ mod entries;
 mod group;
 mod over;
 
-pub use over::{rebuild, rebuild_over};
+pub use over::{rebuild, rebuild_apart, rebuild_over};

@@ -251,8 +251,8 @@ fn rebuild_walk<G: Objects>(
     })
 }
 
-/// The trees of rows of which none lies below another.
-fn rebuild_apart<G: Objects>(
+/// The trees of rows of which none lies below another, over this tree.
+fn rebuild_tree<G: Objects>(
     alloc: Global,
     store: &G,
     old: &Id,
@@ -275,8 +275,29 @@ fn rebuild_apart<G: Objects>(
     }
 }
 
-/// The tree objects of files over a tree that is there already. A directory that stands in both with the same rows keeps its
-/// tree: of what `build` makes, `made` has the other trees alone, in `build`'s order.
+/// The tree objects of files of which none lies below another, over a tree that is there already. A directory that stands in both with the same rows
+/// keeps its tree: of what `build` makes, `made` has the other trees alone, in `build`'s order.
+pub fn rebuild_apart<G: Objects>(
+    alloc: Global,
+    store: &G,
+    old: &Id,
+    files: &Files,
+) -> Result<Trees, NoMemory>
+    requires walks { walk_fault (G.objects store.now) old.now ≡ None }
+    requires apart { first_clash files.now ≡ None }
+    ensures root { IfOk result (λ trees. trees.root ≡ root_of files.now) }
+    ensures made { IfOk result (λ trees. trees.made ≡ new_trees (tree_rows (G.objects store.now) old.now) files.now) }
+    ensures are { IfOk result (λ trees. Each (λ o. In o (trees_of files.now)) trees.made) }
+    ensures held { IfOk result (λ trees. Each (λ o. In o (trees.made ++ G.objects store.now)) (trees_of files.now)) }
+{
+    let rows = files.as_slice();
+    match store.tree(old) {
+        Some(tree) => rebuild_tree(alloc, store, old, tree, rows),
+        None => build_apart(alloc, rows),
+    }
+}
+
+/// The same of any files: PathClash exactly at the first of them that lies below another.
 pub fn rebuild_over<G: Objects>(
     alloc: Global,
     store: &G,
@@ -291,14 +312,10 @@ pub fn rebuild_over<G: Objects>(
     ensures fits { OnOk result (first_clash files.now ≡ None) }
     ensures fault { IfErr result (IsBuildFault files.now) }
 {
-    let rows = files.as_slice();
-    if let Some(place) = find_clash(rows) {
+    if let Some(place) = find_clash(files.as_slice()) {
         return Err(BuildFault::PathClash(place));
     }
-    match store.tree(old) {
-        Some(tree) => Ok(rebuild_apart(alloc, store, old, tree, rows)?),
-        None => Ok(build_apart(alloc, rows)?),
-    }
+    Ok(rebuild_apart(alloc, store, old, files)?)
 }
 
 /// The same, where the rows of the tree that is there are at hand: those that `flatten` gives of it.

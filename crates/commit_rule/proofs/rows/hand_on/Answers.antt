@@ -1,5 +1,4 @@
 use Rattle.std.proofs.Common.{◌≡◌, List, [], Option, sym, ap, ◌∙◌}
-use Rattle.text_model.specs.Id.{Id}
 use Rattle.git_model.specs.Residue.{ResidueItem, carried, rows_with}
 use Rattle.git_model.proofs.SortLemmas.{rises-ascends}
 use Rattle.git_model.proofs.ResidueLemmas.{path_of}
