@@ -98,26 +98,16 @@ pub fn draft_near(
     ensures nothing_fresh { IfOk result (λ d. d.fresh ≡ []) }
     ensures rows { IfOk result (λ d. Each (IsRowKnown known.now.hg) d.rows) }
 {
-    match read_draft_near(alloc, known, node, near) {
+    match read_changeset_draft(alloc, known, node, near) {
         Ok(draft) => Ok(draft),
         Err(DraftFault::Memory) => Err(NoMemory),
         Err(DraftFault::Unknown(_)) => unreachable!(),
     }
 }
 
-/// The draft of a changeset that the store may lack, or why the node has no view: ChangesetUnknown, ManifestUnknown or FileUnknown, each exactly
-/// where `HgStore::view_of` says. Each file revision is looked up once; no body is copied, and nothing is hashed.
-pub fn read_changeset_draft(alloc: Global, known: &Known, node: &Id) -> Result<HgDraft, DraftFault>
-    ensures view { OnOk result (HasView known.now.hg node.now) }
-    ensures draft { IfOk result (λ d. (h : ChangesetView) → IsChangesetHeld known.now.hg node.now h → IsHgDraft known.now.hg d h) }
-    ensures nothing_fresh { IfOk result (λ d. d.fresh ≡ []) }
-    ensures fault { IfErr result (IsDraftFault known.now.hg node.now) }
-{
-    read_draft_near(alloc, known, node, &[])
-}
-
-// The same beside these rows.
-fn read_draft_near(
+/// The draft, beside such rows, of a changeset that the store may lack; or why the node has no view: ChangesetUnknown, ManifestUnknown or FileUnknown,
+/// each exactly where `HgStore::view_of` says. Each file revision is looked up once at most; no body is copied, and nothing is hashed.
+pub fn read_changeset_draft(
     alloc: Global,
     known: &Known,
     node: &Id,
@@ -209,7 +199,7 @@ fn rows_of(
     let mut place = 0;
     for line in 0..manifest.len() {
         let entry = manifest.at(line);
-        place = place_from(near, place, entry.path.as_slice());
+        place = place_from(near, place, entry);
         let Some(blob) = blob_near(store, entry, near.get(place)) else {
             return Err(DraftFault::Unknown(ViewFault::FileUnknown(line)));
         };
@@ -219,13 +209,25 @@ fn rows_of(
     Ok(rows)
 }
 
-// The first place, from one on, whose row doesn't stand below a path.
-fn place_from(rows: &[HgRow], from: usize, path: &[u8]) -> usize {
+// Where an entry's row stands, mostly right behind that of the entry before; or else the first row, from that one on, which isn't below the entry's path.
+fn place_from(rows: &[HgRow], from: usize, entry: &Entry) -> usize {
+    if from < rows.len() && has_node(rows.get(from + 1), &entry.node) {
+        return from + 1;
+    }
+    let path = entry.path.as_slice();
     let mut place = from;
     'rows: while place < rows.len() && is_below(&rows[place], path) {
         place += 1;
     }
     place
+}
+
+// Whether there is a row with this node.
+fn has_node(row: Option<&HgRow>, node: &Id) -> bool {
+    match row {
+        Some(row) => row.node == *node,
+        None => false,
+    }
 }
 
 // Whether a row's path stands below another path.

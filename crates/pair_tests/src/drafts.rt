@@ -46,13 +46,13 @@ fn reads_near(alloc: Global, known: &Known, node: &Id) -> Result<bool, Fail> {
 
 // Whether one that may be missing is.
 fn finds_changeset(alloc: Global, known: &Known, node: &Id) -> Result<bool, Fail> {
-    let h = read_changeset_draft(alloc, known, node)?;
+    let h = read_changeset_draft(alloc, known, node, &[])?;
     is_changeset(known, &h)
 }
 
 // Why a node has no draft.
 fn draft_fault(alloc: Global, known: &Known, node: &Id) -> Option<DraftFault> {
-    read_changeset_draft(alloc, known, node).err()
+    read_changeset_draft(alloc, known, node, &[]).err()
 }
 
 #[test]

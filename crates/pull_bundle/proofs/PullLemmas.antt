@@ -24,6 +24,7 @@ use Rattle.pair_model.specs.Block.{Block, id_of, changesets_in, commits_in}
 use Rattle.history_model.specs.Pull.{BringBlocks, ChangesetRefused, IsChangesetRefusal, IsKnownLink, LeftOver, known_with, changesets_among, revisions_among}
 use Rattle.pair_state.specs.declared.state_parts.StateParts.{StateParts}
 use Rattle.pair_state.specs.Blocks.{IsStateOf}
+use Rattle.pair_known.specs.Drafts.{IsRowKnown}
 use Rattle.pair_state.specs.AllBlocks.{HasAllBlocks, is_referred, stands_in, state_value}
 use Rattle.pair_state.proofs.AllBlocks.{stands-more}
 use Rattle.pair_state.proofs.BlockLemmas.{parts_of}
@@ -68,8 +69,16 @@ no-read_cause before now Memory h same = same
 abbrev pub Told : Option Bytes → StateParts → StateParts → List listed.Arrival → Type 0
 Told o s read list = IfSome o (λ bytes. (came : List Arrival) × (bundle_reading s.known.hg bytes ≡ Ok came) × HasRead s read list came)
 
-abbrev pub Refer : StateParts → Refers → Type 0
-Refer read referred = (blocks : List Block) → IsStateOf read blocks → RefersTo referred (revisions_in (changesets_in blocks))
+-- what is remembered before the first changeset is taken
+pub record Begins (t : Taking) : Type 0 where
+  pub referred : (blocks : List Block) → IsStateOf t.state blocks → RefersTo t.referred (revisions_in (changesets_in blocks))
+  pub near : Each (IsRowKnown (t.state).known.hg) t.near
+
+pub begun : (read : StateParts) (t : Taking) → t.state ≡ read → ((blocks : List Block) → IsStateOf read blocks → RefersTo t.referred (revisions_in (changesets_in blocks))) → t.near ≡ [] → Begins t
+begun read t same refer none = record {
+  referred = λ blocks state. refer blocks (subst (λ (x : StateParts). IsStateOf x blocks) same state);
+  near = subst (Each (IsRowKnown (t.state).known.hg)) (sym none) tt;
+}
 
 abbrev pub TakeDue : Taking → List listed.Arrival → PullFault → Type 0
 TakeDue t list e = (base : List Revision) (blocks : List Block) (came : List Arrival) → Starts t base blocks list came
@@ -84,10 +93,10 @@ Taken t next list = (base : List Revision) (blocks : List Block) (came : List Ar
 abbrev pub SomeAre : Taking → List listed.Arrival → ℕ → ℕ → Type 0
 SomeAre t list before now = (base : List Revision) (blocks : List Block) (came : List Arrival) → Starts t base blocks list came → SomeTaken t blocks came before now
 
-pub starts-read : (s : StateParts) (t : Taking) (list : List listed.Arrival) (came : List Arrival) (blocks : List Block) → HasAllBlocks s blocks → HasRead s t.state list came → Refer t.state t.referred → Starts t s.known.hg blocks list came
+pub starts-read : (s : StateParts) (t : Taking) (list : List listed.Arrival) (came : List Arrival) (blocks : List Block) → HasAllBlocks s blocks → HasRead s t.state list came → Begins t → Starts t s.known.hg blocks list came
 starts-read s t list came blocks has r refer = record {
   are = r.are;
-  taking = record { state = r.state blocks has.state; referred = refer blocks (r.state blocks has.state); in_time = in-time s blocks has };
+  taking = record { state = r.state blocks has.state; referred = refer.referred blocks (r.state blocks has.state); in_time = in-time s blocks has; near = refer.near };
   saved = Each-weaker (λ r. r.group ≡ Changesets → IsTrue (stands_in blocks r.node)) (λ r. r.group ≡ Changesets → IsTrue (stands_in blocks r.node) ⊎ IsKnownLink (t.state).known.hg r.node) (λ r f g. inl (f g)) s.known.hg
       (stands-saved s blocks has);
   store = r.store;
@@ -158,14 +167,14 @@ module _ (s : StateParts) (t next : Taking) (list : List listed.Arrival) (came :
   pub nothing-told : HasNothingOver (next.state).known.hg all came → HasNothingOver (known_with (state_value s blocks) came) all came
   nothing-told h = subst (λ (l : List Revision). HasNothingOver l all came) same-known h
 
-pub take-refused : (o : Option Bytes) (s : StateParts) (t : Taking) (list : List listed.Arrival) (e : PullFault) → Told o s t.state list → Refer t.state t.referred → TakeDue t list e → IfSome o (λ bytes. (blocks : List Block) → HasAllBlocks s blocks → RefusesHg s blocks bytes e)
+pub take-refused : (o : Option Bytes) (s : StateParts) (t : Taking) (list : List listed.Arrival) (e : PullFault) → Told o s t.state list → Begins t → TakeDue t list e → IfSome o (λ bytes. (blocks : List Block) → HasAllBlocks s blocks → RefusesHg s blocks bytes e)
 take-refused None s t list e told refer due = tt
 take-refused (Some bytes) s t list Memory told refer due = λ blocks has. tt
 take-refused (Some bytes) s t list Read told refer due = λ blocks has. tt
 take-refused (Some bytes) s t list (Refused why) told refer due = λ blocks has.
     inr (told.0, told.1, inl (refusal-told s t.state list told.0 told.2 blocks (refusal_value why) (due s.known.hg blocks told.0 (starts-read s t list told.0 blocks has told.2 refer))))
 
-pub left-refused : (o : Option Bytes) (s : StateParts) (t next : Taking) (list : List listed.Arrival) (e : PullFault) → Told o s t.state list → Refer t.state t.referred → Taken t next list → LeftDue next list e
+pub left-refused : (o : Option Bytes) (s : StateParts) (t next : Taking) (list : List listed.Arrival) (e : PullFault) → Told o s t.state list → Begins t → Taken t next list → LeftDue next list e
     → IfSome o (λ bytes. (blocks : List Block) → HasAllBlocks s blocks → RefusesHg s blocks bytes e)
 left-refused None s t next list e told refer taken due = tt
 left-refused (Some bytes) s t next list Memory told refer taken due = λ blocks has. tt
@@ -191,7 +200,7 @@ asks s t list came blocks bytes before now r reads x = record {
   few = x.few;
 }
 
-pub some-asked : (o : Option Bytes) (s : StateParts) (t : Taking) (list : List listed.Arrival) (before now : ℕ) → Told o s t.state list → Refer t.state t.referred → SomeAre t list before now
+pub some-asked : (o : Option Bytes) (s : StateParts) (t : Taking) (list : List listed.Arrival) (before now : ℕ) → Told o s t.state list → Begins t → SomeAre t list before now
     → IfSome o (λ bytes. (blocks : List Block) → HasAllBlocks s blocks → StepsHg (state_value s blocks) bytes before now)
 some-asked None s t list before now told refer some = tt
 some-asked (Some bytes) s t list before now told refer some = λ blocks has.
@@ -244,7 +253,7 @@ Written next n made = (cs : List CommitView) → AreWalkableCommits next.known.g
 abbrev pub NothingOver : Taking → List listed.Arrival → Type 0
 NothingOver next list = (blocks : List Block) (came : List Arrival) → HasTaken next.state next.referred blocks list came → HasNothingOver (next.state).known.hg blocks came
 
-module _ (s : StateParts) (t next : Taking) (list : List listed.Arrival) (n : ℕ) (made : Bytes) (count : n ≡ length s.blocks) (refer : Refer t.state t.referred) (taken : Taken t next list) (over : NothingOver next list)
+module _ (s : StateParts) (t next : Taking) (list : List listed.Arrival) (n : ℕ) (made : Bytes) (count : n ≡ length s.blocks) (refer : Begins t) (taken : Taken t next list) (over : NothingOver next list)
     (write : Written next.state n made) where
   abbrev outcome : HgPulled
   outcome = record { state = next.state; arrivals = list; first_new = n; made = made }

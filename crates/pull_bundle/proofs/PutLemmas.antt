@@ -4,6 +4,7 @@ use Rattle.std.specs.Prelude.{IfSome, is_some, IsTrue}
 use Rattle.std.specs.Borrow.{Bor}
 use Rattle.std.specs.List.{list_any}
 use Rattle.std.proofs.lemmas.List.Folds.{list_any-append}
+use Rattle.text_model.specs.Lists.{Each}
 use Rattle.text_model.specs.Text.{Bytes}
 use Rattle.text_model.specs.Fault.{FaultName}
 use Rattle.text_model.specs.Fault as fault
@@ -20,10 +21,13 @@ use Rattle.pair_model.specs.Block.{Block, changesets_in}
 use Rattle.pair_model.specs.Octopus.{links_of}
 use Rattle.partner_model.specs.Clash.{commit_side_collides}
 use Rattle.partner_model.specs.Given.{block_with, has_file, is_late_file, has_late_file}
+use Rattle.hg_dump.specs.declared.refers.Refers.{Refers}
 use Rattle.hg_dump.specs.Refers.{RefersTo, HasFilesOf}
 use Rattle.hg_dump.proofs.HeldLemmas.{node-is}
 use Rattle.pair_choice.specs.Chosen.{IsChosenCommit}
+use Rattle.pair_known.specs.Drafts.{IsRowKnown}
 use Rattle.pair_known.specs.Over.{IsCommitOver}
+use Rattle.pair_known.specs.Rows.{RowValue}
 use Rattle.pair_known.specs.declared.known.Known.{Known}
 use Rattle.pair_known.specs.Partners.{git_at}
 use Rattle.pair_known.specs.declared.git_draft.GitDraft.{GitDraft}
@@ -115,20 +119,21 @@ module _ (t : Taking) (node : Id) (p : Pair) (blocks : List Block) (v : Changese
         subst (λ (ids : List Id). AreChangesetsHeld s.known.hg ids (parts_of (block_with blocks v c)))
         (map_append changeset_node (links_of blocks c) (v ∷ []) ∙ (λ i. sym is.links_are i ++ own i ∷ [])) parts-held
 
-    pub put : (next : Taking) → next.state ≡ s → RefersTo next.referred (revisions_in (changesets_in blocks) ++ revisions_in (parts_of (block_with blocks v c)))
-        → IsPut t next blocks (block_with blocks v c)
-    put next same to = subst (λ (x : StateParts). IsPut t (record { state = x; referred = next.referred }) blocks (block_with blocks v c)) (sym same) (record {
+    pub put : (referred : Refers) → RefersTo referred (revisions_in (changesets_in blocks) ++ revisions_in (parts_of (block_with blocks v c)))
+        → (near : List RowValue) → near ≡ p.draft.rows → IsPut t (record { state = s; referred = referred; near = near }) blocks (block_with blocks v c)
+    put referred to near rows = record {
       apart = pushed.apart;
       taking = record {
         state = pushed.state;
-        referred = subst (RefersTo next.referred) (sym (all-revisions blocks (block_with blocks v c))) to;
+        referred = subst (RefersTo referred) (sym (all-revisions blocks (block_with blocks v c))) to;
         in_time = in-time blocks (block_with blocks v c) (is.taking).in_time is.files_in_time;
+        near = subst (Each (IsRowKnown s.known.hg)) (sym rows) (subst (λ (known : List Revision). Each (IsRowKnown known) p.draft.rows) (sym pushed.revisions) is.rows);
       };
       revisions = pushed.revisions;
       objects = subst (λ (l : List Object). HaveSame s.known.git ((t.state).known.git ++ l)) (sym (append-nil (commit_objects c))) pushed.objects;
       tags = pushed.tags;
       names = pushed.names;
-    })
+    }
 
 -- ---- the changeset that is near
 

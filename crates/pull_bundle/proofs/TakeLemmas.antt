@@ -2,6 +2,7 @@
 use Rattle.std.proofs.Common.{◌≡◌, ◌≤◌, ◌+◌, ◌*◌, ℕ, inl, inr, Bool, true, false, true≢false, List, [], ◌∷◌, ◌++◌, length, map, Option, Some, refl, sym, ap, subst, ◌∙◌, append-nil, arith}
 use Rattle.std.specs.Prelude.{Result, Ok, Err, IfOk, IfErr, is_some, IsTrue}
 use Rattle.std.proofs.lemmas.List.{length-map, length-append}
+use Rattle.text_model.specs.Lists.{Each}
 use Rattle.text_model.specs.Id.{Id}
 use Rattle.text_model.specs.Fault.{FaultName}
 use Rattle.text_model.specs.Fault as fault
@@ -20,7 +21,7 @@ use Rattle.pair_known.specs.declared.choice_fault.ChoiceFault.TheVariants as cho
 use Rattle.pair_choice.specs.Chosen.{IsChosenCommit, ChangesetRefuses}
 use Rattle.pair_known.specs.declared.hg_draft.HgDraft.{HgDraft}
 use Rattle.pair_known.specs.declared.git_draft.GitDraft.{GitDraft}
-use Rattle.pair_known.specs.Drafts.{IsHgDraft}
+use Rattle.pair_known.specs.Drafts.{IsHgDraft, IsRowKnown}
 use Rattle.pair_known.specs.Over.{IsChangesetIn}
 use Rattle.pair_known.specs.Partners.{git_at}
 use Rattle.pair_state.specs.Blocks.{value_of, block_value}
@@ -102,10 +103,11 @@ module _ (t : Taking) (node : Id) (blocks : List Block) (r : Revision) (is : r.n
       late-refused name (inr (na, inl b)) = block-refused name (inr ((λ k. k (chosen.ruled).fits), inr (na, inl b)))
       late-refused name (inr (na, inr b)) = absurd b.1
 
-      pub pair-it : (p : Pair) → p.commit ≡ d → IsHgDraft (t.state).known.hg p.draft v → has_late_file blocks v.rows ≡ false → has_late_manifest blocks v.manifest ≡ false → p.links ≡ map changeset_node (links_of blocks c) → IsPairFor t node p blocks v c
-      pair-it p same draft files manifest links = record {
+      pub pair-it : (p : Pair) → p.commit ≡ d → IsHgDraft (t.state).known.hg p.draft v → Each (IsRowKnown (t.state).known.hg) p.draft.rows → has_late_file blocks v.rows ≡ false → has_late_manifest blocks v.manifest ≡ false → p.links ≡ map changeset_node (links_of blocks c) → IsPairFor t node p blocks v c
+      pair-it p same draft rows files manifest links = record {
         taking = new.taking;
         draft = draft;
+        rows = rows;
         is_held = held;
         no_link = link-none;
         free = ap (block_of_node blocks) (sym is) ∙ new.free;
@@ -190,15 +192,16 @@ module _ (t : Taking) (node : Id) (v : ChangesetView) (held : IsChangesetHeld (t
         fault-map (λ name. (blocks : List Block) (w : ChangesetView) → IsTaking t blocks → IsHgDraft (t.state).known.hg h w → IsLate blocks w name) (NewDue t node) (λ name late blocks r is new.
         let c = chosen-here blocks r is new in late-refused t node blocks r is new v held d c.0 c.1 name (late blocks v new.taking draft)) f why
 
-    pub pair-here : (p : Pair) → p.commit ≡ d → p.draft ≡ h → ((blocks : List Block) (w : ChangesetView) → IsTaking t blocks → IsHgDraft (t.state).known.hg h w → has_late_file blocks w.rows ≡ false)
+    pub pair-here : (p : Pair) → p.commit ≡ d → p.draft ≡ h → Each (IsRowKnown (t.state).known.hg) h.rows → ((blocks : List Block) (w : ChangesetView) → IsTaking t blocks → IsHgDraft (t.state).known.hg h w → has_late_file blocks w.rows ≡ false)
         → ((blocks : List Block) (w : ChangesetView) → IsTaking t blocks → IsHgDraft (t.state).known.hg h w → has_late_manifest blocks w.manifest ≡ false)
         → ((blocks : List Block) (w : ChangesetView) (c : CommitView) → IsChosenCommit (t.state).known blocks w d c → p.links ≡ map changeset_node (links_of blocks c))
         → (blocks : List Block) (r : Revision) → r.node ≡ node → IsNew t blocks r → (w : ChangesetView) × (c : CommitView) × IsPairFor t node p blocks w c
-    pair-here p commit of files manifest links blocks r is new =
+    pair-here p commit of rows files manifest links blocks r is new =
         let c = chosen-here blocks r is new in (
           v,
           c.0,
-          pair-it t node blocks r is new v held d c.0 c.1 p commit (subst (λ (x : HgDraft). IsHgDraft (t.state).known.hg x v) (sym of) draft) (files blocks v new.taking draft) (manifest blocks v new.taking draft) (links blocks v c.0 c.1),
+          pair-it t node blocks r is new v held d c.0 c.1 p commit (subst (λ (x : HgDraft). IsHgDraft (t.state).known.hg x v) (sym of) draft)
+              (subst (λ (x : HgDraft). Each (IsRowKnown (t.state).known.hg) x.rows) (sym of) rows) (files blocks v new.taking draft) (manifest blocks v new.taking draft) (links blocks v c.0 c.1),
         )
 
 -- ---- the block is put

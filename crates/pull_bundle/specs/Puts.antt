@@ -1,6 +1,7 @@
 -- The block of a changeset and its partner, which comes behind the others.
 use Rattle.std.specs.Prelude.{◌≡◌, false, List, [], ◌∷◌, ◌++◌, map, None}
 use Rattle.text_model.specs.Id.{Id}
+use Rattle.text_model.specs.Lists.{Each}
 use Rattle.view_model.specs.View.{ChangesetView, CommitView, changeset_node}
 use Rattle.view_model.specs.Held.{IsChangesetHeld}
 use Rattle.view_model.specs.Dump.{objects_in}
@@ -9,7 +10,7 @@ use Rattle.pair_model.specs.Octopus.{is_link_view, links_of}
 use Rattle.partner_model.specs.Clash.{commit_side_collides}
 use Rattle.partner_model.specs.Given.{has_late_file, has_late_manifest}
 use Rattle.pair_choice.specs.Chosen.{IsChosenCommit}
-use Rattle.pair_known.specs.Drafts.{IsHgDraft}
+use Rattle.pair_known.specs.Drafts.{IsHgDraft, IsRowKnown}
 use Rattle.pair_state.specs.Push.{HaveSame}
 use Rattle.pull_bundle.specs.declared.take.Pair.{Pair}
 use Rattle.pull_bundle.specs.declared.taking.Taking.{Taking}
@@ -20,6 +21,7 @@ use Rattle.pull_bundle.specs.Takes.{IsTaking}
 pub record IsPairFor (t : Taking) (node : Id) (p : Pair) (blocks : List Block) (v : ChangesetView) (c : CommitView) : Type 0 where
   pub taking : IsTaking t blocks
   pub draft : IsHgDraft (t.state).known.hg p.draft v
+  pub rows : Each (IsRowKnown (t.state).known.hg) p.draft.rows
   pub is_held : IsChangesetHeld (t.state).known.hg node v
   pub no_link : is_link_view v ≡ false
   pub free : block_of_node blocks node ≡ None

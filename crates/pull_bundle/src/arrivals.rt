@@ -20,6 +20,7 @@ use bridge_io::Steps;
 use bridge_text::NoMemory;
 use hg_bundle::{Arrival, Arrivals, RevKind};
 use hg_dump::Refers;
+use pair_known::HgRows;
 use pair_state::StateParts;
 use pull_outcome::{PullFault, Refusal, TakeFault};
 use std::alloc::Global;
@@ -30,13 +31,18 @@ pub fn begin(alloc: Global, state: StateParts) -> Result<Taking, NoMemory>
     requires state { (blocks : List Block) × IsStateOf state blocks }
     ensures state { IfOk result (λ taking. taking.state ≡ state) }
     ensures referred { IfOk result (λ taking. (blocks : List Block) → IsStateOf state blocks → RefersTo taking.referred (revisions_in (changesets_in blocks))) }
+    ensures near { IfOk result (λ taking. taking.near ≡ []) }
 {
     let referred = Refers::of(
         alloc,
         &state.known.hg,
         state.changesets.as_list().as_slice(),
     )?;
-    Ok(Taking { state, referred })
+    Ok(Taking {
+        state,
+        referred,
+        near: HgRows::new(alloc),
+    })
 }
 
 /// Gives each changeset of a bundle its block that stands in none and is no link, in their order. It is refused exactly at the first that the

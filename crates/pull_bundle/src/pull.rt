@@ -50,7 +50,11 @@ pub fn pull_hg<S: Source, L: Ledger>(
     let first_new = parts.blocks.len();
     let (parts, arrivals) = read_bundle(parts, src)?;
     let taking = begin(alloc, parts)?;
-    let Taking { state, referred } = take_all(alloc, taking, &arrivals, steps)?;
+    let Taking {
+        state,
+        referred,
+        near: _,
+    } = take_all(alloc, taking, &arrivals, steps)?;
     check_left_over(alloc, &state, referred, &arrivals)?;
     let made = git_dump::write(alloc, &state.known.git, &state.commits, first_new)?;
     Ok(HgPulled {

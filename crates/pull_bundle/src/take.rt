@@ -22,6 +22,8 @@ use crate::link::is_known_link;
 use crate::taking::Taking;
 use bridge_io::Steps;
 use bridge_text::{Id, IdList, NoMemory};
+use hg_dump::Refers;
+use hg_store::HgStore;
 use hg_view::views_are_held;
 use link_rule::link_nodes;
 use pair_choice::pair_of_changeset;
@@ -100,7 +102,7 @@ fn pair_for<L: Ledger>(
 {
     let known = &taking.state.known;
     views_are_held(&known.hg, node);
-    let draft = draft_of(alloc, known, node)?;
+    let draft = draft_of(alloc, known, node, taking.near.as_slice())?;
     let commit = pair_of_changeset(alloc, known, &draft, steps)?;
     check_parents(alloc, taking, &draft)?;
     let links = links_for(alloc, known, &commit)?;
@@ -128,33 +130,32 @@ fn put_pair(alloc: Global, taking: Taking, node: &Id, pair: Pair) -> Result<Taki
     } = pair;
     let near = near_of(&taking.state.known, &draft);
     let state = taking.state.push_commit(*node, &draft, &links, commit)?;
-    let mut next = Taking {
+    let mut referred = taking.referred;
+    refer(alloc, &state.known.hg, &mut referred, links, *node, near)?;
+    Ok(Taking {
         state,
-        referred: taking.referred,
-    };
-    refer(alloc, &mut next, links, *node, near)?;
-    Ok(next)
+        referred,
+        near: draft.into_rows(),
+    })
 }
 
-// Adds the revisions to which the last block of a state refers, whose links and changeset have these nodes.
+// Adds the revisions to which the last block refers, whose links and changeset have these nodes.
 fn refer(
     alloc: Global,
-    taking: &mut Taking,
+    hg: &HgStore,
+    referred: &mut Refers,
     links: IdList,
     node: Id,
     near: Option<&Id>,
 ) -> Result<(), NoMemory>
-    requires held { (hs : List ChangesetView) × AreChangesetsHeld (taking.old.state).known.hg (links ++ node ∷ []) hs }
-    requires near { IfSome near (λ other. (v : ChangesetView) × IsChangesetHeld (taking.old.state).known.hg other.now v × ((rs : List Revision) → RefersTo taking.old.referred rs → HasFilesOf rs v)) }
-    ensures state { OnOk result (taking.new.state ≡ taking.old.state) }
-    ensures refers { OnOk result ((hs : List ChangesetView) (rs : List Revision) → AreChangesetsHeld (taking.old.state).known.hg (links ++ node ∷ []) hs → RefersTo taking.old.referred rs
-        → RefersTo taking.new.referred (rs ++ revisions_in hs)) }
+    requires held { (hs : List ChangesetView) × AreChangesetsHeld hg.now (links ++ node ∷ []) hs }
+    requires near { IfSome near (λ other. (v : ChangesetView) × IsChangesetHeld hg.now other.now v × ((rs : List Revision) → RefersTo referred.old rs → HasFilesOf rs v)) }
+    ensures { OnOk result ((hs : List ChangesetView) (rs : List Revision) → AreChangesetsHeld hg.now (links ++ node ∷ []) hs → RefersTo referred.old rs
+        → RefersTo referred.new (rs ++ revisions_in hs)) }
 {
     let mut nodes = links;
     nodes.push(node)?;
-    taking
-        .referred
-        .add(alloc, &taking.state.known.hg, nodes.as_slice(), near)
+    referred.add(alloc, hg, nodes.as_slice(), near)
 }
 
 // The nodes of the links of a commit; none of a commit of two parents at most.

@@ -1,4 +1,5 @@
 use hg_dump::Refers;
+use pair_known::HgRows;
 use pair_state::StateParts;
 
 /// A state while the changesets of a bundle get their blocks.
@@ -8,4 +9,6 @@ pub struct Taking {
     pub state: StateParts,
     /// The revisions to which the changesets of its blocks refer.
     pub referred: Refers,
+    /// The files of the last changeset that got a block, or none: the next one has most of them too.
+    pub near: HgRows,
 }

@@ -3,7 +3,7 @@ use Rattle.std.proofs.lemmas.Result.{err_from_is_err_and}
 use Rattle.pair_model.specs.Block.{commits_in}
 use Rattle.pair_state.specs.declared.state_parts.StateParts.{StateParts}
 use Rattle.pull_bundle.specs.Takes.{HasRead}
-use Rattle.pull_bundle.proofs.PullLemmas.{Told, Refer, memory-refused, read-refused, no-read_cause, starts-read, take-refused, left-refused, some-asked, all-taken, walkable, count-within, next-goes-on, pulled}
+use Rattle.pull_bundle.proofs.PullLemmas.{Told, begun, memory-refused, read-refused, no-read_cause, starts-read, take-refused, left-refused, some-asked, all-taken, walkable, count-within, next-goes-on, pulled}
 use Rattle.pull_bundle.proofs.pull.pull_hg.Goals as goal
 
 pub begin-requires : goal.begin-requires
@@ -17,7 +17,7 @@ take_all-requires g c =
     let t = c.in_ok-taking.taking in
     let list = c.in_ok-parts.arrivals in
     let same = sym c.in_ok-taking.ensures.state in
-    let refer = subst (λ (x : StateParts). Refer x t.referred) same c.in_ok-taking.ensures.referred in
+    let refer = begun _ t c.in_ok-taking.ensures.state c.in_ok-taking.ensures.referred c.in_ok-taking.ensures.near in
     let came = c.in_ok-parts.ensures.read.0 in
     let read = subst (λ (x : StateParts). HasRead s x list came) same c.in_ok-parts.ensures.read.1 in
     let x = c.into_parts-parts.ensures.history in
@@ -35,7 +35,7 @@ returns-in_err-state-clause-refused g c =
     let t = c.in_ok-taking.taking in
     let list = c.in_ok-parts.arrivals in
     let same = sym c.in_ok-taking.ensures.state in
-    let refer = subst (λ (x : StateParts). Refer x t.referred) same c.in_ok-taking.ensures.referred in
+    let refer = begun _ t c.in_ok-taking.ensures.state c.in_ok-taking.ensures.referred c.in_ok-taking.ensures.near in
     let told = subst (λ (x : StateParts). Told (g.S.Source.left c.args.src.now) s x list) same c.in_ok-parts.ensures.told in
     rw (p.1, p.2, sym c.into_parts-parts.ensures.parts) (take-refused (g.S.Source.left c.args.src.now) s t list c.in_err-state.field-0.0 told refer c.in_err-state.ensures.refused)
 
@@ -46,7 +46,7 @@ returns-in_err-state-clause-asked g c =
     let t = c.in_ok-taking.taking in
     let list = c.in_ok-parts.arrivals in
     let same = sym c.in_ok-taking.ensures.state in
-    let refer = subst (λ (x : StateParts). Refer x t.referred) same c.in_ok-taking.ensures.referred in
+    let refer = begun _ t c.in_ok-taking.ensures.state c.in_ok-taking.ensures.referred c.in_ok-taking.ensures.near in
     let told = subst (λ (x : StateParts). Told (g.S.Source.left c.args.src.now) s x list) same c.in_ok-parts.ensures.told in
     rw (p.1, sym c.into_parts-parts.ensures.parts) (some-asked (g.S.Source.left c.args.src.now) s t list c.args.steps.now c.take_all.new.steps told refer c.in_err-state.ensures.some)
 
@@ -57,7 +57,7 @@ returns-in_err-check_left_over-clause-refused g c =
     let t = c.in_ok-taking.taking in
     let list = c.in_ok-parts.arrivals in
     let same = sym c.in_ok-taking.ensures.state in
-    let refer = subst (λ (x : StateParts). Refer x t.referred) same c.in_ok-taking.ensures.referred in
+    let refer = begun _ t c.in_ok-taking.ensures.state c.in_ok-taking.ensures.referred c.in_ok-taking.ensures.near in
     let told = subst (λ (x : StateParts). Told (g.S.Source.left c.args.src.now) s x list) same c.in_ok-parts.ensures.told in
     let next = c.in_ok-state.field-0 in
     let taken = c.in_ok-state.ensures.ok in
@@ -80,7 +80,7 @@ returns-in_err-check_left_over-clause-asked g c =
     let t = c.in_ok-taking.taking in
     let list = c.in_ok-parts.arrivals in
     let same = sym c.in_ok-taking.ensures.state in
-    let refer = subst (λ (x : StateParts). Refer x t.referred) same c.in_ok-taking.ensures.referred in
+    let refer = begun _ t c.in_ok-taking.ensures.state c.in_ok-taking.ensures.referred c.in_ok-taking.ensures.near in
     let told = subst (λ (x : StateParts). Told (g.S.Source.left c.args.src.now) s x list) same c.in_ok-parts.ensures.told in
     let next = c.in_ok-state.field-0 in
     let taken = c.in_ok-state.ensures.ok in
@@ -94,7 +94,7 @@ write-requires-clause-from g c =
     let t = c.in_ok-taking.taking in
     let list = c.in_ok-parts.arrivals in
     let same = sym c.in_ok-taking.ensures.state in
-    let refer = subst (λ (x : StateParts). Refer x t.referred) same c.in_ok-taking.ensures.referred in
+    let refer = begun _ t c.in_ok-taking.ensures.state c.in_ok-taking.ensures.referred c.in_ok-taking.ensures.near in
     let came = c.in_ok-parts.ensures.read.0 in
     let read = subst (λ (x : StateParts). HasRead s x list came) same c.in_ok-parts.ensures.read.1 in
     let x = c.into_parts-parts.ensures.history in
@@ -109,7 +109,7 @@ write-requires-clause-commits g c =
     let t = c.in_ok-taking.taking in
     let list = c.in_ok-parts.arrivals in
     let same = sym c.in_ok-taking.ensures.state in
-    let refer = subst (λ (x : StateParts). Refer x t.referred) same c.in_ok-taking.ensures.referred in
+    let refer = begun _ t c.in_ok-taking.ensures.state c.in_ok-taking.ensures.referred c.in_ok-taking.ensures.near in
     let came = c.in_ok-parts.ensures.read.0 in
     let read = subst (λ (x : StateParts). HasRead s x list came) same c.in_ok-parts.ensures.read.1 in
     let x = c.into_parts-parts.ensures.history in
@@ -140,7 +140,7 @@ returns-in_err-made-clause-asked g c =
     let t = c.in_ok-taking.taking in
     let list = c.in_ok-parts.arrivals in
     let same = sym c.in_ok-taking.ensures.state in
-    let refer = subst (λ (x : StateParts). Refer x t.referred) same c.in_ok-taking.ensures.referred in
+    let refer = begun _ t c.in_ok-taking.ensures.state c.in_ok-taking.ensures.referred c.in_ok-taking.ensures.near in
     let told = subst (λ (x : StateParts). Told (g.S.Source.left c.args.src.now) s x list) same c.in_ok-parts.ensures.told in
     let next = c.in_ok-state.field-0 in
     let taken = c.in_ok-state.ensures.ok in
@@ -154,7 +154,7 @@ from_parts-requires g c =
     let t = c.in_ok-taking.taking in
     let list = c.in_ok-parts.arrivals in
     let same = sym c.in_ok-taking.ensures.state in
-    let refer = subst (λ (x : StateParts). Refer x t.referred) same c.in_ok-taking.ensures.referred in
+    let refer = begun _ t c.in_ok-taking.ensures.state c.in_ok-taking.ensures.referred c.in_ok-taking.ensures.near in
     let came = c.in_ok-parts.ensures.read.0 in
     let read = subst (λ (x : StateParts). HasRead s x list came) same c.in_ok-parts.ensures.read.1 in
     let x = c.into_parts-parts.ensures.history in
@@ -169,7 +169,7 @@ returns-clause-next g c =
     let t = c.in_ok-taking.taking in
     let list = c.in_ok-parts.arrivals in
     let same = sym c.in_ok-taking.ensures.state in
-    let refer = subst (λ (x : StateParts). Refer x t.referred) same c.in_ok-taking.ensures.referred in
+    let refer = begun _ t c.in_ok-taking.ensures.state c.in_ok-taking.ensures.referred c.in_ok-taking.ensures.near in
     let came = c.in_ok-parts.ensures.read.0 in
     let read = subst (λ (x : StateParts). HasRead s x list came) same c.in_ok-parts.ensures.read.1 in
     let next = c.in_ok-state.field-0 in
@@ -183,7 +183,7 @@ returns-clause-pulled g c =
     let t = c.in_ok-taking.taking in
     let list = c.in_ok-parts.arrivals in
     let same = sym c.in_ok-taking.ensures.state in
-    let refer = subst (λ (x : StateParts). Refer x t.referred) same c.in_ok-taking.ensures.referred in
+    let refer = begun _ t c.in_ok-taking.ensures.state c.in_ok-taking.ensures.referred c.in_ok-taking.ensures.near in
     let told = subst (λ (x : StateParts). Told (g.S.Source.left c.args.src.now) s x list) same c.in_ok-parts.ensures.told in
     let next = c.in_ok-state.field-0 in
     let taken = c.in_ok-state.ensures.ok in

@@ -1,13 +1,15 @@
-use Rattle.std.proofs.Common.{ap, sym, ◌∙◌, refl}
+use Rattle.std.proofs.Common.{ap, sym, subst, ◌∙◌, refl}
 use Rattle.std.proofs.lemmas.Result.{err_from_is_err_and}
+use Rattle.text_model.specs.Lists.{Each}
 use Rattle.hg_model.specs.Revision.{Changesets, revision_of}
+use Rattle.pair_known.specs.Drafts.{IsRowKnown}
 use Rattle.pull_bundle.proofs.TakeLemmas.{view-fault, choice-fault, choice-named, late-fault, chosen-here, pair-here, inside-it, link-none}
 use Rattle.pull_bundle.proofs.take.pair_for.Goals as goal
 
 pub draft_of-requires : goal.draft_of-requires
 draft_of-requires g c =
     let x = c.requires.new in
-    record { known = (x.3.found, ap (revision_of ((c.args.taking.now).state).known.hg Changesets) (sym x.2) ∙ x.3.is_held) }
+    record { near = subst (Each (IsRowKnown ((c.args.taking.now).state).known.hg)) (sym c.as_slice.ensures) x.3.taking.near; known = (x.3.found, ap (revision_of ((c.args.taking.now).state).known.hg Changesets) (sym x.2) ∙ x.3.is_held) }
 
 pub returns-in_err-draft-clause-refused : goal.returns-in_err-draft-clause-refused
 returns-in_err-draft-clause-refused g c =
@@ -76,4 +78,4 @@ pub returns-clause-ok : goal.returns-clause-ok
 returns-clause-ok g c =
     let v = c.in_ok-draft.ensures.held in
     pair-here c.args.taking.now c.args.node.now v.0 v.1 c.in_ok-draft.draft (c.in_ok-draft.ensures.draft v.0 v.1) (c.views_are_held.ensures.is_view v.0 v.1) c.in_ok-commit.commit c.in_ok-commit.ensures.ok
-    (record { draft = c.in_ok-draft.draft; commit = c.in_ok-commit.commit; links = c.in_ok-links.links }) refl refl c.in_ok-check_parents.ensures.files c.in_ok-check_parents.ensures.manifest c.in_ok-links.ensures
+    (record { draft = c.in_ok-draft.draft; commit = c.in_ok-commit.commit; links = c.in_ok-links.links }) refl refl c.in_ok-draft.ensures.rows c.in_ok-check_parents.ensures.files c.in_ok-check_parents.ensures.manifest c.in_ok-links.ensures

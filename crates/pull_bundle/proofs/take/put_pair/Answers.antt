@@ -44,5 +44,6 @@ returns-clause-ok c = λ blocks v made for.
     let t = c.args.taking in
     let b = block_with blocks v made in
     let pushed = c.in_ok-state.ensures.ok blocks b (pushes t c.args.node.now c.args.pair blocks v made for) in
-    put t c.args.node.now c.args.pair blocks v made for c.in_ok-state.state pushed c.refer.new.taking c.in_ok-refer.ensures.state
-    (c.in_ok-refer.ensures.refers (parts_of b) (revisions_in (changesets_in blocks)) (new-held t c.args.node.now c.args.pair blocks v made for c.in_ok-state.state pushed) (for.taking).referred)
+    put t c.args.node.now c.args.pair blocks v made for c.in_ok-state.state pushed c.refer.new.referred
+    (c.in_ok-refer.ensures (parts_of b) (revisions_in (changesets_in blocks)) (new-held t c.args.node.now c.args.pair blocks v made for c.in_ok-state.state pushed) (for.taking).referred)
+    c.into_rows.result c.into_rows.ensures
