@@ -1,5 +1,5 @@
 -- What is found of a block whose changeset has a partner, test by test. The stores are those of the state by an equation.
-use Rattle.std.proofs.Common.{◌≡◌, ℕ, Bool, List, [], ◌++◌, length, map, take, drop, Option, Some, None, sym, ap, subst, ◌∙◌}
+use Rattle.std.proofs.Common.{◌≡◌, ℕ, Bool, false, List, [], ◌++◌, length, map, take, drop, Option, Some, None, sym, ap, subst, ◌∙◌}
 use Rattle.std.specs.Prelude.{◌↔◌, ◌||◌, slice_get, IsTrue, MatchOption}
 use Rattle.text_model.specs.Lists.{Each}
 use Rattle.text_model.specs.Id.{Id, commit, object_id}
@@ -7,6 +7,7 @@ use Rattle.text_model.specs.Text.{Bytes}
 use Rattle.hg_model.specs.Revision.{Revision}
 use Rattle.git_model.specs.Commit.{commit_text}
 use Rattle.git_model.specs.Unfold.{walk_fault}
+use Rattle.hg_manifest.specs.Values.{manifest_value}
 use Rattle.hg_store.specs.Known.{AreAdded}
 use Rattle.view_model.specs.View.{ChangesetView, CommitView, IsChangesetView, Row, SameCommit, HasBodiesOf, changeset_node, commit_id}
 use Rattle.view_model.specs.Held.{IsFileHeld, IsChangesetHeld, IsCommitHeld}
@@ -29,11 +30,13 @@ use Rattle.pair_state.specs.declared.blocks.Block as pair
 use Rattle.pair_state.specs.declared.state_parts.StateParts.{StateParts}
 use Rattle.pair_state.specs.Blocks.{BlockValue}
 use Rattle.pair_state.specs.Step.{AreAsked}
+use Rattle.pull_bundle.specs.Late.{RefersIn}
 use Rattle.state_audit.specs.declared.checked.Checked.{Checked}
 use Rattle.state_audit.specs.Before.{IsBefore, HasNone, IsPartnerHere}
 use Rattle.state_audit.specs.declared.seen.Seen.{Seen}
-use Rattle.state_audit.specs.Audited.{AreInTime, AreBodiesHeld, IsTurn, IsWalked}
+use Rattle.state_audit.specs.Audited.{AreInTime, AreCompared, IsFileRight, IsTurn, IsWalked}
 use Rattle.state_audit.specs.Seen.{AreSeen}
+use Rattle.state_audit.proofs.Rows.{files-right}
 use Rattle.state_audit.proofs.SameBodies.{ids-known, bodies-same, bodies-too}
 use Rattle.state_audit.proofs.Turns.{history, is-before, changeset-held, commit-held, walk, block-at, link-nodes}
 
@@ -103,6 +106,11 @@ module _ (s : StateParts) (place : ℕ) (ck : Checked) (m : State) (front : List
     late-is seen of late answer =
         sym (answer front v (of front (subst (λ (known : Known). IsWalked known.hg ck front) (sym same) t.walked)) ((t.right).compared).in_time (subst (λ (known : Known). IsHgDraft known.hg h v) (sym same) draft))
 
+    pub manifest-is : (seen : Seen) → ((front : List Block) → IsWalked k.hg ck front → AreSeen k.hg seen front) → (late : Bool)
+        → ((known : List Revision) (blocks : List Block) → RefersIn known seen.referred.now blocks → late ≡ has_late_manifest blocks (manifest_value h.manifest)) → has_late_manifest front v.manifest ≡ late
+    manifest-is seen of late answer =
+        ap (has_late_manifest front) draft.manifest ∙ sym (answer k.hg front (of front (subst (λ (known : Known). IsWalked known.hg ck front) (sym same) t.walked)).refers)
+
     -- ---- the commit
 
     made-here : IsMadeCommit s.known.git d c
@@ -138,13 +146,16 @@ module _ (s : StateParts) (place : ℕ) (ck : Checked) (m : State) (front : List
         blobs = ids-known s.known.git _ b.commit c v.rows (commit-held s place ck m front b rest t) made-here.view alike (here.chosen).bodies;
       })
 
-      pub bodies-are : (seen : Seen) → ((front : List Block) → IsWalked k.hg ck front → AreSeen k.hg seen front) → (rows : List RowValue) → rows ≡ h.rows → (right : Bool)
-          → ((front : List Block) (files : List Row) → AreSeen k.hg seen front → AreBodiesHeld k.git front → AreAsked k.hg k.git rows files → (IsTrue right ↔ Each (IsBodyHeld k.git) files))
-          → IsTrue right ↔ HasBodiesOf v.rows (b.commit).rows
-      bodies-are seen of rows are right answer =
+      pub files-are : (seen : Seen) → ((front : List Block) → IsWalked k.hg ck front → AreSeen k.hg seen front) → (rows : List RowValue) → rows ≡ h.rows → (right : Bool)
+          → ((front : List Block) (files : List Row) → AreSeen k.hg seen front → AreCompared k.git front → AreAsked k.hg k.git rows files → (IsTrue right ↔ Each (IsFileRight k.git front) files))
+          → IsTrue right ↔ ((has_late_file front v.rows ≡ false) × HasBodiesOf v.rows (b.commit).rows)
+      files-are seen of rows are right answer =
           let a = answer front v.rows (of front (subst (λ (known : Known). IsWalked known.hg ck front) (sym same) t.walked))
-          (subst (λ (known : Known). AreBodiesHeld known.git front) (sym same) ((t.right).compared).blobs) (asked-is rows are) in
+          (subst (λ (known : Known). AreCompared known.git front) (sym same) (t.right).compared) (asked-is rows are) in
+          let each = files-right k.git front v.rows in
           let held = commit-held s place ck m front b rest t in (
-            (λ e. bodies-same s.known.git _ b.commit c v.rows held made-here.view alike (here.chosen).bodies (subst (λ (known : Known). Each (IsBodyHeld known.git) v.rows) same (a.0 e))),
-            (λ h. a.1 (subst (λ (known : Known). Each (IsBodyHeld known.git) v.rows) (sym same) (bodies-too s.known.git _ b.commit c v.rows held made-here.view alike (here.chosen).bodies h))),
+            (λ e.
+                let found = each.0 (a.0 e) in
+                (found.0, bodies-same s.known.git _ b.commit c v.rows held made-here.view alike (here.chosen).bodies (subst (λ (known : Known). Each (IsBodyHeld known.git) v.rows) same found.1))),
+            (λ h. a.1 (each.1 (h.0, subst (λ (known : Known). Each (IsBodyHeld known.git) v.rows) (sym same) (bodies-too s.known.git _ b.commit c v.rows held made-here.view alike (here.chosen).bodies h.1)))),
           )

@@ -2,6 +2,7 @@
 use Rattle.std.proofs.Common.{◌≡◌, Bool, true, false, true≢false, List, [], ◌∷◌, map, refl, sym, ap, subst, ◌∙◌, inl, inr}
 use Rattle.std.specs.Prelude.{◌||◌}
 use Rattle.text_model.specs.Id.{Id, null}
+use Rattle.text_model.proofs.Options.{or_parts}
 use Rattle.hg_model.specs.Revision.{Revision}
 use Rattle.hg_store.specs.Known.{AreAdded}
 use Rattle.view_model.specs.View.{ChangesetView, CommitView, SameCommit, HasBodiesOf, changeset_node, commit_id}
@@ -48,15 +49,19 @@ neither true y a b h = true≢false a
 neither false true a b h = true≢false b
 neither false false a b h = true≢false (sym h)
 
-both-false : (x y : Bool) → (x || y) ≡ false → (x ≡ false) × (y ≡ false)
-both-false true y h = absurd (true≢false h)
-both-false false y h = (refl, h)
-
 pub late-judged : (k : Known) (front : List Block) (b : Block) → (has_late_file front (b.changeset).rows || has_late_manifest front (b.changeset).manifest) ≡ true → IsJudged k.hg k.git front b (Wrong null)
 late-judged k front b late = ((λ r. none r.partner r.gets), inr (inr (none, refl)))
   where
     none : (d : Block) → HasPartner k.hg k.git front b.changeset d → ⊥
     none d h = neither (has_late_file front (b.changeset).rows) (has_late_manifest front (b.changeset).manifest) h.files_in_time h.manifest_in_time late
+
+-- what is judged the same where a parent comes too late
+pub unless-late : (k : Known) (front : List Block) (b : Block) → ((has_late_file front (b.changeset).rows || has_late_manifest front (b.changeset).manifest) ≡ false → IsJudged k.hg k.git front b (Wrong null)) → IsJudged k.hg k.git front b (Wrong null)
+unless-late k front b timely = by (has_late_file front (b.changeset).rows || has_late_manifest front (b.changeset).manifest) refl
+  where
+    by : (late : Bool) → (has_late_file front (b.changeset).rows || has_late_manifest front (b.changeset).manifest) ≡ late → IsJudged k.hg k.git front b (Wrong null)
+    by true e = late-judged k front b e
+    by false e = timely e
 
 module _ (k : Known) (blocks front : List Block) (nodes : List Id) (b : Block) (is : IsBefore k blocks front nodes) (d : GitDraft) (c : CommitView) (here : IsPartnerHere k blocks front b.changeset d c)
     (timely : (has_late_file front (b.changeset).rows || has_late_manifest front (b.changeset).manifest) ≡ false) where
@@ -66,7 +71,7 @@ module _ (k : Known) (blocks front : List Block) (nodes : List Id) (b : Block) (
   has-partner : HasPartner k.hg k.git front v (block_with front v c)
   has-partner =
       let g = gets-block k blocks front nodes is v d c here in
-      let times = both-false (has_late_file front v.rows) (has_late_manifest front v.manifest) timely in
+      let times = or_parts (has_late_file front v.rows) (has_late_manifest front v.manifest) timely in
       record {
         no_clash = g.no_clash;
         on_no_link = g.on_no_link;

@@ -7,7 +7,7 @@ use Rattle.text_model.specs.Lists.{Each, In}
 use Rattle.text_model.specs.Text.{Bytes}
 use Rattle.text_model.specs.Id.{Id, ObjectKind, blob_id}
 use Rattle.text_model.proofs.Elements.{each_in, none_in}
-use Rattle.text_model.proofs.Options.{some_is, some_none}
+use Rattle.text_model.proofs.Options.{some_is, some_none, or_parts, or_neither}
 use Rattle.text_model.proofs.TestLemmas.{both, bytes_eq-is}
 use Rattle.hg_model.specs.Revision.{FilesAt, Revision, knows}
 use Rattle.git_model.specs.Object.{Object, object_at}
@@ -23,7 +23,7 @@ use Rattle.pair_known.proofs.HeldViews.{one_row}
 use Rattle.pair_choice.specs.Bodies.{IsBodyHeld}
 use Rattle.pull_bundle.specs.Late.{RefersIn, is_late_row}
 use Rattle.pull_bundle.proofs.Referred.{knows-file}
-use Rattle.state_audit.specs.Audited.{AreInTime, AreBodiesHeld}
+use Rattle.state_audit.specs.Audited.{AreInTime, AreBodiesHeld, IsFileRight}
 
 -- a row with the path and the node
 pub record IsRowAt (hs : List ChangesetView) (path : Bytes) (node : Id) : Type 0 where
@@ -90,3 +90,12 @@ body-test git file id kind content body b of is at test = by (object_at git id) 
           (λ t. (o, here, sym same ∙ (bytes_eq-Decides content body).0 (sym test ∙ t) ∙ is)),
           (λ h. test ∙ (bytes_eq-Decides content body).1 (same ∙ ap (λ (x : Object). x.content) (some_is (sym here ∙ h.1)) ∙ h.2 ∙ sym is)),
         )
+
+-- ---- files one by one
+
+pub files-right : (git : List Object) (front : List Block) (files : List Row) → Each (IsFileRight git front) files ↔ ((has_late_file front files ≡ false) × Each (IsBodyHeld git) files)
+files-right git front [] = ((λ h. (refl, tt)), (λ h. tt))
+files-right git front (x ∷ xs) = (
+  (λ h. let more = (files-right git front xs).0 h.1 in (or_neither (is_late_row front x) (has_late_file front xs) h.0.0 more.0, (h.0.1, more.1))),
+  (λ h. let parts = or_parts (is_late_row front x) (has_late_file front xs) h.0 in ((parts.0, h.1.0), (files-right git front xs).1 (parts.1, h.1.1))),
+)

@@ -4,6 +4,7 @@ use Rattle.text_model.specs.Lists.{Each}
 use Rattle.text_model.specs.Id.{Id, has_id}
 use Rattle.hg_model.specs.Revision.{Revision}
 use Rattle.git_model.specs.Object.{Object}
+use Rattle.view_model.specs.View.{Row}
 use Rattle.pair_model.specs.Block.{Block, block_of_node, changesets_in}
 use Rattle.partner_model.specs.Given.{has_late_file}
 use Rattle.state_model.specs.Kept.{State}
@@ -12,7 +13,7 @@ use Rattle.verify_model.specs.Holds.{IsRight, IsRightId, Holds}
 use Rattle.pair_choice.specs.Bodies.{IsBodyHeld}
 use Rattle.pair_state.specs.declared.state_parts.StateParts.{StateParts}
 use Rattle.state_text.specs.Stands.{Stands}
-use Rattle.pull_bundle.specs.Late.{RefersIn}
+use Rattle.pull_bundle.specs.Late.{RefersIn, is_late_row}
 use Rattle.state_audit.specs.declared.checked.Checked.{Checked}
 use Rattle.state_audit.specs.declared.judge.Judgement.{Judgement}
 use Rattle.state_audit.specs.declared.judge.Judgement.TheVariants.{Right, Wrong}
@@ -24,6 +25,10 @@ AreInTime front = Each (λ v. has_late_file front v.rows ≡ false) (changesets_
 -- the bodies of their files are the objects with the ids of these
 abbrev pub AreBodiesHeld : List Object → List Block → Type 0
 AreBodiesHeld git front = Each (λ v. Each (IsBodyHeld git) v.rows) (changesets_in front)
+
+-- no parent of the file's revision comes too late, and the object with the id of its body is this body
+abbrev pub IsFileRight : List Object → List Block → Row → Type 0
+IsFileRight git front file = (is_late_row front file ≡ false) × IsBodyHeld git file
 
 pub record AreCompared (git : List Object) (front : List Block) : Type 0 where
   pub in_time : AreInTime front

@@ -8,8 +8,8 @@ ghost use Rattle.pair_known.specs.Drafts.{IsHgDraft};
 ghost use Rattle.state_audit.specs.Before.{IsPartnerHere};
 ghost use Rattle.state_audit.specs.Audited.{IsTurn, IsJudged};
 
-use crate::bodies::have_bodies;
 use crate::checked::{Checked, part_of};
+use crate::files::are_files_right;
 use crate::kept::{has_links, is_kept, text_of};
 use crate::late::comes_late;
 use crate::partner::partner_of;
@@ -20,6 +20,7 @@ use hg_manifest::Manifest;
 use hg_view::views_are_held;
 use pair_known::{GitDraft, HgDraft};
 use pair_state::{Block, State};
+use pull_bundle::is_manifest_late;
 use std::sync::ledger::Ledger;
 
 /// What a block is found to be.
@@ -56,7 +57,7 @@ pub fn judge<L: Ledger>(
     }
 }
 
-// The same where the changeset has a partner, unless a parent of a file or of the manifest comes too late.
+// The same where the changeset has a partner, unless a parent of a file or of the manifest comes too late. The files are walked through once.
 fn judge_with(
     state: &State,
     place: usize,
@@ -74,12 +75,12 @@ fn judge_with(
     let known = state.known();
     let empty = Manifest::new(state.alloc());
     let seen = seen_before(&known.hg, checked, &h.p1, &empty);
-    if comes_late(&known.hg, &seen, h) {
-        return Ok(Judgement::Wrong(Id::NULL));
-    }
     let block = state.blocks().at(place);
     let text = text_of(state.alloc(), &partner.commit)?;
     if !is_kept(state.alloc(), known, &block.commit, partner, &text)? {
+        if comes_late(&known.hg, &seen, h) {
+            return Ok(Judgement::Wrong(Id::NULL));
+        }
         return Ok(Judgement::Wrong(object_id(Kind::Commit, &text)));
     }
     let nodes = state.changesets().as_slice();
@@ -87,7 +88,10 @@ fn judge_with(
     if !has_links(state.alloc(), known, partner, links)? {
         return Ok(Judgement::Wrong(Id::NULL));
     }
-    if !have_bodies(known, &seen, h.rows.as_slice()) {
+    if is_manifest_late(seen.referred, &h.manifest) {
+        return Ok(Judgement::Wrong(Id::NULL));
+    }
+    if !are_files_right(known, &seen, h.rows.as_slice()) {
         return Ok(Judgement::Wrong(Id::NULL));
     }
     Ok(Judgement::Right)

@@ -47,9 +47,13 @@ fn is_row_late(hg: &HgStore, referred: &Refers, row: &HgRow, lines: &mut Cursor<
         → result ≡ is_late_row front file }
     ensures same { lines.new ≡ lines.old }
 {
-    if is_seen(referred, row, lines) {
-        return false;
-    }
+    !is_seen(referred, row, lines) && has_late_parent(hg, referred, row)
+}
+
+/// Whether a parent of the file revision of a row stands in no changeset of the blocks before.
+pub fn has_late_parent(hg: &HgStore, referred: &Refers, row: &HgRow) -> bool
+    ensures { (front : List Block) (file : Row) → RefersIn hg.now referred.now front → row.now ≡ row_value file → IsFileHeld hg.now file → result ≡ is_late_row front file }
+{
     let path = row.path.as_slice();
     match hg.file_parents(path, &row.node) {
         Some((p, q)) => is_file_late(referred, path, &p) || is_file_late(referred, path, &q),

@@ -2,8 +2,8 @@
 #![tactic(auto)]
 
 mod audit;
-mod bodies;
 mod checked;
+mod files;
 mod judge;
 mod kept;
 mod late;

@@ -6,7 +6,7 @@ use Rattle.hg_store.specs.Known.{text_of}
 use Rattle.pair_known.specs.Rows.{RowValue}
 use Rattle.pair_state.proofs.BodyLemmas.{body-is, value-is}
 use Rattle.state_audit.proofs.Rows.{body-test}
-use Rattle.state_audit.proofs.bodies.has_body.Goals as goal
+use Rattle.state_audit.proofs.files.has_body.Goals as goal
 
 pub returns : goal.returns
 returns c = λ x asked.
