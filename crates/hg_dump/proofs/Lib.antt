@@ -10,3 +10,4 @@ pub mod OnceLemmas
 pub mod PathLemmas
 pub mod RefersLemmas
 pub mod StripLemmas
+pub mod WalkLemmas

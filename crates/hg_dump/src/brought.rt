@@ -13,7 +13,7 @@ ghost use Rattle.hg_dump.specs.State.{files_at, referred_in, met_of, Steps, Step
 
 use crate::references::{Reference, References};
 use bridge_text::{Id, NoMemory};
-use hg_manifest::{Cursor, Entry, Manifest};
+use hg_manifest::{Beside, Entry, Near};
 use hg_store::{Group, HgStore};
 use std::alloc::Global;
 use std::collections::BTreeMap;
@@ -64,9 +64,8 @@ impl Brought {
             → IsMet (met_of (take from hs) (drop from hs)) (referred_in brought)) }
     {
         let mut brought = Brought::new(alloc);
-        let empty = Manifest::new(alloc);
-        brought.refer_all(store, &nodes[..from], &empty, false)?;
-        brought.refer_all(store, &nodes[from..], &empty, true)?;
+        brought.refer_all(store, &nodes[..from], Near::none(), false)?;
+        brought.refer_all(store, &nodes[from..], Near::none(), true)?;
         Ok(brought)
     }
 
@@ -86,34 +85,34 @@ impl Brought {
         &mut self,
         store: &'a HgStore,
         nodes: &[Id],
-        mut previous: &'a Manifest,
+        mut previous: Near<'a>,
         is_new: bool,
     ) -> Result<(), NoMemory>
         requires held { (hs : List ChangesetView) × AreChangesetsHeld store.now nodes.now hs }
-        ensures { OnOk result ((hs : List ChangesetView) → AreChangesetsHeld store.now nodes.now hs → StepsAfter previous.now is_new (marks_in hs) self.old self.new) }
+        ensures { OnOk result ((hs : List ChangesetView) → AreChangesetsHeld store.now nodes.now hs → StepsAfter previous.entry is_new (marks_in hs) self.old self.new) }
     {
         for node in nodes {
-            let (manifest_node, manifest) = manifest_of(store, node);
-            self.refer_view(node, &manifest_node, manifest, previous, is_new)?;
-            previous = manifest;
+            let (manifest_node, lines) = named_lines(store, node);
+            self.refer_view(node, &manifest_node, lines.again(), previous, is_new)?;
+            previous = lines;
         }
         Ok(())
     }
 
-    // Adds what a changeset refers to: itself, its manifest and the file revisions that this names.
+    // Adds what a changeset refers to: itself, its manifest and the file revisions that the lines of this name.
     fn refer_view(
         &mut self,
         node: &Id,
         manifest_node: &Id,
-        manifest: &Manifest,
-        previous: &Manifest,
+        lines: Near<'_>,
+        previous: Near<'_>,
         is_new: bool,
     ) -> Result<(), NoMemory>
-        ensures { OnOk result (StepsAfter previous.now is_new (view_marks node.now manifest_node.now manifest.now) self.old self.new) }
+        ensures { OnOk result (StepsAfter previous.entry is_new (view_marks node.now manifest_node.now lines.entry) self.old self.new) }
     {
         self.refer(Group::Changesets, node, node, is_new)?;
         self.refer_manifest(manifest_node, node, is_new)?;
-        self.refer_files(manifest, previous, node, is_new)
+        self.refer_files(lines, previous, node, is_new)
     }
 
     /// Adds a manifest. The null one is no revision.
@@ -131,39 +130,30 @@ impl Brought {
         self.refer(Group::Manifests, manifest_node, link, is_new)
     }
 
-    /// Adds the file revisions that a manifest names. A line that stands in the manifest before, whose lines were met, needs no look-up.
+    /// Adds the file revisions that the lines of a manifest name. Those that stand in the manifest before, whose lines were met, need no look-up.
     pub fn refer_files(
         &mut self,
-        manifest: &Manifest,
-        previous: &Manifest,
+        lines: Near<'_>,
+        previous: Near<'_>,
         link: &Id,
         is_new: bool,
     ) -> Result<(), NoMemory>
-        ensures { OnOk result (StepsAfter previous.now is_new (map (file_mark link.now) manifest.now) self.old self.new) }
+        ensures { OnOk result (StepsAfter previous.entry is_new (map (file_mark link.now) lines.entry) self.old self.new) }
     {
-        let mut before = Cursor::new(previous);
-        for line in 0..manifest.len() {
-            let entry = manifest.at(line);
-            let is_met = before.has_line(entry.path.as_slice(), &entry.node);
-            self.refer_line(entry, is_met, link, is_new)?;
+        let mut walk = Beside {
+            lines,
+            other: previous,
+        };
+        while let Some(entry) = walk.next() {
+            self.refer_line(entry, link, is_new)?;
         }
         Ok(())
     }
 
-    // Adds the file revision that a line names, unless it was met.
-    fn refer_line(
-        &mut self,
-        entry: &Entry,
-        is_met: bool,
-        link: &Id,
-        is_new: bool,
-    ) -> Result<(), NoMemory>
-        ensures { OnOk result ((s : Met) → IsMet s (referred_in self.old) → OnTrue is_met (IsLineMet s (manifest_entry entry.now))
-            → IsMet (meet is_new s (file_mark link.now (manifest_entry entry.now))) (referred_in self.new)) }
+    // Adds the file revision that a line names.
+    fn refer_line(&mut self, entry: &Entry, link: &Id, is_new: bool) -> Result<(), NoMemory>
+        ensures { OnOk result (Steps is_new (file_mark link.now (manifest_entry entry.now) ∷ []) self.old self.new) }
     {
-        if is_met {
-            return Ok(());
-        }
         self.refer(
             Group::FilesAt(entry.path.as_slice()),
             &entry.node,
@@ -199,12 +189,12 @@ impl Brought {
     }
 }
 
-// The manifest of a changeset that is held, with its node. The file revisions that it names are not looked up.
-fn manifest_of<'a>(store: &'a HgStore, node: &Id) -> (Id, &'a Manifest)
+// The lines of the manifest of a changeset that is held, with its node. The file revisions that they name are not looked up.
+fn named_lines<'a>(store: &'a HgStore, node: &Id) -> (Id, Near<'a>)
     requires held { (h : ChangesetView) × IsChangesetHeld store.now node.now h }
-    ensures { (h : ChangesetView) → IsChangesetHeld store.now node.now h → marks_of h ≡ view_marks node.now result.0 result.1.now }
+    ensures { (h : ChangesetView) → IsChangesetHeld store.now node.now h → marks_of h ≡ view_marks node.now result.0 result.1 }
 {
-    match store.manifest_of_changeset(node) {
+    match store.lines_of_changeset(node) {
         Some(found) => found,
         None => unreachable!(),
     }

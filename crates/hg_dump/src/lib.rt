@@ -16,4 +16,4 @@ mod strip;
 pub use bundle::{is_dump, write, written_len};
 pub use dump::Dump;
 pub use held::are_held;
-pub use refers::{Refers, lines_of};
+pub use refers::{Refers, lines_of, manifest_of};

@@ -9,7 +9,7 @@ ghost use Rattle.hg_dump.specs.Refers.{RefersTo, HasFilesOf, AreNamedBy};
 
 use crate::brought::Brought;
 use bridge_text::{Id, NoMemory};
-use hg_manifest::Manifest;
+use hg_manifest::{Manifest, Near};
 use hg_store::{Group, HgStore};
 use std::alloc::Global;
 
@@ -28,34 +28,27 @@ impl Refers {
         let mut refers = Refers {
             brought: Brought::new(alloc),
         };
-        refers.add(alloc, store, nodes, None)?;
+        refers.add(store, nodes, None)?;
         Ok(refers)
     }
 
     /// Adds those of more changesets, all of which are in the store. Each line of the manifest of the changeset that is near was added before, so
     /// that a line which is the same needs no look-up.
-    pub fn add(
-        &mut self,
-        alloc: Global,
-        store: &HgStore,
-        nodes: &[Id],
-        near: Option<&Id>,
-    ) -> Result<(), NoMemory>
+    pub fn add(&mut self, store: &HgStore, nodes: &[Id], near: Option<&Id>) -> Result<(), NoMemory>
         requires held { (hs : List ChangesetView) × AreChangesetsHeld store.now nodes.now hs }
         requires near { IfSome near (λ node. (v : ChangesetView) × IsChangesetHeld store.now node.now v × ((rs : List Revision) → RefersTo self.old rs → HasFilesOf rs v)) }
         ensures { OnOk result ((hs : List ChangesetView) (rs : List Revision) → AreChangesetsHeld store.now nodes.now hs → RefersTo self.old rs → RefersTo self.new (rs ++ revisions_in hs)) }
     {
-        let empty = Manifest::new(alloc);
         let lines = match near {
             Some(node) => lines_of(store, node),
-            None => &empty,
+            None => Near::none(),
         };
         self.brought.refer_all(store, nodes, lines, false)
     }
 
     /// Adds what a changeset names that is known, though the store may lack it: its manifest, and the file revisions that this names where
     /// it is known. Of an unknown one nothing. The changeset itself isn't added.
-    pub fn add_named(&mut self, alloc: Global, store: &HgStore, node: &Id) -> Result<(), NoMemory>
+    pub fn add_named(&mut self, store: &HgStore, node: &Id) -> Result<(), NoMemory>
         ensures { OnOk result ((rs : List Revision) → RefersTo self.old rs → (more : List Revision) × AreNamedBy store.now node.now more × RefersTo self.new (rs ++ more)) }
     {
         let Some((_, _, changeset)) = store.changeset(node) else {
@@ -63,11 +56,10 @@ impl Refers {
         };
         self.brought
             .refer_manifest(&changeset.manifest, node, false)?;
-        let Some(manifest) = store.manifest(&changeset.manifest) else {
+        let Some(lines) = store.lines(&changeset.manifest) else {
             return Ok(());
         };
-        self.brought
-            .refer_files(manifest, &Manifest::new(alloc), node, false)
+        self.brought.refer_files(lines, Near::none(), node, false)
     }
 
     /// Whether one of the changesets refers to the revision of a group with this node.
@@ -79,7 +71,18 @@ impl Refers {
 }
 
 /// The lines of the manifest of a changeset that is held.
-pub fn lines_of<'a>(store: &'a HgStore, node: &Id) -> &'a Manifest
+pub fn lines_of<'a>(store: &'a HgStore, node: &Id) -> Near<'a>
+    requires held { (h : ChangesetView) × IsChangesetHeld store.now node.now h }
+    ensures { (h : ChangesetView) → IsChangesetHeld store.now node.now h → map entry_of_row h.rows ≡ result }
+{
+    match store.lines_of_changeset(node) {
+        Some((_, lines)) => lines,
+        None => unreachable!(),
+    }
+}
+
+/// The manifest of a changeset that is held.
+pub fn manifest_of<'a>(store: &'a HgStore, node: &Id) -> &'a Manifest
     requires held { (h : ChangesetView) × IsChangesetHeld store.now node.now h }
     ensures { (h : ChangesetView) → IsChangesetHeld store.now node.now h → map entry_of_row h.rows ≡ result.now }
 {

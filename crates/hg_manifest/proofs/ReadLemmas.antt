@@ -1,17 +1,21 @@
 -- How far a text is read: what was read, and what is left to judge.
 use Rattle.std.proofs.Common.{◌≡◌, ◌+◌, ◌-◌, ◌<◌, ◌≤◌, ℕ, true, false, List, [], ◌∷◌, ◌++◌, length, take, drop, Option, Some, None, refl, sym, ap, subst, ◌∙◌, append_assoc, arith, map, IsTrue}
-use Rattle.std.specs.Prelude.{slice_range}
-use Rattle.std.proofs.lemmas.List.{length-append, append-nil, map-append, take_at, drop_at}
+use Rattle.std.specs.Prelude.{slice_range, slice_get}
+use Rattle.std.proofs.lemmas.Bool.{and_parts, and_from}
+use Rattle.std.proofs.lemmas.List.{length-append, append-nil, map-append, take-append-drop, take_at, drop_at}
 use Rattle.text_model.specs.Text.{Bytes, IsBytes, whole_lines}
 use Rattle.hg_model.specs.Manifest.{ManifestEntry, flag_text, entry_text, manifest_text, IsManifest, IsManifestText, ManifestFault, BadLine, UnfitPath, last_path, rises_above, entry_of_line, entry_fault, path_of_line, lines_fault, manifest_fault}
 use Rattle.text_model.specs.Id.{IsId, hex}
 use Rattle.text_model.specs.Path.{is_fit_path}
 use Rattle.hg_manifest.specs.declared.entry.Entry.{Entry}
 use Rattle.hg_manifest.specs.Values.{manifest_entry}
-use Rattle.hg_manifest.specs.Near.{IsFit}
+use Rattle.text_model.specs.Lists.{Each}
+use Rattle.text_model.proofs.EachLemmas.{Each-rest}
+use Rattle.text_model.proofs.Elements.{drop_next, map_take_push}
+use Rattle.hg_manifest.specs.Near.{IsFit, AreFirstLines, first_rises}
 use Rattle.text_model.proofs.ByteLemmas.{IsBytes-front, IsBytes-rest}
 use Rattle.hg_model.proofs.EntryLemmas.{entry_of_line-text, entry_of_line-takes, at_nul, path_of_line-text, whole_lines-text, is_fit_path-plain}
-use Rattle.hg_model.proofs.ManifestLemmas.{IsManifest-push, manifest_text-none, manifest_text-push, last_path-push, entry_fault-fits, entry_fault-falls, entry_fault-unfit, lines_fault-bad, lines_fault-fits}
+use Rattle.hg_model.proofs.ManifestLemmas.{path_after, last_path-is, rises_from, rises-is, manifest_text-cons, IsManifest-push, manifest_text-none, manifest_text-push, last_path-push, entry_fault-fits, entry_fault-falls, entry_fault-unfit, lines_fault-bad, lines_fault-fits}
 
 -- the entries are the lines before the rest, and the fault of the text is that of the rest
 pub record IsReadTo (text : Bytes) (last : Option Bytes) (entries : List ManifestEntry) (rest : Bytes) : Type 0 where
@@ -113,6 +117,74 @@ goes_near text last entries rest after e r begins is above =
       some = omega (arith, long);
     } in
     goes_on text last entries rest (entry_text e) after r l e (sym (entry_of_line-text e plain.no_nul is.2)) above is.0
+
+-- many entries more, whose lines are those of entries which a manifest may have
+goes_far : (text : Bytes) (last : Option Bytes) (entries : List ManifestEntry) (rest after : Bytes) (es : List ManifestEntry) → IsReadTo text last entries rest → rest ≡ manifest_text es ++ after → Each IsFit es
+    → rises_from last es ≡ true → IsReadTo text (path_after last es) (entries ++ es) after
+goes_far text last entries rest after [] r begins are up =
+    subst (λ (xs : List ManifestEntry). IsReadTo text last xs after) (sym (append-nil entries)) (subst (IsReadTo text last entries) (begins ∙ ap (λ (x : Bytes). x ++ after) manifest_text-none) r)
+goes_far text last entries rest after (e ∷ es) r begins are up =
+    let parts = and_parts (rises_above last e.path) (rises_from (Some e.path) es) up in
+    let first : rest ≡ entry_text e ++ (manifest_text es ++ after) = begins ∙ ap (λ (x : Bytes). x ++ after) (manifest_text-cons e es) ∙ append_assoc (entry_text e) (manifest_text es) after in
+    let one = goes_near text last entries rest (manifest_text es ++ after) e r first are.0 parts.0 in
+    subst (λ (xs : List ManifestEntry). IsReadTo text (path_after (Some e.path) es) xs after) (append_assoc entries (e ∷ []) es) (goes_far text (Some e.path) (entries ++ e ∷ []) (manifest_text es ++ after) after es one refl are.1 parts.1)
+
+-- the first of them rises above the line before
+up_from : (last : Option Bytes) (es : List ManifestEntry) → IsManifest es → first_rises last es ≡ true → rises_from last es ≡ true
+up_from last [] is first = refl
+up_from last (e ∷ es) is first = and_from (rises_above last e.path) (rises_from (Some e.path) es) first (sym (rises-is (e ∷ es)) ∙ is.1)
+
+path-after : (last : Option Bytes) (es : List ManifestEntry) → 0 < length es → path_after last es ≡ last_path es
+path-after last [] some = absurd (omega (arith, some))
+path-after last (e ∷ es) some = sym (last_path-is (e ∷ es))
+
+pub goes_near_many : (text : Bytes) (last : Option Bytes) (entries : List ManifestEntry) (rest after : Bytes) (es : List ManifestEntry) → IsReadTo text last entries rest → AreFirstLines rest es after → first_rises last es ≡ true
+    → IsReadTo text (last_path es) (entries ++ es) after
+goes_near_many text last entries rest after es r first above =
+    subst (λ (x : Option Bytes). IsReadTo text x (entries ++ es) after) (path-after last es first.some) (goes_far text last entries rest after es r first.whole first.are.0 (up_from last es first.are above))
+
+-- entries that may be put behind others
+pub many_behind : (text : Bytes) (last : Option Bytes) (entries : List ManifestEntry) (rest after : Bytes) (es : List ManifestEntry) → IsReadTo text last entries rest → AreFirstLines rest es after → first_rises last es ≡ true
+    → IsManifest (entries ++ es)
+many_behind text last entries rest after es r first above = (goes_near_many text last entries rest after es r first above).is
+
+-- fewer bytes are left
+pub less_left : (rest after : Bytes) (es : List ManifestEntry) → AreFirstLines rest es after → length after < length rest
+less_left rest after [] first = absurd (omega (arith, first.some))
+less_left rest after (e ∷ es) first =
+    let long : length (entry_text e) ≡ length e.path + length (0 ∷ (hex e.node ++ (flag_text e.flag ++ 10 ∷ []))) = ap (λ (x : Bytes). length x) (at_nul e) ∙ length-append e.path (0 ∷ (hex e.node ++ (flag_text e.flag ++ 10 ∷ []))) in
+    omega (arith, long, ap (λ (x : Bytes). length x) first.whole, length-append (manifest_text (e ∷ es)) after, ap (λ (x : Bytes). length x) (manifest_text-cons e es), length-append (entry_text e) (manifest_text es))
+
+-- ---- an entry among others
+
+rises-here : (last : Option Bytes) (xs : List ManifestEntry) (e : ManifestEntry) (ys : List ManifestEntry) → rises_from last (xs ++ (e ∷ ys)) ≡ true → rises_above (path_after last xs) e.path ≡ true
+rises-here last [] e ys up = (and_parts (rises_above last e.path) (rises_from (Some e.path) ys) up).0
+rises-here last (x ∷ xs) e ys up = rises-here (Some x.path) xs e ys (and_parts (rises_above last x.path) (rises_from (Some x.path) (xs ++ (e ∷ ys))) up).1
+
+-- an entry that is put behind those before it
+pub record IsNext (before : List ManifestEntry) (e : ManifestEntry) : Type 0 where
+  pub fit : IsFit e
+  pub rises : IsTrue (rises_above (last_path before) e.path)
+
+pub next-of : (before : List ManifestEntry) (e : ManifestEntry) (behind : List ManifestEntry) → IsManifest (before ++ (e ∷ behind)) → IsNext before e
+next-of before e behind is = record {
+  fit = (Each-rest IsFit before (e ∷ behind) is.0).0;
+  rises = ap (λ (last : Option Bytes). rises_above last e.path) (last_path-is before) ∙ rises-here None before e behind (sym (rises-is (before ++ (e ∷ behind))) ∙ is.1);
+}
+
+pub next-at : (old : List ManifestEntry) (entries : List Entry) (i : ℕ) (e : Entry) → slice_get entries i ≡ Some e → IsManifest (old ++ map manifest_entry entries) → IsNext (old ++ map manifest_entry (take i entries)) (manifest_entry e)
+next-at old entries i e at is =
+    let xs : List ManifestEntry = map manifest_entry (take i entries) in
+    let ys : List ManifestEntry = map manifest_entry (drop (i + 1) entries) in
+    let whole : map manifest_entry entries ≡ xs ++ (manifest_entry e ∷ ys) = ap (map manifest_entry) (sym (take-append-drop i entries) ∙ ap (λ (es : List Entry). take i entries ++ es) (drop_next entries i e at)) ∙ map-append manifest_entry (take i entries) (e ∷ drop (i + 1) entries) in
+    next-of (old ++ xs) (manifest_entry e) ys (subst IsManifest (ap (λ (es : List ManifestEntry). old ++ es) whole ∙ sym (append_assoc old xs (manifest_entry e ∷ ys))) is)
+
+pub next-pushed : (old : List ManifestEntry) (entries : List Entry) (i : ℕ) (e : Entry) → slice_get entries i ≡ Some e → (old ++ map manifest_entry (take i entries)) ++ manifest_entry e ∷ [] ≡ old ++ map manifest_entry (take (i + 1) entries)
+next-pushed old entries i e at =
+    append_assoc old (map manifest_entry (take i entries)) (manifest_entry e ∷ []) ∙ ap (λ (es : List ManifestEntry). old ++ es) (sym (map_take_push manifest_entry entries i e at))
+
+pub last-of : (entries : List Entry) (e : Entry) (front : List Entry) → entries ≡ front ++ e ∷ [] → Some (manifest_entry e).path ≡ last_path (map manifest_entry entries)
+last-of entries e front whole = sym (ap (λ (es : List Entry). last_path (map manifest_entry es)) whole ∙ ap last_path (map-append manifest_entry front (e ∷ [])) ∙ last_path-push (map manifest_entry front) (manifest_entry e))
 
 -- an entry put behind the others
 pub pushed : (items new : List Entry) (e : Entry) → new ≡ items ++ e ∷ [] → IsManifest (map manifest_entry items)

@@ -1,6 +1,7 @@
 //! Manifests: the files of a changeset, a line for each, in the flat manifest format that Mercurial keeps in its revlogs (help topic `internals.revlogs`).
 #![tactic(auto)]
 
+mod beside;
 mod cursor;
 mod entry;
 mod fault;
@@ -11,6 +12,7 @@ mod list;
 mod near;
 mod rev;
 
+pub use beside::Beside;
 pub use cursor::Cursor;
 pub use entry::{Entry, Flag};
 pub use fault::ManifestFault;

@@ -3,6 +3,7 @@ ghost use Rattle.std.specs.Io.{StartsWith};
 ghost use Rattle.text_model.specs.Id.{IsId};
 ghost use Rattle.hg_model.specs.Manifest.{flag_text, entry_text, manifest_text};
 ghost use Rattle.hg_manifest.specs.Values.{file_flag, manifest_entry};
+ghost use Rattle.hg_manifest.specs.Near.{StartsWithLines};
 
 use crate::entry::{Entry, Flag};
 use bridge_text::{Id, NoMemory};
@@ -36,6 +37,18 @@ pub fn line_len(path: &[u8], flag: Flag) -> usize
     ensures { (node : List ℕ) → IsId node → result ≡ length (entry_text (record { path = path.now; node = node; flag = file_flag flag })) }
 {
     path.len() + flag_bytes(flag).len() + 42
+}
+
+// How many bytes of a text stand behind the lines of these entries, with which it begins.
+pub(crate) fn len_behind(text: &[u8], entries: &[Entry]) -> usize
+    requires { (rest : List ℕ) × StartsWithLines text.now (map manifest_entry entries.now) rest }
+    ensures { (rest : List ℕ) → StartsWithLines text.now (map manifest_entry entries.now) rest → result ≡ length rest }
+{
+    let mut behind = text.len();
+    for entry in entries {
+        behind -= line_len(entry.path.as_slice(), entry.flag);
+    }
+    behind
 }
 
 /// Adds the lines of entries, of which want of memory may leave some and a part of the next.

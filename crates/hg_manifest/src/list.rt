@@ -5,6 +5,7 @@ ghost use Rattle.std.specs.Cmp.Lexicographic.{slice_cmp};
 ghost use Rattle.text_model.specs.Path.{is_fit_path};
 ghost use Rattle.hg_model.specs.Manifest.{IsManifest, IsManifestText, manifest_text, rises_above, last_path};
 ghost use Rattle.hg_manifest.specs.Values.{manifest_entry, IsFault};
+ghost use Rattle.hg_manifest.specs.Near.{first_rises};
 
 use crate::entry::Entry;
 use crate::fault::ManifestFault;
@@ -60,11 +61,11 @@ impl Manifest {
         let mut rest = text.as_slice();
         while !rest.is_empty() {
             let place = text.len() - rest.len();
-            if let Some((entry, after)) = near.take(rest)
-                && rises_above(last, entry.path.as_slice())
+            if let Some((entries, after)) = near.take(rest)
+                && first_rises(last, entries)
             {
-                manifest.push(entry.again()?)?;
-                last = Some(entry.path.as_slice());
+                manifest.push_all(entries)?;
+                last = last_path(entries);
                 rest = after;
             } else {
                 let (line, after) = first_line(rest);
@@ -101,6 +102,17 @@ impl Manifest {
         each_is_byte(entry.path.as_slice());
         let _bytes = entry.node.bytes();
         Ok(self.entries.push(entry)?)
+    }
+
+    // Adds entries of another manifest behind the others. Want of memory may leave some of them.
+    fn push_all(&mut self, entries: &[Entry]) -> Result<(), NoMemory>
+        requires { IsManifest (self.old ++ map manifest_entry entries.now) }
+        ensures { OnOk result (self.new ≡ self.old ++ map manifest_entry entries.now) }
+    {
+        for entry in entries {
+            self.push(entry.again()?)?;
+        }
+        Ok(())
     }
 
     /// A law, which does nothing when it runs: the entries are those of a manifest.
@@ -186,5 +198,25 @@ fn rises_above(last: Option<&[u8]>, path: &[u8]) -> bool
     match last {
         None => true,
         Some(last) => last.cmp(path) == Ordering::Less,
+    }
+}
+
+// Whether the path of the first of these entries stands after that of the line before, if there is one.
+fn first_rises(last: Option<&[u8]>, entries: &[Entry]) -> bool
+    ensures { result ≡ first_rises (option_copied last.entry) (map manifest_entry entries.now) }
+{
+    match entries.first() {
+        Some(entry) => rises_above(last, entry.path.as_slice()),
+        None => true,
+    }
+}
+
+// The path of the last of these entries.
+fn last_path(entries: &[Entry]) -> Option<&[u8]>
+    ensures { option_copied result ≡ last_path (map manifest_entry entries.now) }
+{
+    match entries.split_last() {
+        Some((entry, _)) => Some(entry.path.as_slice()),
+        None => None,
     }
 }

@@ -1,11 +1,15 @@
-ghost use Rattle.std.specs.Prelude.{◌≡◌, [], IfSome};
+ghost use Rattle.std.specs.Prelude.{◌≡◌, ◌<◌, [], None, IfSome, map};
 ghost use Rattle.hg_model.specs.Manifest.{IsManifestText};
-ghost use Rattle.hg_manifest.specs.Near.{IsSplit, IsFirstLine};
+ghost use Rattle.hg_manifest.specs.Near.{IsSplit, AreFirstLines, IsFront, IsLater};
+ghost use Rattle.hg_manifest.specs.Values.{manifest_entry};
 
 use crate::entry::Entry;
-use crate::lines::line_len;
+use crate::lines::{len_behind, line_len};
 use crate::list::Manifest;
 use std::marker::Model;
+
+// How many lines are compared at once.
+pub(crate) const BLOCK: usize = 16;
 
 /// The lines of a manifest that is known, those of them that are still ahead. A line of a text that is one of them needn't be judged.
 /// Contracts see their entries.
@@ -49,18 +53,41 @@ impl<'a> Near<'a> {
         }
     }
 
-    // The entry of the first line and what follows that line in a text that begins with it, and then the line is no longer ahead.
-    pub(crate) fn take<'b>(&mut self, rest: &'b [u8]) -> Option<(&'a Entry, &'b [u8])>
-        ensures { IfSome result (λ found. IsFirstLine rest.entry.now found.0.now found.1.now) }
+    /// The same lines.
+    pub fn again(&self) -> Near<'a>
+        ensures { result ≡ self.now }
     {
-        let (entry, line, behind) = self.split()?;
-        let after = rest.strip_prefix(line)?;
+        Near {
+            entries: self.entries,
+            lines: self.lines,
+        }
+    }
+
+    // The entries of the first lines, of many or of one, and what follows these lines in a text that begins with them. Then they are no longer ahead.
+    pub(crate) fn take<'b>(&mut self, rest: &'b [u8]) -> Option<(&'a [Entry], &'b [u8])>
+        ensures { IfSome result (λ found. AreFirstLines rest.entry.now (map manifest_entry found.0.now) found.1.now) }
+    {
+        match self.take_front(rest, BLOCK) {
+            Some(found) => Some(found),
+            None => self.take_front(rest, 1),
+        }
+    }
+
+    // The same of so many lines.
+    fn take_front<'b>(&mut self, rest: &'b [u8], count: usize) -> Option<(&'a [Entry], &'b [u8])>
+        requires some { 0 < count }
+        ensures { IfSome result (λ found. AreFirstLines rest.entry.now (map manifest_entry found.0.now) found.1.now) }
+    {
+        let (entries, text, behind) = self.front(count)?;
+        let after = rest.strip_prefix(text)?;
         *self = behind;
-        Some((entry, after))
+        Some((entries, after))
     }
 
     // Passes over the lines up to that of a path.
-    pub(crate) fn pass(&mut self, path: &[u8]) {
+    pub(crate) fn pass(&mut self, path: &[u8])
+        ensures { IsLater self.old self.new }
+    {
         while let Some((entry, _, behind)) = self.split()
             && entry.path.as_slice().cmp(path).is_le()
         {
@@ -68,9 +95,23 @@ impl<'a> Near<'a> {
         }
     }
 
+    // The first entries, so many of them, the text of their lines, and the lines behind them; `None` where there are fewer.
+    pub(crate) fn front(&self, count: usize) -> Option<(&'a [Entry], &'a [u8], Near<'a>)>
+        ensures { IfSome result (λ parts. IsFront count self.now (map manifest_entry parts.0.now) parts.1.now parts.2) }
+    {
+        if self.entries.len() < count {
+            return None;
+        }
+        let (front, entries) = self.entries.split_at(count);
+        let behind = len_behind(self.lines, front);
+        let (text, lines) = self.lines.split_at(self.lines.len() - behind);
+        Some((front, text, Near { entries, lines }))
+    }
+
     // The first entry, its line, and the lines behind it.
-    fn split(&self) -> Option<(&'a Entry, &'a [u8], Near<'a>)>
-        ensures { IfSome result (λ parts. IsSplit self.now parts.0.now parts.1.now parts.2) }
+    pub(crate) fn split(&self) -> Option<(&'a Entry, &'a [u8], Near<'a>)>
+        ensures some { IfSome result (λ parts. IsSplit self.now parts.0.now parts.1.now parts.2) }
+        ensures none { result ≡ None → self.now ≡ [] }
     {
         let entry = self.entries.first()?;
         let (_, entries) = self.entries.split_at(1);

@@ -1,24 +1,26 @@
 -- Lines of manifests whose file revisions are known.
-use Rattle.std.proofs.Common.{◌≡◌, Bool, true, List, [], ◌∷◌, map, sym, ap, subst, ◌∙◌, inl, inr}
+use Rattle.std.proofs.Common.{◌≡◌, not, get_or, List, [], ◌∷◌, ◌++◌, map, None, refl, sym, ap, subst, ◌∙◌, append_assoc, inl, inr}
 use Rattle.std.specs.Prelude.{is_some}
-use Rattle.std.specs.Bool.{OnTrue}
-use Rattle.text_model.specs.Id.{Id}
+use Rattle.std.proofs.lemmas.Option.{slice_get-get_or}
 use Rattle.text_model.specs.Lists.{Each}
-use Rattle.hg_model.specs.Manifest.{ManifestEntry}
+use Rattle.text_model.proofs.EachLemmas.{Each-append, Each-push, Each-weaker}
+use Rattle.text_model.proofs.Elements.{each_at}
+use Rattle.hg_model.specs.Manifest.{ManifestEntry, IsManifestText}
+use Rattle.hg_model.proofs.ManifestLemmas.{one_manifest}
+use Rattle.text_model.specs.Id.{Id}
+use Rattle.text_model.specs.Text.{Bytes}
+use Rattle.text_model.proofs.Options.{some_is}
 use Rattle.hg_model.specs.Revision.{Revision, FilesAt, knows}
 use Rattle.view_model.specs.View.{Row, entry_of_row}
 use Rattle.view_model.specs.Held.{IsFileHeld}
-use Rattle.hg_changeset.specs.Values.{changeset_value}
 use Rattle.hg_manifest.specs.Lines.{HasLine}
-use Rattle.hg_store.specs.Known.{AreAdded}
-use Rattle.hg_store.specs.Views.{IsView, IsManifestOf}
-use Rattle.hg_store.specs.declared.view.View.{View}
-use Rattle.hg_view.proofs.Held.{view-is_held}
-use Rattle.hg_dump.proofs.HeldLemmas.{held-entries}
+use Rattle.hg_manifest.specs.Beside.{IsLineOf, IsPassed}
+use Rattle.hg_manifest.specs.Near.{IsLater}
+use Rattle.hg_manifest.specs.declared.beside.Beside.{Beside}
+use Rattle.hg_manifest.proofs.BesideLemmas.{lines-later, later-more}
+use Rattle.hg_store.specs.Views.{IsManifestOf, is_unknown, first_unknown}
+use Rattle.hg_store.proofs.ViewLemmas.{position-none}
 use Rattle.hg_section.specs.Held.{IsLineKnown, AreLinesKnown}
-
-pub of-true : {X : Type 0} (b : Bool) → b ≡ true → OnTrue b X → X
-of-true {X} b is h = rw is at h
 
 -- a line that stands among lines that are known
 pub line-known : (known : List Revision) (entries : List ManifestEntry) (e : ManifestEntry) → AreLinesKnown known entries → HasLine e.path e.node entries → IsLineKnown known e
@@ -31,10 +33,45 @@ pub rows-known : (known : List Revision) (rows : List Row) → Each (IsFileHeld 
 rows-known known [] are = tt
 rows-known known (row ∷ rows) are = (ap is_some are.0.is_held, rows-known known rows are.1)
 
--- the lines of a view
-pub view-known : (known : List Revision) (node : Id) (v : View) → AreAdded known → IsView known node v → AreLinesKnown known (v.manifest).now
-view-known known node v added is =
-    let entries = (v.manifest).now in
-    let one = view-is_held known added node v is in
-    let of = subst (λ (n : Id). IsManifestOf known n entries) is.manifest_node is.manifest in
-    subst (AreLinesKnown known) (held-entries known added node one.0 one.1 v.p1 v.p2 (changeset_value (v.changeset).now) entries is.changeset of) (rows-known known (one.0).rows one.1.files)
+-- lines that are known have no first one that isn't
+pub none-unknown : (known : List Revision) (es : List ManifestEntry) → AreLinesKnown known es → first_unknown known es ≡ None
+none-unknown known es are = position-none (is_unknown known) es (λ k d within. ap not (each_at (IsLineKnown known) es k (get_or es k d) (slice_get-get_or es k d within) are))
+
+-- the entries of a manifest are one list
+pub one-list : (known : List Revision) (node : Id) (es fs : List ManifestEntry) → IsManifestOf known node es → IsManifestOf known node fs → es ≡ fs
+one-list known node es fs a b = one_manifest a.text es fs a.spells (subst (λ (t : Bytes). IsManifestText t fs) (some_is (sym b.is_held ∙ a.is_held)) b.spells)
+
+-- lines of both manifests are known where those of the other one are
+pub both-known : (known : List Revision) (other es : List ManifestEntry) → AreLinesKnown known other → Each (IsLineOf other) es → AreLinesKnown known es
+both-known known other es are both = Each-weaker (IsLineOf other) (IsLineKnown known) (λ e is. line-known known other e are is) es both
+
+-- the lines up to those that are ahead are known
+pub record AreKnownTo (known : List Revision) (lines near : List ManifestEntry) (walk : Beside) : Type 0 where
+  pub passed : List ManifestEntry
+  pub whole : lines ≡ passed ++ walk.lines
+  pub later : IsLater near walk.other
+  pub are : AreLinesKnown known passed
+
+pub starts : (known : List Revision) (lines near : List ManifestEntry) → AreKnownTo known lines near (record { lines = lines; other = near })
+starts known lines near = record {
+  passed = [];
+  whole = refl;
+  later = record { passed = []; whole = refl };
+  are = tt;
+}
+
+pub goes-on : (known : List Revision) (lines near : List ManifestEntry) (walk next : Beside) (e : ManifestEntry) → AreLinesKnown known near → AreKnownTo known lines near walk → IsPassed walk next (e ∷ []) → IsLineKnown known e
+    → AreKnownTo known lines near next
+goes-on known lines near walk next e are k p one =
+    let told : List ManifestEntry = p.same ++ e ∷ [] in
+    let same = both-known known near p.same are (lines-later near walk.other p.same k.later p.both) in
+    record {
+      passed = k.passed ++ told;
+      whole = k.whole ∙ ap (λ (es : List ManifestEntry). k.passed ++ es) (p.whole ∙ sym (append_assoc p.same (e ∷ []) next.lines)) ∙ sym (append_assoc k.passed told next.lines);
+      later = later-more near walk.other next.other k.later p.later;
+      are = Each-append (IsLineKnown known) k.passed told k.are (Each-push (IsLineKnown known) p.same e same one);
+    }
+
+pub ends : (known : List Revision) (lines near : List ManifestEntry) (walk : Beside) → AreLinesKnown known near → AreKnownTo known lines near walk → Each (IsLineOf walk.other) walk.lines → AreLinesKnown known lines
+ends known lines near walk are k both =
+    subst (AreLinesKnown known) (sym k.whole) (Each-append (IsLineKnown known) k.passed walk.lines k.are (both-known known near walk.lines are (lines-later near walk.other walk.lines k.later both)))

@@ -1,46 +1,38 @@
 // Changesets that a store holds with all that they stand for.
-ghost use Rattle.std.specs.Prelude.{◌≡◌, List, IsTrue, MatchResult};
+ghost use Rattle.std.specs.Prelude.{◌≡◌, true, None, List, IsTrue, MatchResult};
 ghost use Rattle.std.specs.Bool.{OnTrue};
 ghost use Rattle.hg_model.specs.Revision.{FilesAt, knows};
 ghost use Rattle.view_model.specs.View.{ChangesetView};
 ghost use Rattle.view_model.specs.Held.{AreChangesetsHeld};
 ghost use Rattle.hg_store.specs.Known.{AreAdded};
-ghost use Rattle.hg_store.specs.Views.{IsView, IsViewFault, first_unknown};
+ghost use Rattle.hg_store.specs.Views.{IsView, IsViewFault, IsManifestOf, first_unknown};
 ghost use Rattle.hg_section.specs.Held.{AreLinesKnown};
 
 use bridge_text::{Id, IdList};
-use hg_manifest::{Cursor, Entry, Manifest};
+use hg_dump::lines_of;
+use hg_manifest::{Beside, Entry, Manifest, Near};
 use hg_store::{Group, HgStore, View, ViewFault};
-use std::alloc::Global;
 
 /// Whether a store holds each changeset of a list with all that it stands for: its manifest, and the file revisions that this names. A line
 /// that stands in the manifest of the changeset before needs no look-up.
-pub fn are_held(alloc: Global, store: &HgStore, order: &IdList) -> bool
+pub fn are_held(store: &HgStore, order: &IdList) -> bool
     ensures held { OnTrue result ((hs : List ChangesetView) × AreChangesetsHeld store.now order.now hs) }
     ensures all { (hs : List ChangesetView) → AreChangesetsHeld store.now order.now hs → IsTrue result }
 {
-    are_held_beside(store, order.as_slice(), &Manifest::new(alloc))
-}
-
-// The same, beside a manifest whose file revisions are known.
-fn are_held_beside<'a>(store: &'a HgStore, nodes: &[Id], mut near: &'a Manifest) -> bool
-    requires near { AreLinesKnown store.now near.now }
-    ensures held { OnTrue result ((hs : List ChangesetView) × AreChangesetsHeld store.now nodes.now hs) }
-    ensures all { (hs : List ChangesetView) → AreChangesetsHeld store.now nodes.now hs → IsTrue result }
-{
-    for node in nodes {
-        let Ok(view) = view_beside(store, node, near) else {
+    let mut near = Near::none();
+    for node in order.as_slice() {
+        let Ok(_) = view_beside(store, node, near) else {
             return false;
         };
-        near = view.manifest;
+        near = lines_of(store, node);
     }
     true
 }
 
-// The changeset of a node with the manifest that it names, as the store's `view_of` gives it. Each file revision that the manifest beside it
-// names is known.
-fn view_beside<'a>(store: &'a HgStore, node: &Id, near: &Manifest) -> Result<View<'a>, ViewFault>
-    requires near { AreLinesKnown store.now near.now }
+// The changeset of a node with the manifest that it names, as the store's `view_of` gives it. Each file revision that the lines of another manifest
+// name is known.
+fn view_beside<'a>(store: &'a HgStore, node: &Id, near: Near<'_>) -> Result<View<'a>, ViewFault>
+    requires near { AreLinesKnown store.now near }
     ensures value { MatchResult result (IsView store.now node.now) (IsViewFault store.now node.now) }
     ensures known { AreAdded store.now }
 {
@@ -50,41 +42,48 @@ fn view_beside<'a>(store: &'a HgStore, node: &Id, near: &Manifest) -> Result<Vie
     let Some(manifest) = store.manifest(&changeset.manifest) else {
         return Err(ViewFault::ManifestUnknown);
     };
-    match first_unknown(store, manifest, near) {
-        Some(line) => Err(ViewFault::FileUnknown(line)),
-        None => Ok(View {
-            p1,
-            p2,
-            changeset,
-            manifest_node: changeset.manifest,
-            manifest,
-        }),
+    if !are_files_known(store, &changeset.manifest, manifest, near) {
+        return store.view_of(node);
+    }
+    Ok(View {
+        p1,
+        p2,
+        changeset,
+        manifest_node: changeset.manifest,
+        manifest,
+    })
+}
+
+// Whether each file revision that the manifest of this node names is known, as those that the lines of another name are.
+fn are_files_known(store: &HgStore, node: &Id, manifest: &Manifest, near: Near<'_>) -> bool
+    requires manifest { IsManifestOf store.now node.now manifest.now }
+    requires near { AreLinesKnown store.now near }
+    ensures { result ≡ true → first_unknown store.now manifest.now ≡ None }
+{
+    match store.lines(node) {
+        Some(lines) => are_known_beside(store, lines, near),
+        None => false,
     }
 }
 
-// The first line of a manifest whose file revision is unknown.
-fn first_unknown(store: &HgStore, manifest: &Manifest, near: &Manifest) -> Option<usize>
-    requires near { AreLinesKnown store.now near.now }
-    ensures { result ≡ first_unknown store.now manifest.now }
+// Whether each file revision that the lines of a manifest name is known, as those of another manifest are.
+fn are_known_beside(store: &HgStore, lines: Near<'_>, near: Near<'_>) -> bool
+    requires near { AreLinesKnown store.now near }
+    ensures { result ≡ true → AreLinesKnown store.now lines.entry }
 {
-    let mut before = Cursor::new(near);
-    for line in 0..manifest.len() {
-        if !is_known(store, &mut before, manifest.at(line)) {
-            return Some(line);
+    let mut walk = Beside { lines, other: near };
+    while let Some(line) = walk.next() {
+        if !is_known(store, line) {
+            return false;
         }
     }
-    None
+    true
 }
 
-// Whether the file revision that a line names is known, as those of each line of the manifest beside it are.
-fn is_known(store: &HgStore, near: &mut Cursor<'_>, entry: &Entry) -> bool
-    requires near { AreLinesKnown store.now near.old }
-    ensures known { result ≡ knows store.now (FilesAt entry.now.path) entry.now.node }
-    ensures same { near.new ≡ near.old }
+// Whether the file revision that a line names is known.
+fn is_known(store: &HgStore, line: &Entry) -> bool
+    ensures { result ≡ knows store.now (FilesAt line.now.path) line.now.node }
 {
-    if near.has_line(entry.path.as_slice(), &entry.node) {
-        return true;
-    }
-    let text = store.revision_text(Group::FilesAt(entry.path.as_slice()), &entry.node);
+    let text = store.revision_text(Group::FilesAt(line.path.as_slice()), &line.node);
     text.is_some()
 }

@@ -22,7 +22,7 @@ pub fn is_written(
     ensures no { IfOk result (λ yes. (hs : List ChangesetView) → IsWrittenOf store.now nodes.now bytes.now hs → IsTrue yes) }
 {
     store.check();
-    if !are_held(alloc, store, nodes) {
+    if !are_held(store, nodes) {
         return Ok(false);
     }
     is_dump(alloc, store, nodes, bytes)

@@ -245,20 +245,8 @@ impl HgStore {
     fn near(&self, addition: &Addition<'_>) -> Near<'_> {
         match addition.group {
             Group::Changesets => Near::none(),
-            Group::Manifests => self.lines_of(&addition.p),
+            Group::Manifests => self.lines(&addition.p).unwrap_or(Near::none()),
             Group::FilesAt(_) => Near::none(),
-        }
-    }
-
-    // The lines of a manifest, if it is known.
-    fn lines_of(&self, node: &Id) -> Near<'_> {
-        let Some(held) = self.get(Group::Manifests, node) else {
-            return Near::none();
-        };
-        match &held.parsed {
-            Parsed::Changeset(_) => Near::none(),
-            Parsed::Manifest(manifest) => Near::of(manifest, held.text.as_slice()),
-            Parsed::File(_) => Near::none(),
         }
     }
 

@@ -11,7 +11,7 @@ use crate::held::Parsed;
 use crate::store::HgStore;
 use bridge_text::Id;
 use hg_changeset::Changeset;
-use hg_manifest::Manifest;
+use hg_manifest::{Manifest, Near};
 
 /// A changeset with its manifest, borrowed from a store.
 #[derive(Drop)]
@@ -85,6 +85,23 @@ impl HgStore {
         }
     }
 
+    /// The lines of the manifest of a node, borrowed from the store: none for the null id; `None` exactly where another node is unknown.
+    pub fn lines(&self, node: &Id) -> Option<Near<'_>>
+        ensures value { MatchOption result (manifest_text_of self.now node.now ≡ None)
+            (λ found. IsManifestOf self.now node.now found) }
+        ensures known { AreAdded self.now }
+    {
+        if node.is_null() {
+            return Some(Near::of(self.null_manifest(), b""));
+        }
+        let held = self.get(Group::Manifests, node)?;
+        match &held.parsed {
+            Parsed::Manifest(manifest) => Some(Near::of(manifest, held.text.as_slice())),
+            Parsed::Changeset(_) => None,
+            Parsed::File(_) => None,
+        }
+    }
+
     /// The manifest that a changeset names, with its node, borrowed from the store: the empty one where that is the null id.
     /// `None` exactly where the changeset is unknown, or its manifest is. The file revisions are not looked up.
     pub fn manifest_of_changeset(&self, node: &Id) -> Option<(Id, &Manifest)>
@@ -97,6 +114,20 @@ impl HgStore {
         };
         let manifest = self.manifest(&changeset.manifest)?;
         Some((changeset.manifest, manifest))
+    }
+
+    /// The lines of the manifest that a changeset names, with its node, borrowed from the store: none where that is the null id.
+    /// `None` exactly where the changeset is unknown, or its manifest is. The file revisions are not looked up.
+    pub fn lines_of_changeset(&self, node: &Id) -> Option<(Id, Near<'_>)>
+        ensures value { MatchOption result (HasNoManifest self.now node.now)
+            (λ found. IsManifestOfChangeset self.now node.now found.0 found.1) }
+        ensures known { AreAdded self.now }
+    {
+        let Some((_, _, changeset)) = self.changeset(node) else {
+            return None;
+        };
+        let lines = self.lines(&changeset.manifest)?;
+        Some((changeset.manifest, lines))
     }
 
     // The first line of a manifest whose file revision is unknown.

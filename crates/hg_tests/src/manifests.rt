@@ -1,6 +1,6 @@
 // Texts of manifests.
-use bridge_text::{Id, fit_path};
-use hg_manifest::{Cursor, Entry, Flag, Manifest, ManifestFault, Near};
+use bridge_text::{Id, NoMemory, fit_path};
+use hg_manifest::{Beside, Cursor, Entry, Flag, Manifest, ManifestFault, Near, put_line};
 use shared_text::{Text, keep};
 use std::alloc::Global;
 use std::process::Abort;
@@ -253,5 +253,42 @@ fn lines_by_a_cursor(rt: HostRuntime) -> Result<(), Fail> {
     for (path, byte, want) in LINES {
         assert!(rt; cursor.has_line(path, &Id::new([byte; 20])) == want);
     }
+    Ok(())
+}
+
+// The lines of forty files, of which this one has another node.
+fn forty(alloc: Global, changed: u8) -> Result<Text, NoMemory> {
+    let mut lines = Vec::new(alloc);
+    for number in 0..40u8 {
+        let byte = if number == changed { 0x22 } else { 0x11 };
+        let path = [b'f', b'0' + number / 10, b'0' + number % 10];
+        put_line(&mut lines, &path, &Id::new([byte; 20]), Flag::Plain)?;
+    }
+    keep(lines)
+}
+
+fn is_at(entry: Option<&Entry>, path: &[u8]) -> bool {
+    match entry {
+        Some(entry) => entry.path.as_slice() == path,
+        None => false,
+    }
+}
+
+#[test]
+fn lines_beside_others(rt: HostRuntime) -> Result<(), Fail> {
+    let before = forty(rt.alloc(), 7)?;
+    let after = forty(rt.alloc(), 23)?;
+    let old = Manifest::read(rt.alloc(), &before, Near::none()).map_err(|_| "a manifest")?;
+    let near = Near::of(&old, before.as_slice());
+    let new = Manifest::read(rt.alloc(), &after, near.again()).map_err(|_| "a manifest")?;
+    let is_appended = is_appended(rt.alloc(), &new, after.as_slice())?;
+    assert!(rt; is_appended);
+    let mut walk = Beside {
+        lines: Near::of(&new, after.as_slice()),
+        other: near,
+    };
+    assert!(rt; is_at(walk.next(), b"f07"));
+    assert!(rt; is_at(walk.next(), b"f23"));
+    assert!(rt; walk.next().is_none());
     Ok(())
 }

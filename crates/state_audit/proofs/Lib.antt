@@ -12,3 +12,4 @@ pub mod Compared
 pub mod Verdicts
 pub mod Audits
 pub mod SeenLemmas
+pub mod LateRows

@@ -45,7 +45,7 @@ impl Checked {
         let hg = &state.known().hg;
         let first = first_parent(hg, &block.node);
         let near = near_of(&self.nodes, &first);
-        self.referred.add(state.alloc(), hg, nodes, near)?;
+        self.referred.add(hg, nodes, near)?;
         self.nodes.insert(block.node)?;
         self.changesets += count;
         Ok(())

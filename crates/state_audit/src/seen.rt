@@ -9,7 +9,7 @@ ghost use Rattle.state_audit.specs.Seen.{AreSeen, IsLineSeen, is_seen_at};
 
 use crate::checked::{Checked, near_of};
 use bridge_text::Id;
-use hg_dump::{Refers, lines_of};
+use hg_dump::{Refers, manifest_of};
 use hg_manifest::{Cursor, Manifest};
 use hg_store::{Group, HgStore};
 use pair_known::HgRow;
@@ -52,7 +52,7 @@ fn lines_near<'a>(
     ensures { (front : List Block) → IsWalked hg.now checked.now front → Each (IsLineSeen front) result.now }
 {
     match near_of(&checked.nodes, parent) {
-        Some(node) => lines_of(hg, node),
+        Some(node) => manifest_of(hg, node),
         None => empty,
     }
 }

@@ -11,6 +11,6 @@ unreachable-requires c =
 pub returns : goal.returns
 returns c = λ h held.
     let known = c.args.store.now in
-    let es = c.in-Some.manifest.now in
+    let es = c.in-Some.lines in
     let is = c.in-Some.ensures.value in
     held-entries known c.in-Some.ensures.known c.args.node.now h held is.p is.q is.fields es is.changeset (subst (λ (n : Id). IsManifestOf known n es) is.named is.is_manifest)

@@ -1,8 +1,8 @@
 use Rattle.std.proofs.Common.{List, sym, subst, ◌∙◌}
 use Rattle.text_model.specs.Lists.{Each}
 use Rattle.hg_model.specs.Manifest.{ManifestEntry}
-use Rattle.pull_bundle.proofs.LateLemmas.{turn, late-here, late-more, none-late}
 use Rattle.state_audit.specs.Seen.{IsLineSeen}
+use Rattle.state_audit.proofs.LateRows.{turn, late-here, late-more, none-late}
 use Rattle.state_audit.proofs.late.has_late_row.Goals as goal
 
 pub returns-then-is_row_late : goal.returns-then-is_row_late

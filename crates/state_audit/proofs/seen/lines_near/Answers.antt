@@ -8,8 +8,8 @@ use Rattle.state_audit.proofs.SeenLemmas.{lines-seen}
 use Rattle.state_audit.proofs.Walks.{near-known}
 use Rattle.state_audit.proofs.seen.lines_near.Goals as goal
 
-pub lines_of-requires : goal.lines_of-requires
-lines_of-requires c =
+pub manifest_of-requires : goal.manifest_of-requires
+manifest_of-requires c =
     let hg = c.args.hg.now in
     let ck = c.args.checked.now in
     let w = c.requires.walked.1 in
@@ -21,4 +21,4 @@ returns-in-Some c = λ front walked.
     let hg = c.args.hg.now in
     let ck = c.args.checked.now in
     let n = near-known hg hg refl ck.referred front ck.nodes walked.referred walked.nodes (Some c.in-Some.node) c.in-Some.ensures in
-    subst (λ (es : List ManifestEntry). Each (IsLineSeen front) es) (c.lines_of.ensures n.0 n.1) (lines-seen front (n.0).rows (n.2 (revisions_in (changesets_in front)) walked.referred.refers))
+    subst (λ (es : List ManifestEntry). Each (IsLineSeen front) es) (c.manifest_of.ensures n.0 n.1) (lines-seen front (n.0).rows (n.2 (revisions_in (changesets_in front)) walked.referred.refers))

@@ -1,4 +1,4 @@
-use Rattle.std.proofs.Common.{◌≡◌, ◌-◌, ℕ, List, length, take, drop, sym, subst, arith, length-drop}
+use Rattle.std.proofs.Common.{◌≡◌, ◌-◌, ℕ, List, [], length, take, drop, sym, subst, arith, length-drop}
 use Rattle.std.specs.Prelude.{false}
 use Rattle.text_model.specs.Lists.{Each}
 use Rattle.hg_model.specs.Manifest.{ManifestEntry}
@@ -27,10 +27,10 @@ refer_all-requires-2 c = record { held = (drop c.args.from c.requires.held.0, re
 
 pub returns : goal.returns
 returns c = λ hs are.
-    let no-lines : (s : Met) → Each (IsLineMet s) c.new-empty.result = λ s. subst (λ (es : List ManifestEntry). Each (IsLineMet s) es) (sym c.new-empty.ensures) tt in
+    let no-lines : (s : Met) (es : List ManifestEntry) → es ≡ [] → Each (IsLineMet s) es = λ s es none. subst (λ (l : List ManifestEntry). Each (IsLineMet s) l) (sym none) tt in
     let known = c.args.store.now in
     let nodes = c.args.nodes.now in
     let from = c.args.from in
     c.in_ok-refer_all-2.ensures (drop from hs) (rest-held known nodes from hs are) (meets false none (marks_in (take from hs)))
-    (c.in_ok-refer_all.ensures (take from hs) (held-take known nodes hs from are) none (none-is_met c.new-brought.ensures) (no-lines none))
-    (no-lines (meets false none (marks_in (take from hs))))
+    (c.in_ok-refer_all.ensures (take from hs) (held-take known nodes hs from are) none (none-is_met c.new-brought.ensures) (no-lines none c.none.result c.none.ensures))
+    (no-lines (meets false none (marks_in (take from hs))) c.none-2.result c.none-2.ensures)

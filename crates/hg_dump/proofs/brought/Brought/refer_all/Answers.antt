@@ -1,8 +1,9 @@
 use Rattle.std.proofs.Common.{◌≤◌, List, length, take, sym, ap, subst, ◌∙◌, arith}
 use Rattle.std.proofs.lemmas.List.{take_all}
 use Rattle.text_model.specs.Lists.{Each}
+use Rattle.hg_model.specs.Manifest.{ManifestEntry}
 use Rattle.view_model.specs.View.{ChangesetView}
-use Rattle.hg_dump.specs.Marks.{Met, IsMet, marks_of, marks_in, meets}
+use Rattle.hg_dump.specs.Marks.{Met, IsMet, marks_of, marks_in, meets, view_marks}
 use Rattle.hg_dump.specs.State.{StepsAfter, IsLineMet, referred_in}
 use Rattle.hg_dump.proofs.HeldLemmas.{held-at, held-length, marks-push}
 use Rattle.hg_dump.proofs.MeetLemmas.{meets-append, view-lines}
@@ -14,8 +15,8 @@ loop-node-init c = record {
   lines = λ hs are s lines. lines;
 }
 
-pub manifest_of-manifest_node-requires : goal.manifest_of-manifest_node-requires
-manifest_of-manifest_node-requires c =
+pub named_lines-manifest_node-requires : goal.named_lines-manifest_node-requires
+named_lines-manifest_node-requires c =
     let at = held-at c.args.store.now c.args.nodes.now c.requires.held.0 c.requires.held.1 c.loop-node.node-index c.node-item.result c.node-item.result c.loop-node-test.true c.node-item.is in
     record { held = (at.view, at.held) }
 
@@ -26,20 +27,22 @@ loop-node-preserved c =
     let nodes = c.args.nodes.now in
     let node = c.node-item.result in
     let i = c.loop-node.node-index in
-    let manifest_node = c.manifest_of-manifest_node.result.0 in
-    let es = c.manifest_of-manifest_node.result.1.now in
+    let manifest_node = c.named_lines-manifest_node.result.0 in
+    let es = c.named_lines-manifest_node.result.1 in
+    let step : StepsAfter c.loop-node.previous is_new (view_marks node manifest_node es) c.loop-node.self c.refer_view.new.self =
+    subst (λ (lines : List ManifestEntry). StepsAfter c.loop-node.previous is_new (view_marks node manifest_node lines) c.loop-node.self c.refer_view.new.self) c.again.ensures c.in_ok-refer_view.ensures in
     record {
       steps = λ hs are s is before.
           let at = held-at known nodes hs are i node node c.loop-node-test.true c.node-item.is in
           let so_far = meets is_new s (marks_in (take i hs)) in
-          let same = c.manifest_of-manifest_node.ensures at.view at.held in
+          let same = c.named_lines-manifest_node.ensures at.view at.held in
           subst (λ (t : Met). IsMet t (referred_in c.refer_view.new.self))
           (ap (meets is_new so_far) (sym same) ∙ sym (meets-append is_new s (marks_in (take i hs)) (marks_of at.view)) ∙ ap (meets is_new s) (sym (marks-push hs i at.view at.at_place)))
-          (c.in_ok-refer_view.ensures so_far (c.loop-node.invariant.steps hs are s is before) (c.loop-node.invariant.lines hs are s before));
+          (step so_far (c.loop-node.invariant.steps hs are s is before) (c.loop-node.invariant.lines hs are s before));
       lines = λ hs are s before.
           let at = held-at known nodes hs are i node node c.loop-node-test.true c.node-item.is in
           let so_far = meets is_new s (marks_in (take i hs)) in
-          let same = c.manifest_of-manifest_node.ensures at.view at.held in
+          let same = c.named_lines-manifest_node.ensures at.view at.held in
           subst (λ (t : Met). Each (IsLineMet t) es)
           (ap (meets is_new so_far) (sym same) ∙ sym (meets-append is_new s (marks_in (take i hs)) (marks_of at.view)) ∙ ap (meets is_new s) (sym (marks-push hs i at.view at.at_place)))
           (view-lines is_new so_far node manifest_node es);
@@ -49,4 +52,4 @@ pub returns : goal.returns
 returns c = λ hs are.
     let i = c.loop-node.node-index in
     let whole : length hs ≤ i = omega (arith, held-length c.args.store.now c.args.nodes.now hs are) in
-    subst (λ (xs : List ChangesetView). StepsAfter c.args.previous.now c.args.is_new (marks_in xs) c.args.self.now c.loop-node.self) (take_all i hs whole) (c.loop-node.invariant.steps hs are)
+    subst (λ (xs : List ChangesetView). StepsAfter c.args.previous c.args.is_new (marks_in xs) c.args.self.now c.loop-node.self) (take_all i hs whole) (c.loop-node.invariant.steps hs are)

@@ -1,10 +1,9 @@
-use Rattle.std.proofs.Common.{◌≡◌, map, take}
-use Rattle.hg_dump.specs.Marks.{file_mark}
-use Rattle.hg_dump.specs.State.{StepsAfter}
+use Rattle.std.proofs.Common.{length}
+use Rattle.hg_dump.proofs.WalkLemmas.{IsReferred}
 use Rattle.hg_dump.proofs.brought.Brought.refer_files.Given as goal
 
-abbrev pub invariant-loop-line : goal.invariant-loop-line
-invariant-loop-line l = record {
-  steps : StepsAfter l.previous l.is_new (map (file_mark l.link) (take l.line l.manifest)) l.fn.self l.self;
-  same : l.before ≡ l.previous;
-}
+abbrev pub invariant-loop-entry : goal.invariant-loop-entry
+invariant-loop-entry l = IsReferred l.fn.lines l.fn.previous l.is_new l.link l.walk l.fn.self l.self
+
+abbrev pub decreases-loop-entry : goal.decreases-loop-entry
+decreases-loop-entry l = length (l.walk).lines

@@ -1,4 +1,4 @@
-use Rattle.std.proofs.Common.{◌≡◌, List, Option, None, Some, sym, ap, subst, ◌∙◌}
+use Rattle.std.proofs.Common.{◌≡◌, List, Option, None, Some, sym, subst, ◌∙◌}
 use Rattle.std.specs.Prelude.{IfSome}
 use Rattle.text_model.proofs.Options.{some_is}
 use Rattle.std.proofs.lemmas.Result.{on_ok_weaker}
@@ -15,10 +15,10 @@ at-some P (Some y) x e h = subst P (some_is e) h
 
 pub returns : goal.returns
 returns c = on_ok_weaker c.refer_all.result (λ all hs rs are to.
-    let before : Each (IsLineMet (met-of rs)) c.match-near.lines.now = elim c.match-near.branch [
+    let before : Each (IsLineMet (met-of rs)) c.match-near.lines = elim c.match-near.branch [
       | in-Some w ↦
           let n = at-some _ c.args.near w.in-Some.node w.in-Some.is c.requires.near in
-          subst (λ (es : List ManifestEntry). Each (IsLineMet (met-of rs)) es) (w.lines_of-lines.ensures n.0 n.1 ∙ sym (ap (λ l. l.now) w.lines-is)) (lines-met rs (n.0).rows (n.2 rs to))
-      | in-None w ↦ subst (λ (es : List ManifestEntry). Each (IsLineMet (met-of rs)) es) (sym (ap (λ l. l.now) w.lines-is ∙ c.new-empty.ensures)) tt
+          subst (λ (es : List ManifestEntry). Each (IsLineMet (met-of rs)) es) (w.lines_of-lines.ensures n.0 n.1 ∙ sym w.lines-is) (lines-met rs (n.0).rows (n.2 rs to))
+      | in-None w ↦ subst (λ (es : List ManifestEntry). Each (IsLineMet (met-of rs)) es) (sym (w.lines-is ∙ w.none-lines.ensures)) tt
     ] in
     more-revisions _ rs hs (all hs are (met-of rs) (as-met c.args.self.now rs to) before)) c.refer_all.ensures

@@ -1,10 +1,7 @@
-use Rattle.std.proofs.Common.{sym, ap, subst, arith, ◌∙◌}
+use Rattle.std.proofs.Common.{sym, subst, arith, ◌∙◌}
 use Rattle.text_model.specs.Text.{Bytes, IsBytes}
 use Rattle.text_model.proofs.ByteLemmas.{IsBytes-by_index}
-use Rattle.std.specs.Option.{option_copied}
-use Rattle.hg_model.specs.Manifest.{rises_above}
-use Rattle.hg_manifest.specs.Values.{manifest_entry}
-use Rattle.hg_manifest.proofs.ReadLemmas.{IsLineOf, at_start, no_entry, falls, unfit, goes_on, goes_near, path_within, path_is}
+use Rattle.hg_manifest.proofs.ReadLemmas.{IsLineOf, at_start, no_entry, falls, unfit, goes_on, goes_near_many, many_behind, less_left, path_within, path_is}
 use Rattle.hg_manifest.proofs.list.Manifest.read.Goals as goal
 
 pub loop-near-init : goal.loop-near-init
@@ -12,11 +9,17 @@ loop-near-init c =
     let fits = subst (λ (x : Bytes). IsBytes x) c.as_slice-rest.ensures (IsBytes-by_index c.as_slice-rest.result.now (λ i. omega (arith, c.type_inv.rest i))) in
     rw (c.in_ok-manifest.ensures, c.as_slice-rest.ensures) (at_start c.args.text.now fits)
 
+pub push_all-requires : goal.push_all-requires
+push_all-requires c =
+    many_behind c.args.text.now _ c.loop-near.manifest c.loop-near.rest.now c.in-Some.after.now _ c.loop-near.invariant c.in-Some.ensures (sym c.first_rises.ensures ∙ c.if-first_rises.true)
+
 pub loop-near-preserved-in-loop-near : goal.loop-near-preserved-in-loop-near
 loop-near-preserved-in-loop-near c =
-    rw (c.as_slice-in-loop-near-2.ensures, c.in_ok-push.ensures.ok, c.in_ok-again.ensures)
-    (goes_near c.args.text.now _ c.loop-near.manifest c.loop-near.rest.now c.in-Some.after.now (manifest_entry c.in-Some.entry.now) c.loop-near.invariant c.in-Some.ensures.0 c.in-Some.ensures.1
-    (ap (λ (p : Bytes). rises_above (option_copied c.loop-near.last) p) (sym c.as_slice-in-loop-near.ensures) ∙ sym c.if-rises_above.ensures))
+    rw (c.in_ok-push_all.ensures, c.last_path-last.ensures)
+    (goes_near_many c.args.text.now _ c.loop-near.manifest c.loop-near.rest.now c.in-Some.after.now _ c.loop-near.invariant c.in-Some.ensures (sym c.first_rises.ensures ∙ c.if-first_rises.true))
+
+pub loop-near-smaller-in-loop-near : goal.loop-near-smaller-in-loop-near
+loop-near-smaller-in-loop-near c = less_left c.loop-near.rest.now c.in-Some.after.now _ c.in-Some.ensures
 
 pub returns-in_default : goal.returns-in_default
 returns-in_default c =
@@ -38,13 +41,13 @@ part-requires-clause-within c =
     let l : IsLineOf c.loop-near.rest.now c.first_line.result.0.now c.first_line.result.1.now = record { lines = c.first_line.ensures.lines; whole = c.first_line.ensures.whole; some = c.first_line.ensures.some } in
     rw (c.len.ensures.value) (path_within c.args.text.now _ c.loop-near.manifest c.loop-near.rest.now c.first_line.result.0.now c.first_line.result.1.now c.loop-near.invariant l _ c.in-Some-read_line.ensures)
 
-pub push-requires-in_default-clause-fit : goal.push-requires-in_default-clause-fit
-push-requires-in_default-clause-fit c =
+pub push-requires-clause-fit : goal.push-requires-clause-fit
+push-requires-clause-fit c =
     let l : IsLineOf c.loop-near.rest.now c.first_line.result.0.now c.first_line.result.1.now = record { lines = c.first_line.ensures.lines; whole = c.first_line.ensures.whole; some = c.first_line.ensures.some } in
     rw (c.in_ok-part.ensures, c.len.ensures.value, path_is c.args.text.now _ c.loop-near.manifest c.loop-near.rest.now c.first_line.result.0.now c.first_line.result.1.now c.loop-near.invariant l _ c.in-Some-read_line.ensures) (sym c.if-not-fit_path.ensures)
 
-pub push-requires-in_default-clause-rises : goal.push-requires-in_default-clause-rises
-push-requires-in_default-clause-rises c =
+pub push-requires-clause-rises : goal.push-requires-clause-rises
+push-requires-clause-rises c =
     let l : IsLineOf c.loop-near.rest.now c.first_line.result.0.now c.first_line.result.1.now = record { lines = c.first_line.ensures.lines; whole = c.first_line.ensures.whole; some = c.first_line.ensures.some } in
     rw (c.in_ok-part.ensures, c.len.ensures.value, path_is c.args.text.now _ c.loop-near.manifest c.loop-near.rest.now c.first_line.result.0.now c.first_line.result.1.now c.loop-near.invariant l _ c.in-Some-read_line.ensures, ← c.loop-near.invariant.last_is) (sym c.if-not-rises_above.ensures)
 
@@ -52,4 +55,4 @@ pub loop-near-preserved : goal.loop-near-preserved
 loop-near-preserved c =
     let l : IsLineOf c.loop-near.rest.now c.first_line.result.0.now c.first_line.result.1.now = record { lines = c.first_line.ensures.lines; whole = c.first_line.ensures.whole; some = c.first_line.ensures.some } in
     let r = goes_on c.args.text.now _ c.loop-near.manifest c.loop-near.rest.now c.first_line.result.0.now c.first_line.result.1.now c.loop-near.invariant l _ c.in-Some-read_line.ensures (sym c.if-not-rises_above.ensures) (sym c.if-not-fit_path.ensures) in
-    rw (c.in_ok-push-2.ensures.ok, c.in_ok-part.ensures, c.len.ensures.value, path_is c.args.text.now _ c.loop-near.manifest c.loop-near.rest.now c.first_line.result.0.now c.first_line.result.1.now c.loop-near.invariant l _ c.in-Some-read_line.ensures) r
+    rw (c.in_ok-push.ensures.ok, c.in_ok-part.ensures, c.len.ensures.value, path_is c.args.text.now _ c.loop-near.manifest c.loop-near.rest.now c.first_line.result.0.now c.first_line.result.1.now c.loop-near.invariant l _ c.in-Some-read_line.ensures) r

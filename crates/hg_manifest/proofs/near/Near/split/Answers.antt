@@ -22,8 +22,8 @@ invariant_of-result c =
     let parts = first-behind c.self.inside.entries.now c.self.inside.lines.now entry c.line_len.result c.self.invariant (sym c.in_ok-entry.ensures.value) measures in
     rw (c.split_at-2.ensures.back, c.split_at.ensures.back) parts.behind
 
-pub returns : goal.returns
-returns c =
+pub returns-clause-some : goal.returns-clause-some
+returns-clause-some c =
     let entry = c.in_ok-entry.entry.now in
     let measures : IsId entry.node → c.line_len.result ≡ length (entry_text (manifest_entry entry)) =
     λ is. c.line_len.ensures entry.node is ∙ ap (λ (p : Bytes). length (entry_text (record { path = p; node = entry.node; flag = file_flag entry.flag }))) c.as_slice.ensures in

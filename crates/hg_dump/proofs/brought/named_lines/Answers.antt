@@ -3,7 +3,7 @@ use Rattle.text_model.specs.Id.{Id}
 use Rattle.hg_store.specs.Views.{IsManifestOf}
 use Rattle.hg_dump.specs.Marks.{view_marks}
 use Rattle.hg_dump.proofs.HeldLemmas.{held-marks, held-names_manifest}
-use Rattle.hg_dump.proofs.brought.manifest_of.Goals as goal
+use Rattle.hg_dump.proofs.brought.named_lines.Goals as goal
 
 pub unreachable-requires : goal.unreachable-requires
 unreachable-requires c =
@@ -13,7 +13,7 @@ pub returns : goal.returns
 returns c = λ h held.
     let known = c.args.store.now in
     let node = c.args.node.now in
-    let es = c.in-Some.found.1.now in
+    let es = c.in-Some.found.1 in
     let is = c.in-Some.ensures.value in
     held-marks known c.in-Some.ensures.known node h held is.p is.q is.fields es is.changeset (subst (λ (n : Id). IsManifestOf known n es) is.named is.is_manifest)
     ∙ ap (λ (n : Id). view_marks node n es) (sym is.named)
