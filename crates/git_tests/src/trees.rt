@@ -8,7 +8,7 @@ use std::alloc::Global;
 use std::test::Fail;
 use tree_rebuild::{rebuild, rebuild_over};
 use tree_residue::{carry, is_same_residue, residue_at, residue_of};
-use tree_shape::{BuildFault, FileRow, Files, TreeFault, TreeItem, build, flatten};
+use tree_shape::{BuildFault, FileRow, Files, TreeFault, TreeItem, build, flatten, flatten_near};
 
 /// A row: its path, its mode, and the byte that stands 20 times in its id.
 type Row = (&'static [u8], Mode, u8);
@@ -190,9 +190,10 @@ pub fn nested(alloc: Global, store: &mut GitStore, count: u16) -> Result<Id, Fai
     Ok(inner)
 }
 
-// Whether the tree has one file, in so many trees.
+// Whether the tree has one file, in so many trees, beside its own rows too.
 fn is_nested(alloc: Global, store: &GitStore, tree: &Id, count: usize) -> Result<bool, Fail> {
-    let files = flatten(alloc, store, tree)?;
+    let near = flatten(alloc, store, tree)?;
+    let files = flatten_near(alloc, store, tree, near.as_slice())?;
     let trees = build(alloc, &files)?;
     Ok(files.len() == 1 && trees.made.len() == count)
 }

@@ -16,7 +16,7 @@ use bridge_text::{Id, NoMemory};
 use git_object::{Commit, CommitFault, Objects};
 use git_store::GitStore;
 use std::alloc::Global;
-use tree_shape::{Files, TreeFault, TreeList, flatten};
+use tree_shape::{FileRow, Files, TreeFault, TreeList, flatten_near};
 
 /// A commit with all that it stands for.
 pub struct GitDraft {
@@ -55,6 +55,19 @@ impl GitDraft {
         } = self;
         (fresh, trees)
     }
+
+    /// The files of its tree.
+    pub fn into_files(self) -> Files
+        ensures { result ≡ self.files }
+    {
+        let GitDraft {
+            commit: _,
+            files,
+            fresh: _,
+            trees: _,
+        } = self;
+        files
+    }
 }
 
 /// The draft of a commit that is held, whose tree stands for files. No blob is copied, and nothing is hashed.
@@ -64,7 +77,7 @@ pub fn draft_of_commit(alloc: Global, known: &Known, id: &Id) -> Result<GitDraft
     ensures nothing_fresh { IfOk result (λ d. d.fresh ≡ []) }
     ensures no_trees { IfOk result (λ d. d.trees ≡ []) }
 {
-    match read_commit_draft(alloc, known, id) {
+    match read_commit_draft(alloc, known, id, &[]) {
         Ok(draft) => Ok(draft),
         Err(TreeFault::Memory) => Err(NoMemory),
         Err(TreeFault::ObjectUnknown(_)) => unreachable!(),
@@ -74,8 +87,13 @@ pub fn draft_of_commit(alloc: Global, known: &Known, id: &Id) -> Result<GitDraft
 }
 
 /// The draft of a commit that the store holds, whatever its tree is. The fault is the first of the walk through that tree.
-/// No blob is copied, and nothing is hashed.
-pub fn read_commit_draft(alloc: Global, known: &Known, id: &Id) -> Result<GitDraft, TreeFault>
+/// No blob is copied, and nothing is hashed; nor is a path copied that stands among these rows of another tree too.
+pub fn read_commit_draft(
+    alloc: Global,
+    known: &Known,
+    id: &Id,
+    near: &[FileRow],
+) -> Result<GitDraft, TreeFault>
     requires held { (content : Bytes) × (content_at commit known.now.git id.now ≡ Some content) }
     ensures fields { IfOk result (λ d. IsCommitAt known.now.git id.now d.commit) }
     ensures walks { IfOk result (λ d. walk_fault known.now.git (d.commit).tree_id ≡ None) }
@@ -89,7 +107,7 @@ pub fn read_commit_draft(alloc: Global, known: &Known, id: &Id) -> Result<GitDra
         Ok(commit) => commit,
         Err(NoMemory) => return Err(TreeFault::Memory),
     };
-    let files = match flatten(alloc, &known.git, &commit.tree) {
+    let files = match flatten_near(alloc, &known.git, &commit.tree, near) {
         Ok(files) => files,
         Err(fault) => return Err(fault),
     };

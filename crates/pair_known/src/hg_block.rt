@@ -1,3 +1,5 @@
+ghost use Rattle.std.specs.Prelude.{◌≡◌};
+
 use crate::hg_draft::HgDraft;
 use bridge_text::List;
 
@@ -15,5 +17,15 @@ pub struct HgBlock {
 impl Drop for HgBlock {
     fn drop(self) {
         let HgBlock { links: _, last: _ } = self;
+    }
+}
+
+impl HgBlock {
+    /// The changeset, without the links.
+    pub fn into_last(self) -> HgDraft
+        ensures { result ≡ self.last }
+    {
+        let HgBlock { links: _, last } = self;
+        last
     }
 }

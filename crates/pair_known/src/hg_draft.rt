@@ -1,4 +1,4 @@
-ghost use Rattle.std.specs.Prelude.{◌≡◌, false, [], List, map, None, OnOk, IfOk, IfErr, IfSome, IsTrue, MatchOption};
+ghost use Rattle.std.specs.Prelude.{◌≡◌, false, [], List, map, None, OnOk, IfOk, IfErr, IsTrue, MatchOption};
 ghost use Rattle.text_model.specs.Lists.{Each};
 ghost use Rattle.text_model.specs.Id as model;
 ghost use Rattle.hg_model.specs.Changeset as fields;
@@ -18,6 +18,7 @@ use crate::draft_texts::DraftTexts;
 use crate::fresh_files::FreshFiles;
 use crate::hg_row::{HgRow, HgRows};
 use crate::known::Known;
+use crate::near_rows::NearRows;
 use bridge_text::{Id, NoMemory};
 use hg_changeset::{Changeset, ChangesetFault};
 use hg_manifest::{Entry, Manifest, ManifestRev};
@@ -196,11 +197,10 @@ fn rows_of(
     ensures fault { IfErr result (IsLineFault (first_unknown store.now manifest.now)) }
 {
     let mut rows = HgRows::new(alloc);
-    let mut place = 0;
+    let mut walk = NearRows::new(near);
     for line in 0..manifest.len() {
         let entry = manifest.at(line);
-        place = place_from(near, place, entry);
-        let Some(blob) = blob_near(store, entry, near.get(place)) else {
+        let Some(blob) = blob_near(store, entry, &mut walk) else {
             return Err(DraftFault::Unknown(ViewFault::FileUnknown(line)));
         };
         let row = row_of(entry, blob)?;
@@ -209,45 +209,20 @@ fn rows_of(
     Ok(rows)
 }
 
-// Where an entry's row stands, mostly right behind that of the entry before; or else the first row, from that one on, which isn't below the entry's path.
-fn place_from(rows: &[HgRow], from: usize, entry: &Entry) -> usize {
-    if from < rows.len() && has_node(rows.get(from + 1), &entry.node) {
-        return from + 1;
-    }
-    let path = entry.path.as_slice();
-    let mut place = from;
-    'rows: while place < rows.len() && is_below(&rows[place], path) {
-        place += 1;
-    }
-    place
-}
-
-// Whether there is a row with this node.
-fn has_node(row: Option<&HgRow>, node: &Id) -> bool {
-    match row {
-        Some(row) => row.node == *node,
-        None => false,
-    }
-}
-
-// Whether a row's path stands below another path.
-fn is_below(row: &HgRow, path: &[u8]) -> bool {
-    row.path.as_slice().cmp(path).is_lt()
-}
-
-// The blob of an entry's file revision: that of the row, where this has the same revision, or else what the store says.
-fn blob_near(store: &HgStore, entry: &Entry, row: Option<&HgRow>) -> Option<Id>
-    requires row { IfSome row (λ r. IsRowKnown store.now r.now) }
-    ensures { MatchOption result (knows store.now (FilesAt entry.now.path) entry.now.node ≡ false) (IsFileBlob store.now entry.now.path entry.now.node) }
+// The blob of an entry's file revision: that of its row, or else what the store says.
+fn blob_near(store: &HgStore, entry: &Entry, near: &mut NearRows<'_>) -> Option<Id>
+    requires near { Each (IsRowKnown store.now) near.old }
+    ensures blob { MatchOption result (knows store.now (FilesAt entry.now.path) entry.now.node ≡ false) (IsFileBlob store.now entry.now.path entry.now.node) }
+    ensures same { near.new ≡ near.old }
 {
-    match row {
-        Some(row) if is_of(row, entry) => Some(row.blob),
-        _ => store.file_blob(entry.path.as_slice(), &entry.node),
+    match near.get(entry) {
+        Some(row) => Some(row.blob),
+        None => store.file_blob(entry.path.as_slice(), &entry.node),
     }
 }
 
 // Whether a row has the path and the revision of an entry.
-fn is_of(row: &HgRow, entry: &Entry) -> bool
+pub(crate) fn is_of(row: &HgRow, entry: &Entry) -> bool
     ensures { IsTrue result → (row.now.path ≡ entry.now.path) × (row.now.node ≡ entry.now.node) }
 {
     row.node == entry.node && row.path.as_slice() == entry.path.as_slice()

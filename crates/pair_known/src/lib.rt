@@ -13,6 +13,7 @@ mod hg_block;
 mod hg_draft;
 mod hg_row;
 mod known;
+mod near_rows;
 mod partners;
 
 pub use choice_fault::ChoiceFault;
@@ -29,4 +30,5 @@ pub use hg_draft::{
 pub use hg_manifest::Cursor;
 pub use hg_row::{HgRow, HgRows};
 pub use known::Known;
+pub use near_rows::NearRows;
 pub use partners::Partners;

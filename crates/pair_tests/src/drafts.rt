@@ -95,7 +95,7 @@ fn reads_commit(alloc: Global, known: &Known, id: &Id, blob: &Id) -> Result<bool
     if known.git.commit(id).is_none() {
         return Ok(false);
     }
-    let read = read_commit_draft(alloc, known, id)?;
+    let read = read_commit_draft(alloc, known, id, &[])?;
     let c = draft_of_commit(alloc, known, id)?;
     Ok(is_commit(&read) && is_commit(&c) && lends_content(known, &c, blob, b"hello\n"))
 }

@@ -26,10 +26,28 @@ pub fn flatten<G: Objects>(alloc: Global, store: &G, root: &Id) -> Result<Files,
     ensures fits { OnOk result (walk_fault (G.objects store.now) root.now ≡ None) }
     ensures fault { IfErr result (IsTreeFault (walk_fault (G.objects store.now) root.now)) }
 {
+    flatten_near(alloc, store, root, &[])
+}
+
+/// The rows that a tree stands for, as `flatten` gives them. A path that stands among these rows of another tree too, which
+/// rise, isn't copied but shared.
+pub fn flatten_near<G: Objects>(
+    alloc: Global,
+    store: &G,
+    root: &Id,
+    near: &[FileRow],
+) -> Result<Files, TreeFault>
+    ensures unfolds { IfOk result (IsUnfolding (G.objects store.now) root.now) }
+    ensures rows { IfOk result (λ files. files ≡ tree_rows (G.objects store.now) root.now) }
+    ensures root { IfOk result (λ files. root_of files ≡ root.now) }
+    ensures trees { IfOk result (λ files. AreKnown (G.objects store.now) (trees_of files)) }
+    ensures fits { OnOk result (walk_fault (G.objects store.now) root.now ≡ None) }
+    ensures fault { IfErr result (IsTreeFault (walk_fault (G.objects store.now) root.now)) }
+{
     let Some(tree) = store.tree(root) else {
         return Err(TreeFault::ObjectUnknown(*root));
     };
-    let mut walk = Walk::new(alloc);
+    let mut walk = Walk::new(alloc, near);
     visit_tree(alloc, store, tree, COMPONENT_LIMIT, &mut walk)?;
     let rows = rows_by_paths(alloc, walk.into_rows())?;
     Ok(Files::keep(rows))

@@ -11,25 +11,27 @@ ghost use Rattle.tree_shape.specs.Walks.{row_at, refused, entries_visits, IsFron
 
 use crate::fault::TreeFault;
 use crate::file_row::FileRow;
+use crate::near::NearRows;
 use bridge_text::{Id, Kind, NoMemory, PATH_LIMIT, ROWS_LIMIT};
 use git_object::{Objects, Tree, TreeEntry};
-use shared_text::Text;
 use std::alloc::Global;
 
 /// What a walk has come to.
 #[derive(Drop)]
-pub struct Walk {
+pub struct Walk<'n> {
     /// The path of the directory or the entry at which it stands.
     path: Vec<u8>,
     /// The sizes of the rows together, each its path's bytes and 42.
     size: usize,
     /// The rows of the files that it has met.
     rows: Vec<FileRow>,
+    /// Rows of another tree, those that are still ahead.
+    near: NearRows<'n>,
 }
 
-impl Walk {
-    /// A walk that begins at a root.
-    pub fn new(alloc: Global) -> Walk
+impl<'n> Walk<'n> {
+    /// A walk that begins at a root, beside the rows of another tree.
+    pub fn new(alloc: Global, near: &'n [FileRow]) -> Walk<'n>
         ensures path { result.path.items ≡ [] }
         ensures size { result.size ≡ 0 }
         ensures rows { result.rows.items ≡ [] }
@@ -38,12 +40,13 @@ impl Walk {
             path: Vec::new(alloc),
             size: 0,
             rows: Vec::new(alloc),
+            near: NearRows::of(near),
         }
     }
 
     /// The rows.
     pub fn into_rows(self) -> Vec<FileRow>
-        ensures { result.items ≡ self.rows.items }
+        ensures { result.items ≡ self.entry.rows.items }
     {
         self.rows
     }
@@ -58,7 +61,7 @@ impl Walk {
         let Some(size) = grown(self.size, self.path.len()) else {
             return Err(TreeFault::Limit);
         };
-        let path = text_of(alloc, self.path.as_slice())?;
+        let path = self.near.text_of(alloc, self.path.as_slice())?;
         self.rows.push(FileRow {
             path,
             mode: entry.mode(),
@@ -110,13 +113,6 @@ impl Walk {
         }
         self.put_row(alloc, entry)
     }
-}
-
-// A text of these bytes.
-fn text_of(alloc: Global, path: &[u8]) -> Result<Text, NoMemory>
-    ensures { IfOk result (λ text. text ≡ path.now) }
-{
-    Ok(Text::copy_from_slice(alloc, path)?)
 }
 
 /// Turns the path of a directory, empty for the root, into that of an entry of this name.
@@ -187,7 +183,7 @@ pub fn visit_tree<G: Objects>(
     store: &G,
     tree: &Tree,
     levels: usize,
-    walk: &mut Walk,
+    walk: &mut Walk<'_>,
 ) -> Result<(), TreeFault>
     requires within { walk.old.size ≤ rows_limit }
     requires front { IsFront levels walk.old.path.items }

@@ -14,15 +14,15 @@ one_unfolding {known} root other xs ys same a b =
     let c = subst (λ (r : List ℕ). IsUnfolding known r xs) same a in
     rising_one (λ (r : FileRow). r.path) xs ys c.in_order b.in_order (λ x i. b.all x (c.each x i)) (λ x i. c.all x (b.each x i))
 
-pub returns-in-Err-flatten-clause-fault : goal.returns-in-Err-flatten-clause-fault
-returns-in-Err-flatten-clause-fault c = λ v at.
-    subst (λ (root : List ℕ). IsTreeFault (walk_fault c.args.known.now.git root) c.in-Err-flatten.fault) (ap (λ (x : Commit). x.tree_id) (c.commit.view_is ∙ sym (c.in-Ok.ensures.one v at))) c.in-Err-flatten.ensures.fault
+pub returns-in-Err-flatten_near-clause-fault : goal.returns-in-Err-flatten_near-clause-fault
+returns-in-Err-flatten_near-clause-fault c = λ v at.
+    subst (λ (root : List ℕ). IsTreeFault (walk_fault c.args.known.now.git root) c.in-Err-flatten_near.fault) (ap (λ (x : Commit). x.tree_id) (c.commit.view_is ∙ sym (c.in-Ok.ensures.one v at))) c.in-Err-flatten_near.ensures.fault
 
 pub returns-clause-draft : goal.returns-clause-draft
 returns-clause-draft c = λ view held.
     let value = c.in-Ok.ensures.one view.value (held-at _ _ view held) in
     record {
       value = value;
-      files = one_unfolding _ _ c.in-Ok-flatten.files (map file_row_of view.rows) (ap (λ (x : Commit). x.tree_id) (c.commit.view_is ∙ sym value)) c.in-Ok-flatten.ensures.unfolds held.rows;
+      files = one_unfolding _ _ c.in-Ok-flatten_near.files (map file_row_of view.rows) (ap (λ (x : Commit). x.tree_id) (c.commit.view_is ∙ sym value)) c.in-Ok-flatten_near.ensures.unfolds held.rows;
       blobs = subst (λ (fresh : List Object). Each (IsRowHeld (fresh ++ c.args.known.now.git)) view.rows) (sym c.new.ensures) held.blobs;
     }

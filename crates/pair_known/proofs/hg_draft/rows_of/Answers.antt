@@ -18,7 +18,7 @@ pub returns-in_default-clause-fault : goal.returns-in_default-clause-fault
 returns-in_default-clause-fault c =
     let known = c.args.store.now in
     let e = manifest_entry c.at-entry.result.now in
-    let test : is_unknown known e ≡ true = ap not c.in_default.ensures in
+    let test : is_unknown known e ≡ true = ap not c.in_default.ensures.blob in
     position-first (is_unknown known) c.args.manifest.now c.loop-line.line e (omega (arith, c.loop-line-test.true, c.len-line-end.ensures.len))
     (ap (is_unknown known) (get_or_from_slice_get c.args.manifest.now c.loop-line.line e e c.at-entry.ensures) ∙ test) (λ k. c.loop-line.invariant.known k e)
 
@@ -28,14 +28,15 @@ loop-line-preserved c =
     let e = manifest_entry c.at-entry.result.now in
     let blob = c.in-Some.blob in
     record {
-      known = one_more (is_unknown known) c.args.manifest.now c.loop-line.line e c.at-entry.ensures (blob-known known e.path e blob refl c.in-Some.ensures) c.loop-line.invariant.known;
+      near = c.in-Some.ensures.same ∙ c.loop-line.invariant.near;
+      known = one_more (is_unknown known) c.args.manifest.now c.loop-line.line e c.at-entry.ensures (blob-known known e.path e blob refl c.in-Some.ensures.blob) c.loop-line.invariant.known;
       rows = λ rows same held.
           let at = ap (λ (l : List ManifestEntry). slice_get l c.loop-line.line) same ∙ c.at-entry.ensures in
           c.in_ok-push.ensures.ok
           ∙ (λ i. c.loop-line.invariant.rows rows same held i ++ c.in_ok-row.row ∷ [])
           ∙ sym (rows-more known c.in_ok-row.row rows c.loop-line.line e at held
-          (λ row same held. c.in_ok-row.ensures ∙ row-made known row e e.path blob same held refl c.in-Some.ensures));
-      blobs = subst (Each (IsRowKnown known)) (sym c.in_ok-push.ensures.ok) (Each-append (IsRowKnown known) _ (c.in_ok-row.row ∷ []) c.loop-line.invariant.blobs (subst (IsRowKnown known) (sym c.in_ok-row.ensures) c.in-Some.ensures, tt));
+          (λ row same held. c.in_ok-row.ensures ∙ row-made known row e e.path blob same held refl c.in-Some.ensures.blob));
+      blobs = subst (Each (IsRowKnown known)) (sym c.in_ok-push.ensures.ok) (Each-append (IsRowKnown known) _ (c.in_ok-row.row ∷ []) c.loop-line.invariant.blobs (subst (IsRowKnown known) (sym c.in_ok-row.ensures) c.in-Some.ensures.blob, tt));
     }
 
 pub returns : goal.returns

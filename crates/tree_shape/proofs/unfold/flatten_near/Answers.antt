@@ -10,7 +10,7 @@ use Rattle.tree_shape.specs.Sets.{IsFiles}
 use Rattle.tree_shape.proofs.Unfolding.{unfolds, walk-files, met-ascends, met-distinct}
 use Rattle.tree_shape.proofs.WalkLemmas.{no-root, walk-fault, root-fault, whole-walk}
 use Rattle.tree_shape.proofs.Again.{root-again, trees-again}
-use Rattle.tree_shape.proofs.unfold.flatten.Goals as goal
+use Rattle.tree_shape.proofs.unfold.flatten_near.Goals as goal
 
 pub returns-in_default-clause-fault : goal.returns-in_default-clause-fault
 returns-in_default-clause-fault g c = no-root (g.G.Objects.objects c.args.store.now) c.args.root.now (sym c.in_default.ensures.tree)
