@@ -37,7 +37,7 @@ pub fn mark_changeset(alloc: Global, known: &Known, c: &GitDraft) -> Result<HgDr
     let given = user_of_line(alloc, c.commit.author.as_slice())?;
     let extras = marks_of(alloc, known, c, &given)?.to_extras(alloc)?;
     extras.are_extras();
-    let plain = make_changeset(alloc, known, c)?;
+    let plain = make_changeset(alloc, known, c, &[])?;
     let marked = with_extras(alloc, plain, &given, extras)?;
     if !changeset_fits(alloc, known, &marked)? {
         return Err(PairFault::PairLimit);

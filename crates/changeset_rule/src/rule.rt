@@ -3,6 +3,7 @@ ghost use Rattle.text_model.specs.Lists.{Each};
 ghost use Rattle.view_model.specs.View.{CommitView, ChangesetFits};
 ghost use Rattle.pair_model.specs.Block.{Block};
 ghost use Rattle.pair_model.specs.Plain.{changeset_by_rule};
+ghost use Rattle.pair_known.specs.Drafts.{IsRowKnown};
 ghost use Rattle.pair_known.specs.Over.{IsCommitOver};
 ghost use Rattle.pair_known.specs.Ruled.{IsMadeChangeset, IsRuledChangeset, HasFileParents, HasManifestParents};
 ghost use Rattle.pair_known.specs.declared.fault.PairFault.TheVariants.{PairLimit};
@@ -13,20 +14,27 @@ use crate::parents::{parent_nodes, parent_with};
 use bridge_text::NoMemory;
 use file_rule::make_rows;
 use manifest_rule::{files_over, make_manifest};
-use pair_known::{DraftTexts, GitDraft, HgDraft, Known, PairFault};
+use pair_known::{DraftTexts, GitDraft, HgDraft, HgRow, Known, PairFault};
 use std::alloc::Global;
 
 /// The changeset that the rule gives for a commit whose parents have partners, whatever the sizes of its texts. Its parents are the last link
-/// and the last partner where the commit has three parents and more. It brings its text, and that of its manifest where this is new.
-pub fn make_changeset(alloc: Global, known: &Known, c: &GitDraft) -> Result<HgDraft, NoMemory>
+/// and the last partner where the commit has three parents and more. It brings its text, and that of its manifest where this is new. Beside near
+/// rows, which may be any, nothing is looked up for a file of the first parent that stands among them with the file's blob.
+pub fn make_changeset(
+    alloc: Global,
+    known: &Known,
+    c: &GitDraft,
+    near: &[HgRow],
+) -> Result<HgDraft, NoMemory>
     requires over { (blocks : List Block) × (v : CommitView) × IsCommitOver known.now blocks c.now v }
+    requires near { Each (IsRowKnown known.now.hg) near.now }
     ensures { IfOk result (λ d. (blocks : List Block) (v : CommitView) → IsCommitOver known.now blocks c.now v
         → IsMadeChangeset known.now.hg d (changeset_by_rule blocks v)) }
 {
     let nodes = parent_nodes(alloc, known, c)?;
     let first = parent_with(&known.hg, &nodes.p1, &nodes.first);
     let second = parent_with(&known.hg, &nodes.p2, &nodes.second);
-    let made = make_rows(alloc, known, c, &first, &second)?;
+    let made = make_rows(alloc, known, c, &first, &second, near)?;
     let manifest = make_manifest(alloc, &known.hg, &made.rows, &first, &second)?;
     let files = files_over(alloc, &made.rows, &first, &second)?;
     let changeset = fields_of(alloc, &c.commit, manifest.node, files)?;
@@ -59,7 +67,7 @@ pub fn rule_changeset(alloc: Global, known: &Known, c: &GitDraft) -> Result<HgDr
     ensures limit { result ≡ Err PairLimit → (blocks : List Block) (v : CommitView) → IsCommitOver known.now blocks c.now v
         → ChangesetFits (changeset_by_rule blocks v) → ⊥ }
 {
-    let changeset = make_changeset(alloc, known, c)?;
+    let changeset = make_changeset(alloc, known, c, &[])?;
     if !changeset_fits(alloc, known, &changeset)? {
         return Err(PairFault::PairLimit);
     }

@@ -115,6 +115,11 @@ module _ (known : List Revision) (added : AreAdded known) where
         of_row = subst (λ (f : Option FreshFile). Each (λ x. x ≡ file_revision null (row_with file.path flag (ruled_revision r s t))) (fresh_list f)) (sym none) tt;
       }
 
+-- the first is kept
+pub first-kept : (a b : Option FileRevision) (node : Id) → Some node ≡ option_map file_node a → Some node ≡ option_map file_node (option_or a b)
+first-kept (Some x) b node at = at
+first-kept None b node at = absurd (none-some _ (sym at))
+
 -- none of the two is kept
 pub not-kept : (file : FileRow) (r s : Option FileRevision) (t : TreeRow) → t.id ≡ file.id → None ≡ option_map file_node (option_or (with_body file.id r) (with_body file.id s)) → ruled_revision r s t ≡ new_revision r s t.content
 unfolding ruled_revision

@@ -3,6 +3,7 @@
 #![tactic(auto)]
 
 mod back;
+mod near;
 mod parents;
 mod revision;
 mod rows;

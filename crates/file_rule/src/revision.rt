@@ -138,7 +138,7 @@ fn flag_of(mode: Mode) -> Flag
 }
 
 // A file with the node of its revision.
-fn row_of(file: &FileRow, node: Id) -> Result<HgRow, NoMemory>
+pub(crate) fn row_of(file: &FileRow, node: Id) -> Result<HgRow, NoMemory>
     ensures { IfOk result (λ row. row ≡ record { path = file.now.path; flag = rule.flag_of_mode file.now.mode; node = node; blob = file.now.id }) }
 {
     Ok(HgRow {

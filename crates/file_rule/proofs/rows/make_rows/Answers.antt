@@ -7,6 +7,7 @@ use Rattle.git_model.specs.Tree.{Mode, is_blob_mode}
 use Rattle.git_model.specs.Unfold.{FileRow}
 use Rattle.hg_store.specs.Known.{knows_same}
 use Rattle.view_model.specs.Held.{file_row_of}
+use Rattle.pair_known.specs.Drafts.{IsRowKnown}
 use Rattle.file_rule.specs.Rows.{AreMadeRows}
 use Rattle.file_rule.proofs.RowsLoop.{seen, IsAhead, ahead-more, ahead-past, ahead-here, fresh-rises}
 use Rattle.file_rule.proofs.RowsStep.{fresh-path, all-new, content-at, past, row-of, one_more}
@@ -19,11 +20,12 @@ file-at files list i file same below is = ap (λ (l : List FileRow). slice_get l
 blob-file : (m : Mode) (test : Bool) → is_blob_mode m ≡ test → test ≡ true → is_blob_mode m ≡ true
 blob-file m test is t = is ∙ t
 
-pub make_row-requires : goal.make_row-requires
-make_row-requires c =
+pub make_near_row-requires : goal.make_near_row-requires
+make_near_row-requires c =
     let at = file-at c.args.c.now.files c.as_slice-files.result.now c.loop-file.file-index c.file-item.result c.as_slice-files.ensures.rows c.loop-file-test.true c.file-item.is in
     record {
       content = content-at (c.args.c.now.fresh ++ c.args.known.now.git) c.args.c.now.files c.requires.contents.0 c.loop-file.file-index c.file-item.result c.requires.contents.1 at (blob-file c.file-item.result.mode c.is_blob.result (ap is_blob_mode (sym c.mode.ensures) ∙ sym c.is_blob.ensures) (cc c.if-not-is_blob.false)) c.requires.contents.2;
+      near = subst (Each (IsRowKnown c.args.known.now.hg)) (sym c.loop-file.invariant.near_seen) c.requires.near;
     }
 
 pub push-requires : goal.push-requires
@@ -45,6 +47,7 @@ loop-file-preserved c =
     record {
       first_seen = c.get-in_first.ensures.same ∙ c.loop-file.invariant.first_seen;
       second_seen = c.get-in_second.ensures.same ∙ c.loop-file.invariant.second_seen;
+      near_seen = c.in_ok-made.ensures.same ∙ c.loop-file.invariant.near_seen;
       ahead = subst (IsAhead files (i + 1)) (sym c.in_ok-push.ensures.fresh) (ahead-more files up i file at c.loop-file.ruled.fresh made.fresh c.loop-file.invariant.ahead (fresh-path known file.path made.fresh c.in_ok-made.ensures.fresh));
       rises = c.in_ok-push.ensures.rises;
       new = subst (Each (λ r. knows_same known r ≡ false)) (sym c.in_ok-push.ensures.fresh) (all-new known file.path c.loop-file.ruled.fresh made.fresh c.loop-file.invariant.new c.in_ok-made.ensures.fresh);
@@ -67,6 +70,7 @@ loop-file-preserved-then-not-is_blob c =
     record {
       first_seen = c.loop-file.invariant.first_seen;
       second_seen = c.loop-file.invariant.second_seen;
+      near_seen = c.loop-file.invariant.near_seen;
       ahead = ahead-past files c.as_slice-files.ensures.files.in_order i file at c.loop-file.ruled.fresh c.loop-file.invariant.ahead;
       rises = c.loop-file.invariant.rises;
       new = c.loop-file.invariant.new;
