@@ -1,5 +1,6 @@
 ghost use Rattle.std.specs.Prelude.{◌≡◌, ◌≤◌, List, length, IfOk, MatchOption, None, Some};
 ghost use Rattle.text_model.specs.Id as id;
+ghost use Rattle.text_model.specs.Lists.{Each};
 ghost use Rattle.hg_changeset.specs.Values.{date_value};
 ghost use Rattle.view_model.specs.View.{ChangesetView, CommitView};
 ghost use Rattle.pair_model.specs.Block.{Block, Parents};
@@ -8,7 +9,7 @@ ghost use Rattle.partner_model.specs.Partner.{UnmarksChangeset, IsHeldView};
 ghost use Rattle.pair_known.specs.Over.{IsChangesetIn};
 ghost use Rattle.pair_known.specs.Ruled.{IsMadeCommit};
 ghost use Rattle.mark_code.specs.Values.{changeset_marks};
-ghost use Rattle.commit_rule.specs.Parts.{AreShortBodies};
+ghost use Rattle.commit_rule.specs.Parts.{AreShortBodies, HasStoredBlob};
 ghost use Rattle.changeset_unmark.specs.Drafts.{IsBuiltCommit};
 ghost use Rattle.changeset_unmark.specs.Heads.{IsDateOf};
 ghost use Rattle.changeset_unmark.specs.Over.{IsNamedOver, IsOctopusOver, LeadsTo};
@@ -26,16 +27,19 @@ use file_rule::parent_of;
 use hg_changeset::DateLine;
 use link_rule::walk_links;
 use mark_code::ChangesetMarks;
-use pair_known::{GitDraft, HgDraft, Known};
+use pair_known::{GitDraft, HgDraft, HgRow, Known};
 use std::alloc::Global;
 
 /// The unmarking of a changeset: the commit whose marked changeset it is, with the links that it names. `None` exactly where there is none.
+/// Beside near rows, which may be any whose blobs the store holds, no blob is looked up that stands at its place among theirs.
 pub fn unmark_changeset(
     alloc: Global,
     known: &Known,
     h: &HgDraft,
+    near: &[HgRow],
 ) -> Result<Option<GitDraft>, NoMemory>
     requires inside { (blocks : List Block) × (v : ChangesetView) × IsChangesetIn known.now blocks h.now v }
+    requires near { Each (HasStoredBlob known.now.git) near.now }
     ensures { IfOk result (λ found. (blocks : List Block) (v : ChangesetView) → IsChangesetIn known.now blocks h.now v
         → MatchOption found ((c : CommitView) → ¬ (UnmarksChangeset blocks (IsHeldView known.now.hg) v c))
         (λ d. (c : CommitView) × UnmarksChangeset blocks (IsHeldView known.now.hg) v c × IsBuiltCommit known.now.git d c
@@ -45,8 +49,8 @@ pub fn unmark_changeset(
         return Ok(None);
     };
     match marks.parents {
-        Some(count) => unmark_octopus(alloc, known, h, marks, count),
-        None => unmark_two(alloc, known, h, marks),
+        Some(count) => unmark_octopus(alloc, known, h, marks, count, near),
+        None => unmark_two(alloc, known, h, marks, near),
     }
 }
 
@@ -66,10 +70,12 @@ fn unmark_two(
     known: &Known,
     h: &HgDraft,
     marks: ChangesetMarks,
+    near: &[HgRow],
 ) -> Result<Option<GitDraft>, NoMemory>
     requires inside { (blocks : List Block) × (v : ChangesetView) × IsChangesetIn known.now blocks h.now v }
     requires date { IsDateOf (date_value h.now.changeset.date) (changeset_marks marks) }
     requires few { marks.parents ≡ None }
+    requires near { Each (HasStoredBlob known.now.git) near.now }
     ensures { IfOk result (λ found. (blocks : List Block) (v : ChangesetView) → IsChangesetIn known.now blocks h.now v
         → MatchOption found ((c : CommitView) → ¬ (UnmarksChangeset blocks (IsHeldView known.now.hg) v c))
         (λ d. (c : CommitView) × UnmarksChangeset blocks (IsHeldView known.now.hg) v c × IsBuiltCommit known.now.git d c
@@ -81,7 +87,7 @@ fn unmark_two(
     let Some(parents) = partners_of(alloc, &known.partners, &nodes)? else {
         return Ok(None);
     };
-    unmark_over(alloc, known, h, marks, parents, &h.p1)
+    unmark_over(alloc, known, h, marks, parents, &h.p1, near)
 }
 
 // The same where the marks name a number of parents: those of the commit are the partners of what the links lead to.
@@ -91,10 +97,12 @@ fn unmark_octopus(
     h: &HgDraft,
     marks: ChangesetMarks,
     count: u8,
+    near: &[HgRow],
 ) -> Result<Option<GitDraft>, NoMemory>
     requires inside { (blocks : List Block) × (v : ChangesetView) × IsChangesetIn known.now blocks h.now v }
     requires date { IsDateOf (date_value h.now.changeset.date) (changeset_marks marks) }
     requires many { marks.parents ≡ Some count }
+    requires near { Each (HasStoredBlob known.now.git) near.now }
     ensures { IfOk result (λ found. (blocks : List Block) (v : ChangesetView) → IsChangesetIn known.now blocks h.now v
         → MatchOption found ((c : CommitView) → ¬ (UnmarksChangeset blocks (IsHeldView known.now.hg) v c))
         (λ d. (c : CommitView) × UnmarksChangeset blocks (IsHeldView known.now.hg) v c × IsBuiltCommit known.now.git d c
@@ -111,7 +119,7 @@ fn unmark_octopus(
     if !are_distinct(parents.as_slice()) {
         return Ok(None);
     }
-    unmark_through(alloc, known, h, marks, parents, &nodes)
+    unmark_through(alloc, known, h, marks, parents, &nodes, near)
 }
 
 // The partners of the parents of the commit: those to which the links lead, and the changeset's second parent.
@@ -143,10 +151,12 @@ fn unmark_through(
     marks: ChangesetMarks,
     parents: IdList,
     nodes: &IdList,
+    near: &[HgRow],
 ) -> Result<Option<GitDraft>, NoMemory>
     requires over { (blocks : List Block) × (v : ChangesetView) × IsOctopusOver known.now blocks h.now v parents nodes.now }
     requires date { IsDateOf (date_value h.now.changeset.date) (changeset_marks marks) }
     requires many { marks.parents ≡ Some (length parents) }
+    requires near { Each (HasStoredBlob known.now.git) near.now }
     ensures { IfOk result (λ found. (blocks : List Block) (v : ChangesetView) → IsOctopusOver known.now blocks h.now v parents nodes.now
         → MatchOption found ((c : CommitView) → (c.value).parents ≡ parents → ¬ (UnmarksChangeset blocks (IsHeldView known.now.hg) v c))
         (λ d. (c : CommitView) × UnmarksChangeset blocks (IsHeldView known.now.hg) v c × IsBuiltCommit known.now.git d c
@@ -155,7 +165,7 @@ fn unmark_through(
     known.hg.check();
     known.git.check();
     let first = nodes.at(0);
-    let Some(made) = unmark_over(alloc, known, h, marks, parents, first)? else {
+    let Some(made) = unmark_over(alloc, known, h, marks, parents, first, near)? else {
         return Ok(None);
     };
     let manifest = parent_of(&known.hg, first).manifest_node;
@@ -180,9 +190,11 @@ fn unmark_over(
     marks: ChangesetMarks,
     parents: IdList,
     node: &Id,
+    near: &[HgRow],
 ) -> Result<Option<GitDraft>, NoMemory>
     requires over { (blocks : List Block) × (v : ChangesetView) × (ps : Parents) × IsNamedOver known.now blocks h.now v parents node.now ps }
     requires date { IsDateOf (date_value h.now.changeset.date) (changeset_marks marks) }
+    requires near { Each (HasStoredBlob known.now.git) near.now }
     ensures { IfOk result (λ found. (blocks : List Block) (v : ChangesetView) (ps : Parents) → IsNamedOver known.now blocks h.now v parents node.now ps
         → MatchOption found (¬ (IsNamed blocks parents ps v (changeset_marks marks)))
         (λ d. IsNamed blocks parents ps v (changeset_marks marks)
@@ -203,6 +215,6 @@ fn unmark_over(
     let Some(head) = head_named(alloc, &h.changeset, marks, parents)? else {
         return Ok(None);
     };
-    let made = made_of(alloc, known, h, old, head, files)?;
+    let made = made_of(alloc, known, h, old, head, files, near)?;
     Ok(Some(made))
 }

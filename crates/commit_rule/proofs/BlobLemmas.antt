@@ -1,12 +1,12 @@
 -- The text of a row's revision, and the blobs that are brought.
-use Rattle.std.proofs.Common.{◌≡◌, ◌≤◌, ℕ, true, false, true≢false, List, [], ◌∷◌, ◌++◌, length, Option, Some, None, refl, sym, ap, subst, ◌∙◌, arith}
+use Rattle.std.proofs.Common.{◌≡◌, ◌≤◌, ◌<◌, ℕ, zero, suc, inl, inr, get_or, true, false, true≢false, List, [], ◌∷◌, ◌++◌, length, Option, Some, None, refl, sym, ap, subst, ◌∙◌, arith}
 use Rattle.std.specs.Prelude.{IsTrue, is_some, option_map, slice_get}
 use Rattle.view_model.specs.Held.{IsFileHeld}
 use Rattle.std.specs.Option.{option_or}
 use Rattle.std.proofs.lemmas.List.{length-append}
 use Rattle.std.proofs.lemmas.List.Folds.{find-append}
 use Rattle.std.proofs.lemmas.Slice.Eq.{bytes_eq-Decides}
-use Rattle.text_model.specs.Lists.{SomeOf}
+use Rattle.text_model.specs.Lists.{Each, SomeOf}
 use Rattle.text_model.specs.Text.{Bytes}
 use Rattle.text_model.specs.Id.{Id}
 use Rattle.text_model.proofs.EachLemmas.{Each-append, Each-weaker}
@@ -20,7 +20,7 @@ use Rattle.view_model.specs.View.{Row, TreeRow, text_limit}
 use Rattle.pair_known.specs.Rows.{RowValue, row_value}
 use Rattle.pair_known.specs.Ruled.{blob_of_row}
 use Rattle.pair_known.proofs.HeldViews.{held-as}
-use Rattle.commit_rule.specs.Parts.{IsRowOf, AreRowsOf, AreBrought}
+use Rattle.commit_rule.specs.Parts.{IsRowOf, AreRowsOf, AreBrought, HasStoredBlob}
 use Rattle.commit_rule.proofs.ListLemmas.{some-left, some-last}
 
 -- ---- the text
@@ -133,3 +133,15 @@ pub row-there : (known : List Revision) (values : List RowValue) (rows : List Ro
 row-there known values rows i value are at =
     let r = get_unmap row_value rows i value (ap (λ (l : List RowValue). slice_get l i) (sym are.0) ∙ at) in
     (r.0, r.1, (r.2, each_at (IsFileHeld known) rows i r.0 r.1 are.1))
+
+-- ---- a blob that stands among near rows
+
+pub some-blob : (rows : List RowValue) (i : ℕ) (row : RowValue) (id : Id) → i < length rows → row ≡ get_or rows i row → row.blob ≡ id → SomeOf rows (λ near. near.blob ≡ id)
+some-blob [] i row id below is same = absurd (omega (arith, below))
+some-blob (near ∷ rows) zero row id below is same = inl (ap (λ (v : RowValue). v.blob) (sym is) ∙ same)
+some-blob (near ∷ rows) (suc i) row id below is same = inr (some-blob rows i row id (omega (arith, below)) is same)
+
+pub stored-blob : (known : List Object) (rows : List RowValue) (id : Id) → Each (HasStoredBlob known) rows → SomeOf rows (λ near. near.blob ≡ id) → IsTrue (knows_object known id)
+stored-blob known [] id each some = absurd some
+stored-blob known (near ∷ rows) id each (inl same) = ap (knows_object known) (sym same) ∙ each.0
+stored-blob known (near ∷ rows) id each (inr some) = stored-blob known rows id each.1 some

@@ -49,6 +49,10 @@ pub record AreBrought (known fresh : List Object) (rows : List TreeRow) : Type 0
   pub are_new : Each (λ o. knows_object known o.id ≡ false) fresh
   pub all : Each (λ row. IsTrue (knows_object (fresh ++ known) row.id)) rows
 
+-- the store has the blob of a row
+abbrev pub HasStoredBlob : List Object → RowValue → Type 0
+HasStoredBlob known row = IsTrue (knows_object known row.blob)
+
 -- the row has this node and this blob id, and its revision is held
 abbrev pub IsRowOf : List Revision → RowValue → Row → Type 0
 IsRowOf known value row = (row_value row ≡ value) × IsFileHeld known row

@@ -1,11 +1,13 @@
 ghost use Rattle.std.specs.Prelude.{◌≡◌, ◌++◌, ◌∷◌, [], ◌≤◌, List, ℕ, Option, map, length, IfOk, IsTrue, OnOk};
+ghost use Rattle.text_model.specs.Lists.{Each};
 ghost use Rattle.hg_model.specs.FileText.{IsFileText};
 ghost use Rattle.hg_model.specs.Revision.{Revision};
 ghost use Rattle.hg_store.specs.Known.{AreAdded};
 ghost use Rattle.view_model.specs.View.{Row, text_limit};
 ghost use Rattle.pair_model.specs.Rule.{tree_row_of};
-ghost use Rattle.commit_rule.specs.Parts.{IsRowOf, AreRowsOf, AreBrought};
+ghost use Rattle.commit_rule.specs.Parts.{IsRowOf, AreRowsOf, AreBrought, HasStoredBlob};
 
+use crate::near_blobs::NearBlobs;
 use bridge_text::NoMemory;
 use git_object::Objects;
 use hg_filelog::split;
@@ -87,14 +89,25 @@ fn add_blob(known: &Known, h: &HgDraft, row: &HgRow, fresh: &mut FreshBlobs) -> 
     Ok(())
 }
 
-/// The blobs of a changeset's files that the store doesn't hold.
-pub fn fresh_blobs(alloc: Global, known: &Known, h: &HgDraft) -> Result<FreshBlobs, NoMemory>
+/// The blobs of a changeset's files that the store doesn't hold. Nothing is looked up for a file whose blob stands at its place among the near rows,
+/// whose blobs the store holds, as most of a changeset's files do among those of a parent.
+pub fn fresh_blobs(
+    alloc: Global,
+    known: &Known,
+    h: &HgDraft,
+    near: &[HgRow],
+) -> Result<FreshBlobs, NoMemory>
     requires held { (rows : List Row) × AreRowsOf (h.now.fresh ++ known.now.hg) h.now.rows rows }
+    requires near { Each (HasStoredBlob known.now.git) near.now }
     ensures { IfOk result (λ fresh. (rows : List Row) → AreRowsOf (h.now.fresh ++ known.now.hg) h.now.rows rows → AreBrought known.now.git fresh (map tree_row_of rows)) }
 {
     let mut fresh = FreshBlobs::new(alloc);
+    let mut walk = NearBlobs::new(near);
     let rows = h.rows.as_slice();
     for row in rows {
+        if walk.has(row) {
+            continue;
+        }
         add_blob(known, h, row, &mut fresh)?;
     }
     Ok(fresh)

@@ -4,6 +4,7 @@
 mod fields;
 mod fits;
 mod fresh;
+mod near_blobs;
 mod rows;
 mod rule;
 mod trees;

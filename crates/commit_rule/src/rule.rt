@@ -35,7 +35,7 @@ pub fn make_commit(alloc: Global, known: &Known, h: &HgDraft) -> Result<GitDraft
         &h.changeset,
         trees.root,
     )?;
-    let fresh = fresh_blobs(alloc, known, h)?;
+    let fresh = fresh_blobs(alloc, known, h, &[])?;
     Ok(GitDraft {
         commit,
         files,

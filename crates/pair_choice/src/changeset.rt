@@ -1,9 +1,11 @@
 ghost use Rattle.std.specs.Prelude.{◌≡◌, ◌≤◌, ◌<◌, ◌+◌, false, List, IfOk, IfErr, OnOk};
+ghost use Rattle.text_model.specs.Lists.{Each};
 ghost use Rattle.view_model.specs.View.{ChangesetView, CommitView, paths_of, has_clash};
 ghost use Rattle.pair_model.specs.Block.{Block};
 ghost use Rattle.pair_model.specs.Octopus.{is_link_view};
 ghost use Rattle.pair_known.specs.Over.{IsChangesetIn};
 ghost use Rattle.hg_changeset.specs.Values.{date_value};
+ghost use Rattle.commit_rule.specs.Parts.{HasStoredBlob};
 ghost use Rattle.pair_choice.specs.Chosen.{IsChosenCommit, ChangesetRefuses};
 ghost use Rattle.pair_choice.specs.Parts.{IsUnmarkedCommit, IsAlone, is_bare_date};
 
@@ -16,20 +18,23 @@ use bridge_io::Steps;
 use changeset_unmark::unmark_changeset;
 use commit_mark::mark_commit;
 use hg_changeset::{Changeset, DateLine};
-use pair_known::{ChoiceFault, GitDraft, HgDraft, Known};
+use pair_known::{ChoiceFault, GitDraft, HgDraft, HgRow, Known};
 use std::alloc::Global;
 use std::sync::ledger::Ledger;
 
 /// The partner of a changeset that is no link: the marked commit where its depth is even, else its unmarking. PathClash, ParentIsLink, Collision,
 /// NestLimit and PairLimit come in this order, each exactly there. Collision comes where a changeset that isn't plain is to be unmarked on the way to
 /// the depth, and two of its bodies have one blob id or one of them has that of another object: no draft of a commit has both bodies.
+/// Beside near rows, which may be any whose blobs the store holds, no blob is looked up that stands at its place among theirs.
 pub fn pair_of_changeset<L: Ledger>(
     alloc: Global,
     known: &Known,
     h: &HgDraft,
     steps: &mut Steps<L>,
+    near: &[HgRow],
 ) -> Result<GitDraft, ChoiceFault>
     requires asked { (blocks : List Block) × (v : ChangesetView) × IsChangesetIn known.now blocks h.now v × (is_link_view v ≡ false) }
+    requires near { Each (HasStoredBlob known.now.git) near.now }
     ensures ok { IfOk result (λ d. (blocks : List Block) (v : ChangesetView) → IsChangesetIn known.now blocks h.now v → (c : CommitView) × IsChosenCommit known.now blocks v d c) }
     ensures refused { IfErr result (λ fault. (blocks : List Block) (v : ChangesetView) → IsChangesetIn known.now blocks h.now v → ChangesetRefuses known.now blocks v fault) }
     ensures steps { (steps.old ≤ steps.new) × (steps.new ≤ steps.old + 18) }
@@ -39,7 +44,7 @@ pub fn pair_of_changeset<L: Ledger>(
         return Err(ChoiceFault::PathClash);
     }
     steps.tick();
-    match unmark_changeset(alloc, known, h)? {
+    match unmark_changeset(alloc, known, h, near)? {
         Some(first) => commit_with(alloc, known, h, first, steps),
         None => commit_without(alloc, known, h),
     }

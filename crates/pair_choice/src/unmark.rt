@@ -56,7 +56,7 @@ pub fn commit_below<L: Ledger>(
     ensures step { steps.new ≡ steps.old + 1 }
 {
     steps.tick();
-    let Some(commit) = unmark_changeset(alloc, known, h)? else {
+    let Some(commit) = unmark_changeset(alloc, known, h, &[])? else {
         return Ok(Unmarking::Nothing);
     };
     if !has_bodies(known, h, &commit) {
@@ -77,7 +77,7 @@ pub fn changeset_below<L: Ledger>(
     ensures step { steps.new ≡ steps.old + 1 }
 {
     steps.tick();
-    match unmark_commit(alloc, known, c)? {
+    match unmark_commit(alloc, known, c, &[])? {
         Some(h) => Ok(Unmarking::Found(Draft::Changeset(h))),
         None => Ok(Unmarking::Nothing),
     }

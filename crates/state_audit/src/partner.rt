@@ -28,7 +28,7 @@ pub fn partner_of<L: Ledger>(
         → MatchOption found (HasNone known.now front v) (λ d. (c : CommitView) × IsPartnerHere known.now blocks front v d c)) }
     ensures steps { (steps.old ≤ steps.new) × (steps.new ≤ steps.old + 18) }
 {
-    let partner = match pair_of_changeset(alloc, known, h, steps) {
+    let partner = match pair_of_changeset(alloc, known, h, steps, &[]) {
         Ok(partner) => partner,
         Err(fault) => {
             check_memory(fault)?;

@@ -38,7 +38,7 @@ pub fields_of-requires-clause-second : goal.fields_of-requires-clause-second
 fields_of-requires-clause-second c = second-partner c.args.known.now c.requires.over.0 c.args.h.now c.requires.over.1 c.requires.over.2
 
 pub fresh_blobs-requires : goal.fresh_blobs-requires
-fresh_blobs-requires c = record { held = (c.requires.over.1.rows, rows-of c.args.known.now c.requires.over.0 c.args.h.now c.requires.over.1 c.requires.over.2) }
+fresh_blobs-requires c = record { held = (c.requires.over.1.rows, rows-of c.args.known.now c.requires.over.0 c.args.h.now c.requires.over.1 c.requires.over.2); near = tt }
 
 pub returns : goal.returns
 returns c = λ blocks v over short.

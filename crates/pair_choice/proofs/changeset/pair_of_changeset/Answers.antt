@@ -36,7 +36,7 @@ returns-then-has_clash-clause-refused g c = λ blocks v asked.
     ap has_clash (sym (paths-of c.args.known.now blocks c.args.h.now v asked c.as_slice.result.now c.as_slice.ensures)) ∙ sym c.has_clash.ensures ∙ c.if-has_clash.true
 
 pub unmark_changeset-requires : goal.unmark_changeset-requires
-unmark_changeset-requires g c = record { inside = (c.requires.asked.0, c.requires.asked.1, c.requires.asked.2) }
+unmark_changeset-requires g c = record { inside = (c.requires.asked.0, c.requires.asked.1, c.requires.asked.2); near = c.requires.near }
 
 pub commit_with-requires : goal.commit_with-requires
 commit_with-requires g c =
