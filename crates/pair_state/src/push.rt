@@ -27,7 +27,7 @@ use git_object::{Commit, Objects};
 use git_store::GitStore;
 use git_view::commits_are_held;
 use hg_view::views_are_held;
-use pair_known::{DraftTexts, GitDraft, HgBlock, HgDraft};
+use pair_known::{DraftTexts, GitDraft, HgBlock, HgDraft, HgRows};
 use shared_text::{Text, keep};
 use std::alloc::Global;
 
@@ -72,16 +72,18 @@ impl StateParts {
 
     /// Adds the block of a commit that is stored and stands in none, with its links and its changeset. Collision comes exactly
     /// where a revision of these is null or known with another text or other parents, or is another part of the block, or where
-    /// one of the changesets stands in a block. After a fault the state is given up.
-    pub fn push_changeset(self, id: Id, block: HgBlock) -> Result<StateParts, PushFault>
+    /// one of the changesets stands in a block. After a fault the state is given up. The files of the changeset, which aren't needed
+    /// any more, come back.
+    pub fn push_changeset(self, id: Id, block: HgBlock) -> Result<(StateParts, HgRows), PushFault>
         requires block { (blocks : List model.Block) × (b : model.Block) × PushesChangeset self block id blocks b }
-        ensures ok { IfOk result (λ next. (blocks : List model.Block) (b : model.Block) → PushesChangeset self block id blocks b → ChangesetPushed self next blocks b) }
+        ensures ok { IfOk result (λ next. (blocks : List model.Block) (b : model.Block) → PushesChangeset self block id blocks b → ChangesetPushed self next.0 blocks b) }
+        ensures rows { IfOk result (λ next. next.1 ≡ (block.last).rows) }
         ensures collision { result ≡ Err Collision → (blocks : List model.Block) (b : model.Block) → PushesChangeset self block id blocks b
             → IsTrue (changeset_side_collides self.known.hg blocks b) }
     {
         let mut state = self;
-        state.put_changeset(id, block)?;
-        Ok(state)
+        let rows = state.put_changeset(id, block)?;
+        Ok((state, rows))
     }
 
     // Adds a block to a state that is kept.
@@ -145,9 +147,10 @@ impl StateParts {
     }
 
     // The same on a state that is kept.
-    fn put_changeset(&mut self, id: Id, block: HgBlock) -> Result<(), PushFault>
+    fn put_changeset(&mut self, id: Id, block: HgBlock) -> Result<HgRows, PushFault>
         requires block { (blocks : List model.Block) × (b : model.Block) × PushesChangeset self.old block id blocks b }
         ensures ok { OnOk result ((blocks : List model.Block) (b : model.Block) → PushesChangeset self.old block id blocks b → ChangesetPushed self.old self.new blocks b) }
+        ensures rows { IfOk result (λ rows. rows ≡ (block.last).rows) }
         ensures collision { result ≡ Err Collision → (blocks : List model.Block) (b : model.Block) → PushesChangeset self.old block id blocks b
             → IsTrue (changeset_side_collides self.old.known.hg blocks b) }
     {
@@ -162,7 +165,7 @@ impl StateParts {
             texts,
         )?;
         self.insert(nodes.links.as_slice(), nodes.last, id)?;
-        Ok(())
+        Ok(block.into_last().into_rows())
     }
 
     // Makes a changeset and a commit partners, of which none has one, and puts them behind the others.

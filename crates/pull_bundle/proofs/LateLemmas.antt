@@ -1,33 +1,34 @@
 -- File revisions whose parents stand in changesets of the blocks.
-use Rattle.std.proofs.Common.{◌≡◌, ◌<◌, ◌≤◌, ◌+◌, ◌||◌, ℕ, zero, suc, Bool, true, false, List, [], ◌∷◌, length, map, get_or, take, arith, Some, refl, sym, ap, subst, ◌∙◌, inl, inr}
-use Rattle.std.specs.Prelude.{is_some, slice_get}
-use Rattle.std.specs.List.{list_any}
-use Rattle.std.proofs.lemmas.List.{length-map}
+use Rattle.std.proofs.Common.{◌≡◌, ◌||◌, Bool, true, false, List, [], ◌∷◌, ◌++◌, map, refl, sym, ap, subst, ◌∙◌, append_assoc, inl, inr}
+use Rattle.std.specs.Prelude.{is_some}
 use Rattle.std.proofs.lemmas.List.Folds.{list_any-append}
-use Rattle.std.proofs.lemmas.Option.{slice_get-get_or}
 use Rattle.text_model.specs.Lists.{Each, In}
 use Rattle.text_model.specs.Text.{Bytes}
 use Rattle.text_model.specs.Id.{Id}
-use Rattle.text_model.proofs.Elements.{each_in, each_at, get_unmap, take_push, take_whole}
-use Rattle.text_model.proofs.Options.{none_some, some_is, or_parts, or_neither}
+use Rattle.text_model.proofs.EachLemmas.{Each-front, Each-rest}
+use Rattle.text_model.proofs.Elements.{each_in}
+use Rattle.text_model.proofs.Options.{some_is, or_parts, or_neither}
 use Rattle.text_model.proofs.TestLemmas.{or_true}
 use Rattle.hg_model.specs.FileText.{file_text, file_order}
 use Rattle.hg_model.specs.Manifest.{ManifestEntry}
 use Rattle.hg_model.specs.Revision.{Revision}
 use Rattle.hg_filelog.proofs.MarkLemmas.{one_pair}
 use Rattle.hg_manifest.specs.Lines.{HasLine}
+use Rattle.hg_manifest.specs.Beside.{IsLineOf, IsPassed}
+use Rattle.hg_manifest.specs.Near.{IsLater}
+use Rattle.hg_manifest.specs.declared.beside.Beside.{Beside}
+use Rattle.hg_manifest.proofs.BesideLemmas.{lines-later, passed-parts, all-parts}
 use Rattle.hg_store.specs.Known.{AreFileParents}
 use Rattle.view_model.specs.View.{ChangesetView, Row, entry_of_row, file_node, changeset_node}
 use Rattle.view_model.specs.Held.{IsFileHeld, IsChangesetHeld, AreChangesetsHeld}
 use Rattle.pair_model.specs.Block.{Block, changesets_in}
 use Rattle.partner_model.specs.Given.{has_late_file}
 use Rattle.pair_known.specs.Partners.{git_at}
-use Rattle.pair_known.specs.Rows.{RowValue, row_value}
 use Rattle.pair_known.proofs.PartnerLemmas.{block-there}
 use Rattle.link_rule.proofs.PartnerViews.{changeset-in}
 use Rattle.pair_state.proofs.BlockLemmas.{git-some}
 use Rattle.pull_bundle.specs.declared.taking.Taking.{Taking}
-use Rattle.pull_bundle.specs.Late.{are_late, is_late_row, IsLineInTime}
+use Rattle.pull_bundle.specs.Late.{RefersIn, are_late, is_late_row, IsLineInTime}
 use Rattle.pull_bundle.specs.Takes.{IsTaking}
 
 -- ---- the parents of a file revision that is held
@@ -44,12 +45,12 @@ module _ (known : List Revision) where
       h.in_order ∙ (λ i. file_order (parts.0 i) (same i).p (same i).q) ∙ sym k.in_order
 
   -- the parents that are found are those of the row
-  pub found-late : (blocks : List Block) (row : Row) → IsFileHeld known row → (v : RowValue) → v ≡ row_value row → (parents : Id × Id) → AreFileParents known v.path v.node parents
-      → are_late blocks v.path parents.0 parents.1 ≡ is_late_row blocks row
-  found-late blocks row held v is parents are =
-      let here : AreFileParents known row.path (file_node row.revision) parents = subst (λ (x : RowValue). AreFileParents known x.path x.node parents) is are in
+  pub found-late : (blocks : List Block) (row : Row) → IsFileHeld known row → (e : ManifestEntry) → entry_of_row row ≡ e → (parents : Id × Id) → AreFileParents known e.path e.node parents
+      → are_late blocks e.path parents.0 parents.1 ≡ is_late_row blocks row
+  found-late blocks row held e is parents are =
+      let here : AreFileParents known row.path (file_node row.revision) parents = subst (λ (x : ManifestEntry). AreFileParents known x.path x.node parents) (sym is) are in
       let same = one-parents row.path (file_node row.revision) parents ((row.revision).p, (row.revision).q) here (own-parents row held) in
-      λ i. are_late blocks (is i).path (same i).0 (same i).1
+      λ i. are_late blocks (sym is i).path (same i).0 (same i).1
 
   -- ---- lines in time
 
@@ -61,10 +62,9 @@ module _ (known : List Revision) where
       (all.0 parents (subst (λ (n : Id). AreFileParents known e.path n parents) (sym h.1) (subst (λ (x : Bytes). AreFileParents known x node parents) (sym h.0) are)))
   line-in_time blocks (e ∷ lines) path node (inr h) all parents are = line-in_time blocks lines path node h all.1 parents are
 
-  pub row-in_time : (blocks : List Block) (row : Row) → IsFileHeld known row → (v : RowValue) → v ≡ row_value row → (lines : List ManifestEntry) → HasLine v.path v.node lines → Each (IsLineInTime known blocks) lines
-      → is_late_row blocks row ≡ false
-  row-in_time blocks row held v is lines has all =
-      line-in_time blocks lines row.path (file_node row.revision) (subst (λ (x : RowValue). HasLine x.path x.node lines) is has) all ((row.revision).p, (row.revision).q) (own-parents row held)
+  pub row-in_time : (blocks : List Block) (row : Row) → IsFileHeld known row → (lines : List ManifestEntry) → IsLineOf lines (entry_of_row row) → Each (IsLineInTime known blocks) lines → is_late_row blocks row ≡ false
+  row-in_time blocks row held lines has all =
+      line-in_time blocks lines row.path (file_node row.revision) has all ((row.revision).p, (row.revision).q) (own-parents row held)
 
   -- the lines of a changeset whose files are in time
   pub lines-in_time : (blocks : List Block) (rows : List Row) → Each (IsFileHeld known) rows → has_late_file blocks rows ≡ false → Each (IsLineInTime known blocks) (map entry_of_row rows)
@@ -77,39 +77,87 @@ module _ (known : List Revision) where
         lines-in_time blocks rows held.1 parts.1,
       )
 
--- ---- the rows, one by one
+-- what is remembered is of the blocks
+pub refers-in : (t : Taking) (blocks : List Block) → IsTaking t blocks → RefersIn (t.state).known.hg t.referred blocks
+refers-in t blocks taking = record { held = (((taking.state).held).held).changesets; refers = taking.referred }
 
-module _ (known : List Revision) (blocks : List Block) (files : List Row) (rows : List RowValue) (are : rows ≡ map row_value files) (held : Each (IsFileHeld known) files) where
-  -- the row at a place, and its file
-  pub record Turn (i : ℕ) (v : RowValue) : Type 0 where
+-- ---- the files, line by line
+
+-- those of the lines so far are in time, and these lines are ahead
+pub record AreInTimeTo (blocks : List Block) (files : List Row) (ahead : List ManifestEntry) : Type 0 where
+  pub front : List Row
+  pub rest : List Row
+  pub whole : files ≡ front ++ rest
+  pub are : map entry_of_row rest ≡ ahead
+  pub none : has_late_file blocks front ≡ false
+
+pub none-late : (blocks : List Block) (files : List Row) (lines : List ManifestEntry) → map entry_of_row files ≡ lines → AreInTimeTo blocks files lines
+none-late blocks files lines are = record {
+  front = [];
+  rest = files;
+  whole = refl;
+  are = are;
+  none = refl;
+}
+
+late-append : (blocks : List Block) (xs ys : List Row) → has_late_file blocks (xs ++ ys) ≡ (has_late_file blocks xs || has_late_file blocks ys)
+late-append blocks xs ys = list_any-append (is_late_row blocks) xs ys
+
+module _ (known : List Revision) (blocks : List Block) where
+  -- files whose lines are near
+  near-files : (xs : List Row) (near other : List ManifestEntry) → Each (IsFileHeld known) xs → Each (IsLineInTime known blocks) near → IsLater near other → Each (λ x. IsLineOf other (entry_of_row x)) xs → has_late_file blocks xs ≡ false
+  near-files [] near other held all later each = refl
+  near-files (x ∷ xs) near other held all later each =
+      or_neither (is_late_row blocks x) (has_late_file blocks xs) (row-in_time known blocks x held.0 near (lines-later near other (entry_of_row x ∷ []) later (each.0, tt)).0 all) (near-files xs near other held.1 all later each.1)
+
+  -- the file of the line that is told, behind those of the lines that are near
+  pub record NextFile (files : List Row) (e : ManifestEntry) (ahead : List ManifestEntry) : Type 0 where
+    pub front : List Row
     pub file : Row
-    pub at_place : slice_get files i ≡ Some file
-    pub is : v ≡ row_value file
+    pub rest : List Row
+    pub whole : files ≡ front ++ (file ∷ rest)
+    pub none : has_late_file blocks front ≡ false
+    pub told : entry_of_row file ≡ e
     pub is_held : IsFileHeld known file
+    pub are : map entry_of_row rest ≡ ahead
 
-  pub turn : (i : ℕ) (v : RowValue) → i < length rows → v ≡ get_or rows i v → Turn i v
-  turn i v below is =
-      let at : slice_get (map row_value files) i ≡ Some v = ap (λ (l : List RowValue). slice_get l i) (sym are) ∙ slice_get-get_or rows i v below ∙ ap Some (sym is) in
-      let f = get_unmap row_value files i v at in
-      record { file = f.0; at_place = f.1; is = sym f.2; is_held = each_at (IsFileHeld known) files i f.0 f.1 held }
+  pub next-file : (files : List Row) (walk next : Beside) (e : ManifestEntry) (near : List ManifestEntry) → Each (IsFileHeld known) files → Each (IsLineInTime known blocks) near → IsLater near walk.other
+      → AreInTimeTo blocks files walk.lines → IsPassed walk next (e ∷ []) → NextFile files e next.lines
+  next-file files walk next e near held all later t passed =
+      let p = passed-parts entry_of_row t.rest walk next e t.are passed in
+      let rest-held = Each-rest (IsFileHeld known) t.front t.rest (subst (Each (IsFileHeld known)) t.whole held) in
+      let parts-held = subst (Each (IsFileHeld known)) p.whole rest-held in
+      let same-held = Each-front (IsFileHeld known) p.same (p.one ∷ p.rest) parts-held in
+      record {
+        front = t.front ++ p.same;
+        file = p.one;
+        rest = p.rest;
+        whole = t.whole ∙ ap (λ (xs : List Row). t.front ++ xs) p.whole ∙ sym (append_assoc t.front p.same (p.one ∷ p.rest));
+        none = late-append blocks t.front p.same ∙ or_neither (has_late_file blocks t.front) (has_late_file blocks p.same) t.none (near-files p.same near walk.other same-held all later p.both);
+        told = p.told;
+        is_held = (Each-rest (IsFileHeld known) p.same (p.one ∷ p.rest) parts-held).0;
+        are = p.ahead;
+      }
 
-  pub late-here : (i : ℕ) (v : RowValue) (t : Turn i v) → is_late_row blocks t.file ≡ true → has_late_file blocks files ≡ true
-  late-here i v t late = at-any files i t.at_place
-    where
-      at-any : (xs : List Row) (i : ℕ) → slice_get xs i ≡ Some t.file → has_late_file blocks xs ≡ true
-      at-any [] i at = absurd (none_some at)
-      at-any (x ∷ xs) zero at = ap (λ (row : Row). is_late_row blocks row || has_late_file blocks xs) (some_is at) ∙ ap (λ (b : Bool). b || has_late_file blocks xs) late
-      at-any (x ∷ xs) (suc i) at = ap (λ (b : Bool). is_late_row blocks x || b) (at-any xs i at) ∙ or_true (is_late_row blocks x)
+  pub late-here : (files : List Row) (e : ManifestEntry) (ahead : List ManifestEntry) (n : NextFile files e ahead) → is_late_row blocks n.file ≡ true → has_late_file blocks files ≡ true
+  late-here files e ahead n late =
+      ap (has_late_file blocks) n.whole ∙ late-append blocks n.front (n.file ∷ n.rest) ∙ ap (λ (b : Bool). has_late_file blocks n.front || (b || has_late_file blocks n.rest)) late ∙ or_true (has_late_file blocks n.front)
 
-  pub late-more : (i : ℕ) (v : RowValue) (t : Turn i v) → is_late_row blocks t.file ≡ false → list_any (is_late_row blocks) (take i files) ≡ false → list_any (is_late_row blocks) (take (i + 1) files) ≡ false
-  late-more i v t none before =
-      ap (list_any (is_late_row blocks)) (take_push files i t.file t.at_place) ∙ list_any-append (is_late_row blocks) (take i files) (t.file ∷ [])
-      ∙ or_neither (list_any (is_late_row blocks) (take i files)) (is_late_row blocks t.file || false) before (or_neither (is_late_row blocks t.file) false none refl)
+  pub late-more : (files : List Row) (e : ManifestEntry) (ahead : List ManifestEntry) (n : NextFile files e ahead) → is_late_row blocks n.file ≡ false → AreInTimeTo blocks files ahead
+  late-more files e ahead n none = record {
+    front = n.front ++ n.file ∷ [];
+    rest = n.rest;
+    whole = n.whole ∙ sym (append_assoc n.front (n.file ∷ []) n.rest);
+    are = n.are;
+    none = late-append blocks n.front (n.file ∷ []) ∙ or_neither (has_late_file blocks n.front) (is_late_row blocks n.file || false) n.none (or_neither (is_late_row blocks n.file) false none refl);
+  }
 
-  pub none-late : (i : ℕ) → length rows ≤ i → list_any (is_late_row blocks) (take i files) ≡ false → has_late_file blocks files ≡ false
-  none-late i end none =
-      let n : length files ≤ i = omega (arith, end, ap length are, length-map files row_value) in
-      ap (list_any (is_late_row blocks)) (sym (take_whole files i n)) ∙ none
+  pub all-in_time : (files : List Row) (walk : Beside) (near : List ManifestEntry) → Each (IsFileHeld known) files → Each (IsLineInTime known blocks) near → IsLater near walk.other → AreInTimeTo blocks files walk.lines
+      → Each (IsLineOf walk.other) walk.lines → has_late_file blocks files ≡ false
+  all-in_time files walk near held all later t both =
+      let rest-held = Each-rest (IsFileHeld known) t.front t.rest (subst (Each (IsFileHeld known)) t.whole held) in
+      let each = all-parts entry_of_row t.rest walk.other (subst (Each (IsLineOf walk.other)) (sym t.are) both) in
+      ap (has_late_file blocks) t.whole ∙ late-append blocks t.front t.rest ∙ or_neither (has_late_file blocks t.front) (has_late_file blocks t.rest) t.none (near-files t.rest near walk.other rest-held all later each)
 
 -- ---- the changeset of a block
 

@@ -14,7 +14,6 @@ use Rattle.hg_model.specs.Reading.{Arrival, bundle_reading}
 use Rattle.git_model.specs.Object.{Object}
 use Rattle.git_model.specs.Unfold.{walk_fault}
 use Rattle.hg_bundle.specs.declared.arrival.Arrival as listed
-use Rattle.hg_dump.specs.declared.refers.Refers.{Refers}
 use Rattle.hg_dump.specs.Refers.{RefersTo}
 use Rattle.git_dump.specs.Commits.{HasWalk, AreWalkableCommits}
 use Rattle.view_model.specs.View.{ChangesetView, CommitView, commit_id}
@@ -24,6 +23,7 @@ use Rattle.pair_model.specs.Block.{Block, id_of, changesets_in, commits_in}
 use Rattle.history_model.specs.Pull.{BringBlocks, ChangesetRefused, IsChangesetRefusal, IsKnownLink, LeftOver, known_with, changesets_among, revisions_among}
 use Rattle.pair_state.specs.declared.state_parts.StateParts.{StateParts}
 use Rattle.pair_state.specs.Blocks.{IsStateOf}
+use Rattle.commit_rule.specs.Parts.{HasStoredBlob}
 use Rattle.pair_known.specs.Drafts.{IsRowKnown}
 use Rattle.pair_state.specs.AllBlocks.{HasAllBlocks, is_referred, stands_in, state_value}
 use Rattle.pair_state.proofs.AllBlocks.{stands-more}
@@ -73,11 +73,13 @@ Told o s read list = IfSome o (λ bytes. (came : List Arrival) × (bundle_readin
 pub record Begins (t : Taking) : Type 0 where
   pub referred : (blocks : List Block) → IsStateOf t.state blocks → RefersTo t.referred (revisions_in (changesets_in blocks))
   pub near : Each (IsRowKnown (t.state).known.hg) t.near
+  pub stored : Each (HasStoredBlob (t.state).known.git) t.near
 
 pub begun : (read : StateParts) (t : Taking) → t.state ≡ read → ((blocks : List Block) → IsStateOf read blocks → RefersTo t.referred (revisions_in (changesets_in blocks))) → t.near ≡ [] → Begins t
 begun read t same refer none = record {
   referred = λ blocks state. refer blocks (subst (λ (x : StateParts). IsStateOf x blocks) same state);
   near = subst (Each (IsRowKnown (t.state).known.hg)) (sym none) tt;
+  stored = subst (Each (HasStoredBlob (t.state).known.git)) (sym none) tt;
 }
 
 abbrev pub TakeDue : Taking → List listed.Arrival → PullFault → Type 0
@@ -96,7 +98,7 @@ SomeAre t list before now = (base : List Revision) (blocks : List Block) (came :
 pub starts-read : (s : StateParts) (t : Taking) (list : List listed.Arrival) (came : List Arrival) (blocks : List Block) → HasAllBlocks s blocks → HasRead s t.state list came → Begins t → Starts t s.known.hg blocks list came
 starts-read s t list came blocks has r refer = record {
   are = r.are;
-  taking = record { state = r.state blocks has.state; referred = refer.referred blocks (r.state blocks has.state); in_time = in-time s blocks has; near = refer.near };
+  taking = record { state = r.state blocks has.state; referred = refer.referred blocks (r.state blocks has.state); in_time = in-time s blocks has; near = refer.near; stored = refer.stored };
   saved = Each-weaker (λ r. r.group ≡ Changesets → IsTrue (stands_in blocks r.node)) (λ r. r.group ≡ Changesets → IsTrue (stands_in blocks r.node) ⊎ IsKnownLink (t.state).known.hg r.node) (λ r f g. inl (f g)) s.known.hg
       (stands-saved s blocks has);
   store = r.store;

@@ -4,17 +4,17 @@ use Rattle.std.specs.Prelude.{IfSome, is_some, IsTrue}
 use Rattle.std.specs.Borrow.{Bor}
 use Rattle.std.specs.List.{list_any}
 use Rattle.std.proofs.lemmas.List.Folds.{list_any-append}
-use Rattle.text_model.specs.Lists.{Each}
+use Rattle.text_model.specs.Lists.{Each, In}
 use Rattle.text_model.specs.Text.{Bytes}
 use Rattle.text_model.specs.Fault.{FaultName}
 use Rattle.text_model.specs.Fault as fault
 use Rattle.text_model.specs.Id.{Id, is_null}
 use Rattle.text_model.proofs.EachLemmas.{Each-append, Each-weaker}
-use Rattle.text_model.proofs.Elements.{flat_map_append, map_append}
+use Rattle.text_model.proofs.Elements.{flat_map_append, map_append, each_from, in_map, in_right}
 use Rattle.text_model.proofs.Options.{or_parts, or_neither}
 use Rattle.hg_model.specs.Revision.{Revision}
 use Rattle.git_model.specs.Object.{Object}
-use Rattle.view_model.specs.View.{ChangesetView, CommitView, Row, changeset_node, commit_objects}
+use Rattle.view_model.specs.View.{ChangesetView, CommitView, Row, changeset_node, commit_objects, files_among}
 use Rattle.view_model.specs.Held.{IsChangesetHeld, AreChangesetsHeld}
 use Rattle.view_model.specs.Dump.{revisions_of, revisions_in}
 use Rattle.pair_model.specs.Block.{Block, changesets_in}
@@ -27,15 +27,20 @@ use Rattle.hg_dump.proofs.HeldLemmas.{node-is}
 use Rattle.pair_choice.specs.Chosen.{IsChosenCommit}
 use Rattle.pair_known.specs.Drafts.{IsRowKnown}
 use Rattle.pair_known.specs.Over.{IsCommitOver}
-use Rattle.pair_known.specs.Rows.{RowValue}
+use Rattle.pair_known.specs.Rows.{RowValue, row_value}
+use Rattle.pair_known.specs.Ruled.{blob_of_row}
+use Rattle.commit_rule.specs.Parts.{HasStoredBlob}
 use Rattle.pair_known.specs.declared.known.Known.{Known}
 use Rattle.pair_known.specs.Partners.{git_at}
 use Rattle.pair_known.specs.declared.git_draft.GitDraft.{GitDraft}
 use Rattle.pair_state.specs.declared.state_parts.StateParts.{StateParts}
 use Rattle.pair_state.specs.declared.fault.PushFault.{PushFault}
 use Rattle.pair_state.specs.declared.fault.PushFault.TheVariants as push
+use Rattle.pair_state.specs.Blocks.{body_blob}
 use Rattle.pair_state.specs.Push.{HaveSame, PushesCommit, CommitPushed}
 use Rattle.pair_state.proofs.BlockLemmas.{parts_of, held-append}
+use Rattle.pair_state.proofs.CommitParts.{blob-of, of-map}
+use Rattle.pair_state.proofs.MadeCommit.{each-to_map, found-at, same-blobs, file-id}
 use Rattle.pull_outcome.specs.declared.take_fault.TakeFault.{TakeFault}
 use Rattle.pull_outcome.specs.Takes.{IsTakeFault, push_refused}
 use Rattle.pull_bundle.specs.Faults.{IsOfChangeset}
@@ -107,6 +112,14 @@ module _ (t : Taking) (node : Id) (p : Pair) (blocks : List Block) (v : Changese
     bodies = (is.chosen).bodies;
   }
 
+  blobs-are : map body_blob v.rows ≡ map blob_of_row (files_among c.rows)
+  blobs-are = same-blobs v.rows (files_among c.rows) (is.chosen).bodies (file-id (t.state).known.git p.commit c ((is.chosen).ruled).made)
+
+  body-in : (row : Row) → In row v.rows → In (body_blob row) (commit_objects c)
+  body-in row i =
+      let m = of-map blob_of_row (body_blob row) (files_among c.rows) (subst (In (body_blob row)) blobs-are (in_map body_blob row v.rows i)) in
+      subst (λ (o : Object). In o (commit_objects c)) (sym m.2) (blob-of c (((is.chosen).ruled).made).view m.0 m.1)
+
   module _ (s : StateParts) (pushed : CommitPushed t.state s blocks (block_with blocks v c)) where
     parts-held : AreChangesetsHeld s.known.hg (map changeset_node (parts_of (block_with blocks v c))) (parts_of (block_with blocks v c))
     parts-held =
@@ -119,6 +132,12 @@ module _ (t : Taking) (node : Id) (p : Pair) (blocks : List Block) (v : Changese
         subst (λ (ids : List Id). AreChangesetsHeld s.known.hg ids (parts_of (block_with blocks v c)))
         (map_append changeset_node (links_of blocks c) (v ∷ []) ∙ (λ i. sym is.links_are i ++ own i ∷ [])) parts-held
 
+    -- the bodies of the changeset's files are blobs of the commit, all of whose objects came
+    stored-rows : Each (HasStoredBlob s.known.git) (map row_value v.rows)
+    stored-rows =
+        each-to_map (HasStoredBlob s.known.git) row_value v.rows (each_from (λ row. HasStoredBlob s.known.git (row_value row)) v.rows (λ row i.
+        ap is_some (found-at s.known.git (body_blob row) (((pushed.state).sound).are).distinct (pushed.objects.1 (body_blob row) (in_right (body_blob row) (t.state).known.git (commit_objects c) (body-in row i))))))
+
     pub put : (referred : Refers) → RefersTo referred (revisions_in (changesets_in blocks) ++ revisions_in (parts_of (block_with blocks v c)))
         → (near : List RowValue) → near ≡ p.draft.rows → IsPut t (record { state = s; referred = referred; near = near }) blocks (block_with blocks v c)
     put referred to near rows = record {
@@ -127,6 +146,7 @@ module _ (t : Taking) (node : Id) (p : Pair) (blocks : List Block) (v : Changese
         state = pushed.state;
         referred = subst (RefersTo referred) (sym (all-revisions blocks (block_with blocks v c))) to;
         in_time = in-time blocks (block_with blocks v c) (is.taking).in_time is.files_in_time;
+        stored = subst (Each (HasStoredBlob s.known.git)) (sym (rows ∙ (is.draft).rows)) stored-rows;
         near = subst (Each (IsRowKnown s.known.hg)) (sym rows) (subst (λ (known : List Revision). Each (IsRowKnown known) p.draft.rows) (sym pushed.revisions) is.rows);
       };
       revisions = pushed.revisions;

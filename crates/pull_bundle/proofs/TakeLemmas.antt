@@ -187,12 +187,12 @@ module _ (t : Taking) (node : Id) (v : ChangesetView) (held : IsChangesetHeld (t
     pub chosen-here : (blocks : List Block) (r : Revision) (is : r.node ≡ node) → IsNew t blocks r → (c : CommitView) × IsChosenCommit (t.state).known blocks v d c
     chosen-here blocks r is new = all blocks v (inside-it t node blocks r is new v held h draft view)
 
-    pub late-fault : (f : TakeFault) → IsTakeFault (λ name. (blocks : List Block) (w : ChangesetView) → IsTaking t blocks → IsHgDraft (t.state).known.hg h w → IsLate blocks w name) f → IsTakeFault (NewDue t node) f
+    pub late-fault : (f : TakeFault) → IsTakeFault (λ name. (blocks : List Block) (w : ChangesetView) → IsTaking t blocks → IsChangesetHeld (t.state).known.hg node w → IsHgDraft (t.state).known.hg h w → IsLate blocks w name) f → IsTakeFault (NewDue t node) f
     late-fault f why =
-        fault-map (λ name. (blocks : List Block) (w : ChangesetView) → IsTaking t blocks → IsHgDraft (t.state).known.hg h w → IsLate blocks w name) (NewDue t node) (λ name late blocks r is new.
-        let c = chosen-here blocks r is new in late-refused t node blocks r is new v held d c.0 c.1 name (late blocks v new.taking draft)) f why
+        fault-map (λ name. (blocks : List Block) (w : ChangesetView) → IsTaking t blocks → IsChangesetHeld (t.state).known.hg node w → IsHgDraft (t.state).known.hg h w → IsLate blocks w name) (NewDue t node) (λ name late blocks r is new.
+        let c = chosen-here blocks r is new in late-refused t node blocks r is new v held d c.0 c.1 name (late blocks v new.taking held draft)) f why
 
-    pub pair-here : (p : Pair) → p.commit ≡ d → p.draft ≡ h → Each (IsRowKnown (t.state).known.hg) h.rows → ((blocks : List Block) (w : ChangesetView) → IsTaking t blocks → IsHgDraft (t.state).known.hg h w → has_late_file blocks w.rows ≡ false)
+    pub pair-here : (p : Pair) → p.commit ≡ d → p.draft ≡ h → Each (IsRowKnown (t.state).known.hg) h.rows → ((blocks : List Block) (w : ChangesetView) → IsTaking t blocks → IsChangesetHeld (t.state).known.hg node w → has_late_file blocks w.rows ≡ false)
         → ((blocks : List Block) (w : ChangesetView) → IsTaking t blocks → IsHgDraft (t.state).known.hg h w → has_late_manifest blocks w.manifest ≡ false)
         → ((blocks : List Block) (w : ChangesetView) (c : CommitView) → IsChosenCommit (t.state).known blocks w d c → p.links ≡ map changeset_node (links_of blocks c))
         → (blocks : List Block) (r : Revision) → r.node ≡ node → IsNew t blocks r → (w : ChangesetView) × (c : CommitView) × IsPairFor t node p blocks w c
@@ -201,7 +201,7 @@ module _ (t : Taking) (node : Id) (v : ChangesetView) (held : IsChangesetHeld (t
           v,
           c.0,
           pair-it t node blocks r is new v held d c.0 c.1 p commit (subst (λ (x : HgDraft). IsHgDraft (t.state).known.hg x v) (sym of) draft)
-              (subst (λ (x : HgDraft). Each (IsRowKnown (t.state).known.hg) x.rows) (sym of) rows) (files blocks v new.taking draft) (manifest blocks v new.taking draft) (links blocks v c.0 c.1),
+              (subst (λ (x : HgDraft). Each (IsRowKnown (t.state).known.hg) x.rows) (sym of) rows) (files blocks v new.taking held) (manifest blocks v new.taking draft) (links blocks v c.0 c.1),
         )
 
 -- ---- the block is put

@@ -10,6 +10,7 @@ use Rattle.partner_model.specs.Given.{has_late_file}
 use Rattle.history_model.specs.Pull.{BringBlocks, ChangesetRefused, GivesBlock, IsKnownLink, changesets_among, revisions_among, is_changesets, is_saved}
 use Rattle.hg_dump.specs.Refers.{RefersTo}
 use Rattle.pair_known.specs.Drafts.{IsRowKnown}
+use Rattle.commit_rule.specs.Parts.{HasStoredBlob}
 use Rattle.hg_bundle.specs.declared.arrival.Arrival as listed
 use Rattle.hg_bundle.specs.Arrivals.{arrival_of, kind_of, path_of}
 use Rattle.pair_state.specs.declared.state_parts.StateParts.{StateParts}
@@ -23,12 +24,13 @@ use Rattle.pull_bundle.specs.declared.taking.Taking.{Taking}
 abbrev pub AreFilesInTime : List Block → Type 0
 AreFilesInTime blocks = Each (λ b. has_late_file blocks (b.changeset).rows ≡ false) blocks
 
--- the state stands for these blocks, to whose revisions is referred, and none of which has a file whose parent is late; the rows that are near are of its store
+-- the state stands for these blocks, to whose revisions is referred, and none of which has a file whose parent is late; the rows that are near are of its stores
 pub record IsTaking (t : Taking) (blocks : List Block) : Type 0 where
   pub state : IsStateOf t.state blocks
   pub referred : RefersTo t.referred (revisions_in (changesets_in blocks))
   pub in_time : AreFilesInTime blocks
   pub near : Each (IsRowKnown (t.state).known.hg) t.near
+  pub stored : Each (HasStoredBlob (t.state).known.git) t.near
 
 -- each changeset among the revisions stands in a block, as its changeset or as a link, or has the form of a link
 abbrev pub AreStanding : List Revision → List Block → List Revision → Type 0

@@ -3,8 +3,8 @@ ghost use Rattle.std.specs.Prelude.{◌≡◌, false, [], List, map, is_some, If
 ghost use Rattle.text_model.specs.Lists.{Each};
 ghost use Rattle.hg_model.specs.Revision.{Revision};
 ghost use Rattle.hg_manifest.specs.Values.{manifest_entry};
-ghost use Rattle.view_model.specs.View.{ChangesetView, Row};
-ghost use Rattle.view_model.specs.Held.{IsFileHeld};
+ghost use Rattle.view_model.specs.View.{ChangesetView, Row, entry_of_row};
+ghost use Rattle.view_model.specs.Held.{IsFileHeld, IsChangesetHeld};
 ghost use Rattle.view_model.specs.Dump.{revisions_in};
 ghost use Rattle.pair_model.specs.Block.{Block, changesets_in};
 ghost use Rattle.partner_model.specs.Given.{has_late_file, has_late_manifest, is_late_file, is_late_manifest};
@@ -21,25 +21,24 @@ ghost use Rattle.pull_bundle.specs.Takes.{IsTaking};
 use crate::taking::Taking;
 use bridge_text::Id;
 use hg_dump::{Refers, lines_of};
-use hg_manifest::{Cursor, Manifest, ManifestRev};
-use hg_store::Group;
-use pair_known::{HgDraft, HgRow, Known};
+use hg_manifest::{Beside, Entry, ManifestRev, Near};
+use hg_store::{Group, HgStore};
+use pair_known::{HgDraft, Known};
 use pull_outcome::{Fault, TakeFault};
-use std::alloc::Global;
 
 /// Passes where each parent that a changeset, which is held, names for a file revision or for its manifest stands in a changeset of the
 /// blocks. FileParentLate comes exactly where one of a file revision stands in none, and else ManifestParentLate where one of the manifest does.
-pub fn check_parents(alloc: Global, taking: &Taking, h: &HgDraft) -> Result<(), TakeFault>
-    requires held { h.now.fresh ≡ [] }
+pub fn check_parents(taking: &Taking, node: &Id, h: &HgDraft) -> Result<(), TakeFault>
+    requires held { (v : ChangesetView) × IsChangesetHeld (taking.now.state).known.hg node.now v }
     requires taking { (blocks : List Block) × IsTaking taking.now blocks }
-    ensures files { OnOk result ((blocks : List Block) (v : ChangesetView) → IsTaking taking.now blocks → IsHgDraft (taking.now.state).known.hg h.now v → has_late_file blocks v.rows ≡ false) }
+    ensures files { OnOk result ((blocks : List Block) (v : ChangesetView) → IsTaking taking.now blocks → IsChangesetHeld (taking.now.state).known.hg node.now v → has_late_file blocks v.rows ≡ false) }
     ensures manifest { OnOk result ((blocks : List Block) (v : ChangesetView) → IsTaking taking.now blocks → IsHgDraft (taking.now.state).known.hg h.now v → has_late_manifest blocks v.manifest ≡ false) }
-    ensures refused { IfErr result (IsTakeFault (λ name. (blocks : List Block) (v : ChangesetView) → IsTaking taking.now blocks → IsHgDraft (taking.now.state).known.hg h.now v → IsLate blocks v name)) }
+    ensures refused { IfErr result (IsTakeFault (λ name. (blocks : List Block) (v : ChangesetView) → IsTaking taking.now blocks → IsChangesetHeld (taking.now.state).known.hg node.now v
+        → IsHgDraft (taking.now.state).known.hg h.now v → IsLate blocks v name)) }
     ensures names { IfErr result IsOfChangeset }
 {
-    let empty = Manifest::new(alloc);
-    let near = lines_near(taking, h, &empty);
-    if has_late_row(taking, h.rows.as_slice(), near) {
+    let lines = lines_of(&taking.state.known.hg, node);
+    if has_late_file(taking, lines, lines_near(taking, h)) {
         return Err(TakeFault::Refused(Fault::FileParentLate));
     }
     if is_manifest_late(&taking.referred, &h.manifest) {
@@ -60,50 +59,37 @@ pub fn near_of<'a>(known: &Known, h: &'a HgDraft) -> Option<&'a Id>
 }
 
 // The lines of the changeset that is near, or none. The parents of their file revisions are in time.
-fn lines_near<'a>(taking: &'a Taking, h: &HgDraft, empty: &'a Manifest) -> &'a Manifest
+fn lines_near<'a>(taking: &'a Taking, h: &HgDraft) -> Near<'a>
     requires taking { (blocks : List Block) × IsTaking taking.now blocks }
-    requires empty { empty.now ≡ [] }
-    ensures { (blocks : List Block) → IsTaking taking.now blocks → Each (IsLineInTime (taking.now.state).known.hg blocks) result.now }
+    ensures { (blocks : List Block) → IsTaking taking.now blocks → Each (IsLineInTime (taking.now.state).known.hg blocks) result }
 {
     match near_of(&taking.state.known, h) {
         Some(node) => lines_of(&taking.state.known.hg, node),
-        None => empty,
+        None => Near::none(),
     }
 }
 
-// Whether a parent of a file revision comes too late, where each of the lines that are near is in time.
-fn has_late_row(taking: &Taking, rows: &[HgRow], near: &Manifest) -> bool
-    ensures { (blocks : List Block) (files : List Row) → IsTaking taking.now blocks → rows.now ≡ map row_value files → Each (IsFileHeld (taking.now.state).known.hg) files
-        → Each (IsLineInTime (taking.now.state).known.hg blocks) near.now → result ≡ has_late_file blocks files }
+// Whether a parent of a file revision that one of the lines names comes too late, where each of the lines that are near is in time.
+fn has_late_file(taking: &Taking, lines: Near<'_>, near: Near<'_>) -> bool
+    ensures { (blocks : List Block) (files : List Row) → IsTaking taking.now blocks → map entry_of_row files ≡ lines.entry → Each (IsFileHeld (taking.now.state).known.hg) files
+        → Each (IsLineInTime (taking.now.state).known.hg blocks) near.entry → result ≡ has_late_file blocks files }
 {
-    let mut lines = Cursor::new(near);
-    for row in rows {
-        if is_row_late(taking, row, &mut lines) {
+    let mut walk = Beside { lines, other: near };
+    while let Some(line) = walk.next() {
+        if has_late_parent(&taking.state.known.hg, &taking.referred, line) {
             return true;
         }
     }
     false
 }
 
-// Whether a parent of the file revision of a row comes too late. The parents of a row that stands among the lines need no look-up.
-fn is_row_late(taking: &Taking, row: &HgRow, lines: &mut Cursor<'_>) -> bool
-    ensures late { (blocks : List Block) (file : Row) → IsTaking taking.now blocks → row.now ≡ row_value file → IsFileHeld (taking.now.state).known.hg file
-        → Each (IsLineInTime (taking.now.state).known.hg blocks) lines.old → result ≡ is_late_row blocks file }
-    ensures same { lines.new ≡ lines.old }
+/// Whether a parent of the file revision that a line names stands in no changeset of the blocks, to whose revisions `referred` refers.
+pub fn has_late_parent(hg: &HgStore, referred: &Refers, line: &Entry) -> bool
+    ensures { (blocks : List Block) (file : Row) → RefersIn hg.now referred.now blocks → entry_of_row file ≡ manifest_entry line.now → IsFileHeld hg.now file → result ≡ is_late_row blocks file }
 {
-    if lines.has_line(row.path.as_slice(), &row.node) {
-        return false;
-    }
-    match taking
-        .state
-        .known
-        .hg
-        .file_parents(row.path.as_slice(), &row.node)
-    {
-        Some((p, q)) => {
-            let path = row.path.as_slice();
-            is_file_late(&taking.referred, path, &p) || is_file_late(&taking.referred, path, &q)
-        }
+    let path = line.path.as_slice();
+    match hg.file_parents(path, &line.node) {
+        Some((p, q)) => is_file_late(referred, path, &p) || is_file_late(referred, path, &q),
         None => false,
     }
 }

@@ -40,7 +40,7 @@ pub fn check_left_over(
     match first_dangling(state, arrivals) {
         None => check_orphans(&referred, arrivals),
         Some(arrival) => {
-            let all = with_links(alloc, state, referred, arrivals)?;
+            let all = with_links(state, referred, arrivals)?;
             check_orphans(&all, arrivals)?;
             Err(PullFault::Refused(Refusal {
                 fault: Fault::DanglingLink,
@@ -78,12 +78,7 @@ fn dangles(state: &StateParts, arrival: &Arrival) -> bool
 }
 
 // Adds what is named by the links that stand in no block.
-fn with_links(
-    alloc: Global,
-    state: &StateParts,
-    referred: Refers,
-    arrivals: &Arrivals,
-) -> Result<Refers, NoMemory>
+fn with_links(state: &StateParts, referred: Refers, arrivals: &Arrivals) -> Result<Refers, NoMemory>
     ensures { IfOk result (λ next. (blocks : List Block) (came : List model.Arrival) (rs : List Revision) → IsStateOf state.now blocks → arrivals.now ≡ map arrival_of came → RefersTo referred rs
         → (more : List Revision) × NameMore state.now.known.hg blocks came more × RefersTo next (rs ++ more)) }
 {
@@ -91,7 +86,7 @@ fn with_links(
     for place in 0..arrivals.len() {
         let arrival = arrivals.at(place);
         if dangles(state, arrival) {
-            next.add_named(alloc, &state.known.hg, &arrival.node)?;
+            next.add_named(&state.known.hg, &arrival.node)?;
         }
     }
     Ok(next)

@@ -11,5 +11,5 @@ mod read;
 mod take;
 mod taking;
 
-pub use late::{is_file_late, is_manifest_late};
+pub use late::{has_late_parent, is_file_late, is_manifest_late};
 pub use pull::pull_hg;

@@ -82,7 +82,7 @@ fn take_new<L: Ledger>(
     ensures steps { (steps.old ≤ steps.new) × (steps.new ≤ steps.old + 18) }
 {
     let pair = pair_for(alloc, &taking, node, steps)?;
-    put_pair(alloc, taking, node, pair)
+    put_pair(taking, node, pair)
 }
 
 // A changeset that is new with its partner, or why it gets no block. Whether an object collides isn't asked yet.
@@ -102,9 +102,10 @@ fn pair_for<L: Ledger>(
 {
     let known = &taking.state.known;
     views_are_held(&known.hg, node);
-    let draft = draft_of(alloc, known, node, taking.near.as_slice())?;
-    let commit = pair_of_changeset(alloc, known, &draft, steps)?;
-    check_parents(alloc, taking, &draft)?;
+    let near = taking.near.as_slice();
+    let draft = draft_of(alloc, known, node, near)?;
+    let commit = pair_of_changeset(alloc, known, &draft, steps, near)?;
+    check_parents(taking, node, &draft)?;
     let links = links_for(alloc, known, &commit)?;
     Ok(Pair {
         draft,
@@ -115,7 +116,7 @@ fn pair_for<L: Ledger>(
 
 // Puts the block of a changeset and its partner behind the others. Collision comes exactly where an object of the commit is known with another
 // content or is another part of it, or where the commit or a link stands in a block.
-fn put_pair(alloc: Global, taking: Taking, node: &Id, pair: Pair) -> Result<Taking, TakeFault>
+fn put_pair(taking: Taking, node: &Id, pair: Pair) -> Result<Taking, TakeFault>
     requires pair { (blocks : List Block) × (v : ChangesetView) × (c : CommitView) × IsPairFor taking node.now pair blocks v c }
     ensures ok { IfOk result (λ next. (blocks : List Block) (v : ChangesetView) (c : CommitView) → IsPairFor taking node.now pair blocks v c
         → IsPut taking next blocks (block_with blocks v c)) }
@@ -131,7 +132,7 @@ fn put_pair(alloc: Global, taking: Taking, node: &Id, pair: Pair) -> Result<Taki
     let near = near_of(&taking.state.known, &draft);
     let state = taking.state.push_commit(*node, &draft, &links, commit)?;
     let mut referred = taking.referred;
-    refer(alloc, &state.known.hg, &mut referred, links, *node, near)?;
+    refer(&state.known.hg, &mut referred, links, *node, near)?;
     Ok(Taking {
         state,
         referred,
@@ -141,7 +142,6 @@ fn put_pair(alloc: Global, taking: Taking, node: &Id, pair: Pair) -> Result<Taki
 
 // Adds the revisions to which the last block refers, whose links and changeset have these nodes.
 fn refer(
-    alloc: Global,
     hg: &HgStore,
     referred: &mut Refers,
     links: IdList,
@@ -155,7 +155,7 @@ fn refer(
 {
     let mut nodes = links;
     nodes.push(node)?;
-    referred.add(alloc, hg, nodes.as_slice(), near)
+    referred.add(hg, nodes.as_slice(), near)
 }
 
 // The nodes of the links of a commit; none of a commit of two parents at most.

@@ -6,6 +6,7 @@ pub mod FreshParents
 pub mod LateParents
 pub mod Linked
 pub mod Links
+pub mod Rows
 pub mod Takes
 pub mod Loop
 pub mod Counts

@@ -1,5 +1,5 @@
 // The commits of a stream, one after the other.
-ghost use Rattle.std.specs.Prelude.{◌≡◌, ◌≤◌, ◌+◌, ◌*◌, ℕ, List, length, Some, IfOk, IfErr, OnErr};
+ghost use Rattle.std.specs.Prelude.{◌≡◌, ◌≤◌, ◌+◌, ◌*◌, ℕ, List, [], length, Some, IfOk, IfErr, OnErr};
 ghost use Rattle.git_model.specs.Stream.{Placed};
 ghost use Rattle.pair_model.specs.Block.{Block};
 ghost use Rattle.history_model.specs.Pull as model;
@@ -11,12 +11,15 @@ ghost use Rattle.pull_stream.specs.Taken.{CommitsTaken, SomeTaken};
 
 use crate::place::first_place;
 use crate::take::take_commit;
+use crate::taking::Taking;
 use bridge_io::Steps;
 use bridge_text::{Id, IdList};
 use git_batch::ObjectArrivals;
+use pair_known::HgRows;
 use pair_state::StateParts;
 use pull_outcome::{PullFault, Refusal, TakeFault};
 use std::sync::ledger::Ledger;
+use tree_shape::Files;
 
 /// Takes the commits of a stream in their order, each over the blocks before it. The fault is that of the first that is refused.
 pub fn take_commits<L: Ledger>(
@@ -36,14 +39,27 @@ pub fn take_commits<L: Ledger>(
     ensures asked { OnErr result ((m : model.State) (placed : List Placed) → IsInOrder state came.now ordered.now m placed
         → SomeTaken state m ordered.now steps.old steps.new) }
 {
-    let mut next = state;
+    let mut next = begin(state);
     for id in ordered.as_slice() {
         next = match take_commit(next, id, steps) {
             Ok(taken) => taken,
             Err(fault) => return Err(refused_at(came, id, fault)),
         };
     }
-    Ok(next)
+    Ok(next.state)
+}
+
+// A state, with no files beside which its first commit is read.
+fn begin(state: StateParts) -> Taking
+    ensures state { result.state ≡ state }
+    ensures near { result.rows ≡ [] }
+{
+    let alloc = state.alloc;
+    Taking {
+        state,
+        files: Files::new(alloc),
+        rows: HgRows::new(alloc),
+    }
 }
 
 // The fault of a commit that came, with its place.

@@ -8,5 +8,6 @@ mod ordering;
 mod place;
 mod pull;
 mod take;
+mod taking;
 
 pub use pull::pull_git;

@@ -3,13 +3,14 @@ use Rattle.std.proofs.lemmas.Result.{err_from_is_err_and}
 use Rattle.text_model.specs.Lists.{Each}
 use Rattle.hg_model.specs.Revision.{Changesets, revision_of}
 use Rattle.pair_known.specs.Drafts.{IsRowKnown}
+use Rattle.commit_rule.specs.Parts.{HasStoredBlob}
 use Rattle.pull_bundle.proofs.TakeLemmas.{view-fault, choice-fault, choice-named, late-fault, chosen-here, pair-here, inside-it, link-none}
 use Rattle.pull_bundle.proofs.take.pair_for.Goals as goal
 
 pub draft_of-requires : goal.draft_of-requires
 draft_of-requires g c =
     let x = c.requires.new in
-    record { near = subst (Each (IsRowKnown ((c.args.taking.now).state).known.hg)) (sym c.as_slice.ensures) x.3.taking.near; known = (x.3.found, ap (revision_of ((c.args.taking.now).state).known.hg Changesets) (sym x.2) ∙ x.3.is_held) }
+    record { near = subst (Each (IsRowKnown ((c.args.taking.now).state).known.hg)) (sym c.as_slice-near.ensures) x.3.taking.near; known = (x.3.found, ap (revision_of ((c.args.taking.now).state).known.hg Changesets) (sym x.2) ∙ x.3.is_held) }
 
 pub returns-in_err-draft-clause-refused : goal.returns-in_err-draft-clause-refused
 returns-in_err-draft-clause-refused g c =
@@ -32,6 +33,7 @@ pair_of_changeset-requires g c =
         inside-it c.args.taking.now c.args.node.now x.0 x.1 x.2 x.3 v.0 v.1 c.in_ok-draft.draft (c.in_ok-draft.ensures.draft v.0 v.1) (c.views_are_held.ensures.is_view v.0 v.1),
         link-none c.args.taking.now c.args.node.now x.0 x.1 x.2 x.3 v.0 v.1,
       );
+      near = subst (Each (HasStoredBlob ((c.args.taking.now).state).known.git)) (sym c.as_slice-near.ensures) x.3.taking.stored;
     }
 
 pub returns-in_err-commit-clause-refused : goal.returns-in_err-commit-clause-refused
@@ -48,7 +50,7 @@ returns-in_err-commit-clause-names g c =
 pub check_parents-requires : goal.check_parents-requires
 check_parents-requires g c =
     let x = c.requires.new in
-    record { held = c.in_ok-draft.ensures.nothing_fresh; taking = (x.0, x.3.taking) }
+    record { held = c.in_ok-draft.ensures.held; taking = (x.0, x.3.taking) }
 
 pub returns-in_err-check_parents-clause-refused : goal.returns-in_err-check_parents-clause-refused
 returns-in_err-check_parents-clause-refused g c =
