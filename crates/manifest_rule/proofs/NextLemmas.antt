@@ -1,5 +1,5 @@
 -- The least of three paths.
-use Rattle.std.proofs.Common.{◌≡◌, Bool, true, false, true≢false, Option, Some, None, refl, sym, ap, ◌∙◌, inl, inr}
+use Rattle.std.proofs.Common.{◌≡◌, Bool, true, false, true≢false, Option, Some, None, refl, sym, ap, subst, ◌∙◌, inl, inr}
 use Rattle.std.proofs.lemmas.Option.{same_Some, none-some}
 use Rattle.std.specs.Prelude.{option_map, ◌⊎◌, ◌||◌, is_some, ⊤}
 use Rattle.std.proofs.lemmas.Slice.Eq.{bytes_eq-Decides}
@@ -7,7 +7,8 @@ use Rattle.text_model.specs.Text.{Bytes, is_below}
 use Rattle.text_model.proofs.OrderLemmas.{is_below-one_way, is_below-irreflexive, is_below-same, is_below-chain}
 use Rattle.text_model.proofs.TestLemmas.{or_true}
 use Rattle.hg_model.specs.Manifest.{ManifestEntry}
-use Rattle.manifest_rule.specs.Merged.{least_of, with_path, IsAtFront}
+use Rattle.manifest_rule.specs.Merged.{least_of, with_path, lent_row, lent_entry, IsAtFront, IsNext}
+use Rattle.manifest_rule.specs.declared.merge.Found.{Found}
 
 abbrev NotAbove : Bytes → Option Bytes → Type 0
 NotAbove p None = ⊤
@@ -132,3 +133,20 @@ is_front e f g p is =
     some (inl h) = or_first (is_some (with_path p e)) (is_some (with_path p f)) (is_some (with_path p g)) (has_path e p h)
     some (inr (inl h)) = or_second (is_some (with_path p e)) (is_some (with_path p f)) (is_some (with_path p g)) (has_path f p h)
     some (inr (inr h)) = ap (λ (b : Bool). is_some (with_path p e) || is_some (with_path p f) || b) (has_path g p h) ∙ or_true (is_some (with_path p e) || is_some (with_path p f))
+
+-- ---- where a row and an entry have one path, and nothing else is there
+
+with-own : (e : ManifestEntry) (p : Bytes) → e.path ≡ p → Some e ≡ with_path p (Some e)
+with-own e p is = sym (rw ((bytes_eq-Decides e.path p).1 is) refl)
+
+pub is-alike : (e f : ManifestEntry) (g : Option ManifestEntry) (found : Found) → e.path ≡ (found.path).now → f.path ≡ (found.path).now → g ≡ None
+    → lent_row found.row ≡ Some e → lent_entry found.first ≡ Some f → lent_entry found.second ≡ None → IsNext (Some e) (Some f) g found
+is-alike e f g found e-path f-path none row first second =
+    let p : Bytes = (found.path).now in
+    record {
+      some = ap (λ (x : Option ManifestEntry). is_some x || is_some (with_path p (Some f)) || is_some (with_path p g)) (sym (with-own e p e-path));
+      before = (same-not_above e.path p e-path, same-not_above f.path p f-path, subst (IsAtFront p) (sym none) tt);
+      row = row ∙ with-own e p e-path;
+      first = first ∙ with-own f p f-path;
+      second = second ∙ ap (with_path p) (sym none);
+    }

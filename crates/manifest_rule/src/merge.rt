@@ -1,4 +1,4 @@
-ghost use Rattle.std.specs.Prelude.{◌≡◌, map, slice_get, option_map, MatchOption, IsTrue};
+ghost use Rattle.std.specs.Prelude.{◌≡◌, map, slice_get, option_map, MatchOption, IfSome, IsTrue};
 ghost use Rattle.text_model.specs.Lists.{rises};
 ghost use Rattle.text_model.specs.Text.{is_below};
 ghost use Rattle.manifest_rule.specs.Listed.{entry_of_value, entries_or_none};
@@ -51,12 +51,37 @@ pub fn next<'a>(
     ensures { MatchOption result (NoneLeft (lent_row row.entry) (lent_entry first.entry) (lent_entry second.entry))
         (IsNext (lent_row row.entry) (lent_entry first.entry) (lent_entry second.entry)) }
 {
+    if let Some(found) = alike(row, first, second) {
+        return Some(found);
+    }
     let path = least(least(path_of_row(row), path_of(first)), path_of(second))?;
     Some(Found {
         path,
         row: row_with(row, path),
         first: entry_with(first, path),
         second: entry_with(second, path),
+    })
+}
+
+// What stands at the path of a row which the first parent has too, where nothing is left of a second one, as for most files of most changesets.
+fn alike<'a>(
+    row: Option<&'a HgRow>,
+    first: Option<&'a Entry>,
+    second: Option<&'a Entry>,
+) -> Option<Found<'a>>
+    ensures { IfSome result (IsNext (lent_row row.entry) (lent_entry first.entry) (lent_entry second.entry)) }
+{
+    let row = row?;
+    let entry = first?;
+    let path = row.path.as_slice();
+    if second.is_some() || entry.path.as_slice() != path {
+        return None;
+    }
+    Some(Found {
+        path,
+        row: Some(row),
+        first: Some(entry),
+        second: None,
     })
 }
 
