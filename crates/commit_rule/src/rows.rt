@@ -42,8 +42,8 @@ pub fn files_of(alloc: Global, rows: &HgRows) -> Result<Files, NoMemory>
     requires { IsFiles (map file_of_row rows.now) }
     ensures { IfOk result (λ files. files ≡ map file_of_row rows.now) }
 {
-    let mut files = Files::new(alloc);
     let rows = rows.as_slice();
+    let mut files = Files::with_capacity(alloc, rows.len())?;
     for row in rows {
         let file = file_of(row)?;
         files.push(file)?;

@@ -33,11 +33,11 @@ pub fn named_rows(
     ensures new { IfOk result (λ found. IfSome found (λ made. Each (λ r. knows_same known.now.hg r ≡ false) made.fresh)) }
 {
     marks.are_marks();
-    let mut named = RuledRows::new(alloc);
+    let files = c.files.as_slice();
+    let mut named = RuledRows::with_capacity(alloc, files.len())?;
     let mut first_walk = Cursor::new(first.manifest);
     let mut second_walk = Cursor::new(second.manifest);
     let mut place = 0;
-    let files = c.files.as_slice();
     for file in files {
         if !file.mode().is_blob() {
             continue;

@@ -24,15 +24,15 @@ pub struct RuledRows {
 }
 
 impl RuledRows {
-    /// No files.
-    pub fn new(alloc: Global) -> RuledRows
-        ensures rows { result.rows ≡ [] }
-        ensures fresh { result.fresh ≡ [] }
+    /// No files, with room for so many.
+    pub fn with_capacity(alloc: Global, capacity: usize) -> Result<RuledRows, NoMemory>
+        ensures rows { IfOk result (λ ruled. ruled.rows ≡ []) }
+        ensures fresh { IfOk result (λ ruled. ruled.fresh ≡ []) }
     {
-        RuledRows {
-            rows: HgRows::new(alloc),
+        Ok(RuledRows {
+            rows: HgRows::with_capacity(alloc, capacity)?,
             fresh: FreshFiles::new(alloc),
-        }
+        })
     }
 
     /// Puts a row at the end, whose path stands above those of the others.
@@ -66,11 +66,11 @@ pub fn make_rows(
     ensures ok { IfOk result (λ made. (ps : Parents) (ts : List TreeRow) → AreRows known.now.hg (c.now.fresh ++ known.now.git) c.now.files first.now second.now ps ts → AreMadeRows known.now.hg made ps ts) }
     ensures new { IfOk result (λ made. Each (λ r. knows_same known.now.hg r ≡ false) made.fresh) }
 {
-    let mut ruled = RuledRows::new(alloc);
+    let files = c.files.as_slice();
+    let mut ruled = RuledRows::with_capacity(alloc, files.len())?;
     let mut first_walk = Cursor::new(first.manifest);
     let mut second_walk = Cursor::new(second.manifest);
     let mut near_walk = NearRows::new(near);
-    let files = c.files.as_slice();
     for file in files {
         if !file.mode().is_blob() {
             continue;

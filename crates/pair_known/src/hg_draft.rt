@@ -196,7 +196,7 @@ fn rows_of(
     ensures blobs { IfOk result (λ made. Each (IsRowKnown store.now) made) }
     ensures fault { IfErr result (IsLineFault (first_unknown store.now manifest.now)) }
 {
-    let mut rows = HgRows::new(alloc);
+    let mut rows = HgRows::with_capacity(alloc, manifest.len())?;
     let mut walk = NearRows::new(near);
     for line in 0..manifest.len() {
         let entry = manifest.at(line);

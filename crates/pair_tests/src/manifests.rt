@@ -39,7 +39,7 @@ fn row_of(entry: &Entry) -> Result<HgRow, Fail> {
 }
 
 fn rows_of(alloc: Global, manifest: &Manifest) -> Result<HgRows, Fail> {
-    let mut rows = HgRows::new(alloc);
+    let mut rows = HgRows::with_capacity(alloc, manifest.len())?;
     for place in 0..manifest.len() {
         let row = row_of(manifest.at(place))?;
         rows.push(row)?;

@@ -1,4 +1,4 @@
-ghost use Rattle.std.specs.Prelude.{◌≡◌, ◌==◌, true, ◌<◌, ◌++◌, [], ◌∷◌, length, slice_get, Some, OnOk, OnErr, IfSome, IsTrue, ◌↔◌};
+ghost use Rattle.std.specs.Prelude.{◌≡◌, ◌==◌, true, ◌<◌, ◌++◌, [], ◌∷◌, length, slice_get, Some, IfOk, OnOk, OnErr, IfSome, IsTrue, ◌↔◌};
 ghost use Rattle.std.specs.Option.{IsSome};
 ghost use Rattle.text_model.specs.Id.{tree, object_id};
 ghost use Rattle.git_model.specs.Tree.{is_directory};
@@ -38,6 +38,15 @@ impl Files {
         Files {
             rows: Vec::new(alloc),
         }
+    }
+
+    /// No files, with room for so many.
+    pub fn with_capacity(alloc: Global, capacity: usize) -> Result<Files, NoMemory>
+        ensures { IfOk result (λ files. files ≡ []) }
+    {
+        Ok(Files {
+            rows: Vec::with_capacity(alloc, capacity)?,
+        })
     }
 
     /// These very rows, not copied; `None` exactly where they are not those of files.

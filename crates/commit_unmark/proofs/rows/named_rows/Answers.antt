@@ -19,11 +19,11 @@ pub loop-file-init : goal.loop-file-init
 loop-file-init c = record {
   first_seen = c.new-first_walk.ensures;
   second_seen = c.new-second_walk.ensures;
-  ahead = subst (IsAhead c.args.c.now.files 0) (sym c.new-named.ensures.fresh) tt;
-  rises = subst AreFreshFiles (sym c.new-named.ensures.fresh) refl;
-  new = subst (Each (λ r. knows_same c.args.known.now.hg r ≡ false)) (sym c.new-named.ensures.fresh) tt;
+  ahead = subst (IsAhead c.args.c.now.files 0) (sym c.in_ok-named.ensures.fresh) tt;
+  rises = subst AreFreshFiles (sym c.in_ok-named.ensures.fresh) refl;
+  new = subst (Each (λ r. knows_same c.args.known.now.hg r ≡ false)) (sym c.in_ok-named.ensures.fresh) tt;
   within = omega arith;
-  named = λ ps ts over. none-yet c.args.known.now.hg c.args.c.now.files ps c.args.marks.now ts c.new-named.result c.new-named.ensures.rows c.new-named.ensures.fresh;
+  named = λ ps ts over. none-yet c.args.known.now.hg c.args.c.now.files ps c.args.marks.now ts c.in_ok-named.named c.in_ok-named.ensures.rows c.in_ok-named.ensures.fresh;
 }
 
 pub loop-file-preserved-then-not-is_blob : goal.loop-file-preserved-then-not-is_blob
