@@ -10,3 +10,4 @@ pub mod CommitLemmas
 pub mod UnmarkedLemmas
 pub mod ChangesetLemmas
 pub mod Meets
+pub mod UnmarkedClash

@@ -40,12 +40,11 @@ pub fn pair_of_changeset<L: Ledger>(
     ensures steps { (steps.old ≤ steps.new) × (steps.new ≤ steps.old + 18) }
     ensures asked_once { OnOk result (steps.old < steps.new) }
 {
-    if has_clash(h.rows.as_slice()) {
-        return Err(ChoiceFault::PathClash);
-    }
     steps.tick();
     match unmark_changeset(alloc, known, h, near)? {
         Some(first) => commit_with(alloc, known, h, first, steps),
+        // Only a changeset without an unmarking can have a clash: the trees of a commit have none.
+        None if has_clash(h.rows.as_slice()) => Err(ChoiceFault::PathClash),
         None => commit_without(alloc, known, h),
     }
 }
