@@ -1,26 +1,28 @@
 -- A file's body beside the object that has the id of its blob.
-use Rattle.std.proofs.Common.{◌≡◌, ◌<◌, ◌+◌, ℕ, zero, suc, arith, length, map, take, get_or, inl, inr, true, false, not, ◌&&◌, List, [], ◌∷◌, Option, Some, None, refl, sym, ap, subst, ◌∙◌}
-use Rattle.std.specs.Prelude.{bytes_eq, option_map, slice_get}
+use Rattle.std.proofs.Common.{◌≡◌, ◌<◌, ◌+◌, ℕ, zero, suc, arith, length, map, take, get_or, true, false, not, ◌&&◌, List, [], ◌∷◌, Option, Some, None, refl, sym, ap, subst, ◌∙◌}
+use Rattle.std.specs.Prelude.{bytes_eq, option_map, slice_get, MatchOption}
 use Rattle.std.proofs.lemmas.Option.{slice_get-get_or}
 use Rattle.std.proofs.lemmas.Slice.Eq.{bytes_eq-Decides}
 use Rattle.text_model.specs.Text.{Bytes}
 use Rattle.text_model.specs.Id.{Id, ObjectKind, blob, same_kind}
-use Rattle.text_model.specs.Lists.{Each, SomeOf}
+use Rattle.text_model.specs.Lists.{Each}
 use Rattle.text_model.proofs.TestLemmas.{both}
 use Rattle.hg_model.specs.FileText.{IsFileText}
+use Rattle.hg_model.specs.Manifest.{ManifestEntry}
 use Rattle.hg_model.specs.Revision.{Revision, FilesAt}
 use Rattle.git_model.specs.Object.{Object, object_at, knows_object}
 use Rattle.text_model.proofs.Options.{none_some, some_is}
 use Rattle.git_store.proofs.KnownLemmas.{same_kind-is}
 use Rattle.git_store.proofs.Growth.{found-in}
 use Rattle.git_view.proofs.Found.{found-id}
-use Rattle.hg_store.specs.Known.{text_of}
+use Rattle.hg_store.specs.Known.{text_of, IsFileBlob}
 use Rattle.tree_shape.specs.Laws.{IsKnown}
-use Rattle.view_model.specs.View.{Row, file_node}
+use Rattle.view_model.specs.View.{Row, entry_of_row, file_node}
 use Rattle.view_model.specs.Held.{IsFileHeld}
+use Rattle.pair_known.proofs.HeldViews.{blob-of_row}
 use Rattle.pair_known.specs.Rows.{RowValue, row_value}
 use Rattle.pair_state.specs.Blocks.{body_blob}
-use Rattle.pair_state.specs.Step.{AreAsked, IsElse}
+use Rattle.pair_state.specs.Step.{AreAsked, IsElse, IsAskedLine, IsBlobLine, IsElseLine}
 
 abbrev kind_and_content : Object → ObjectKind × Bytes
 kind_and_content o = (o.kind, o.content)
@@ -53,7 +55,7 @@ module _ (git : List Object) (x : Row) (kind : ObjectKind) (content body : Bytes
   of : FoundObject git (body_blob x).id kind content
   of = found-object git (body_blob x).id kind content at
 
-  pub is-body : (same_kind blob kind && bytes_eq body content) ≡ true → IsKnown git (body_blob x)
+  is-body : (same_kind blob kind && bytes_eq body content) ≡ true → IsKnown git (body_blob x)
   is-body h =
       let parts = both (same_kind blob kind) (bytes_eq body content) h in
       let same : of.object ≡ body_blob x = (λ i. record {
@@ -63,7 +65,7 @@ module _ (git : List Object) (x : Row) (kind : ObjectKind) (content body : Bytes
       }) in
       of.at ∙ ap (λ (o : Object). Some o) same
 
-  pub is-else : (same_kind blob kind && bytes_eq body content) ≡ false → IsElse git (body_blob x)
+  is-else : (same_kind blob kind && bytes_eq body content) ≡ false → IsElse git (body_blob x)
   is-else h =
       let like : (same_kind blob of.object.kind && bytes_eq (x.revision).body of.object.content) ≡ false =
       (λ i. same_kind blob (of.kind_is i) && bytes_eq (sym is i) (of.content_is i)) ∙ h in (
@@ -71,6 +73,48 @@ module _ (git : List Object) (x : Row) (kind : ObjectKind) (content body : Bytes
         found-in git (body_blob x).id of.object of.at,
         (λ i. (bytes_eq-Decides (body_blob x).id of.object.id).1 (found-id git (body_blob x).id of.object of.at) i && not (like i)),
       )
+
+-- ---- the file of a line
+
+pub of-some : {X : Type 0} (P : X → Type 0) (N : Type 0) (o : Option X) (x : X) → o ≡ Some x → MatchOption o N P → P x
+of-some P N o x is h = subst (λ o. MatchOption o N P) is h
+
+-- what is found of the revision that a line names: its text with the body in it, and the object that has the id of its blob
+module _ (hg : List Revision) (git : List Object) (e : ManifestEntry) (asked : IsAskedLine hg git e) (path : Bytes) (path_is : path ≡ e.path)
+    (text : Bytes) (found : Option Bytes) (body : Bytes)
+    (only : (meta : Option Bytes) (rest : Bytes) → IsFileText text meta rest → (found ≡ meta) × (body ≡ rest))
+    (at : Some text ≡ text_of hg (FilesAt path) e.node) (id : Id) (is : IsFileBlob hg path e.node id) (kind : ObjectKind) (content : Bytes)
+    (there : Some (kind, content) ≡ option_map {U = ObjectKind × Bytes} kind_and_content (object_at git id)) where
+  abbrev file : Row
+  file = asked.0
+
+  abbrev same : e ≡ entry_of_row file
+  same = asked.1
+
+  abbrev held : IsFileHeld hg file
+  held = asked.2
+
+  path-same : path ≡ file.path
+  path-same = path_is ∙ ap (λ (x : ManifestEntry). x.path) same
+
+  node-same : e.node ≡ file_node file.revision
+  node-same = ap (λ (x : ManifestEntry). x.node) same
+
+  its-body : body ≡ (file.revision).body
+  its-body = body-is hg file text found body only held (at ∙ (λ i. text_of hg (FilesAt (path-same i)) (node-same i)))
+
+  its-id : id ≡ (body_blob file).id
+  its-id = blob-of_row hg file id held
+      (subst (λ (n : Id). IsFileBlob hg file.path n id) node-same (subst (λ (p : Bytes). IsFileBlob hg p e.node id) path-same is))
+
+  its-blob : Some (kind, content) ≡ option_map {U = ObjectKind × Bytes} kind_and_content (object_at git (body_blob file).id)
+  its-blob = there ∙ ap (λ (x : Id). option_map {U = ObjectKind × Bytes} kind_and_content (object_at git x)) its-id
+
+  pub blob-line : (same_kind blob kind && bytes_eq body content) ≡ true → IsBlobLine hg git e
+  blob-line h = (file, same, held, is-body git file kind content body its-body its-blob h)
+
+  pub else-line : (same_kind blob kind && bytes_eq body content) ≡ false → IsElseLine hg git e
+  else-line h = (file, same, held, is-else git file kind content body its-body its-blob h)
 
 -- ---- files one by one
 
@@ -91,11 +135,6 @@ pub each-more : {X : Type 0} (P : X → Type 0) (xs : List X) (i : ℕ) (x : X) 
 each-more P [] i x h at p = absurd (none_some {x = x} at)
 each-more P (y ∷ xs) zero x h at p = (subst P (sym (some_is {x = y} {y = x} at)) p, tt)
 each-more P (y ∷ xs) (suc i) x h at p = let e : suc i + 1 ≡ suc (i + 1) = omega arith in rw e (h.0, each-more P xs i x h.1 at p)
-
-pub some-at : {X : Type 0} (P : X → Type 0) (xs : List X) (i : ℕ) (x : X) → slice_get xs i ≡ Some x → P x → SomeOf xs P
-some-at P [] i x at p = absurd (none_some {x = x} at)
-some-at P (y ∷ xs) zero x at p = inl (subst P (sym (some_is {x = y} {y = x} at)) p)
-some-at P (y ∷ xs) (suc i) x at p = inr (some-at P xs i x at p)
 
 pub value-at : (values list : List RowValue) (i : ℕ) (v : RowValue) → list ≡ values → i < length list → v ≡ get_or list i v → slice_get values i ≡ Some v
 value-at values list i v same below is = ap (λ (l : List RowValue). slice_get l i) (sym same) ∙ slice_get-get_or list i v below ∙ ap (λ (w : RowValue). Some w) (sym is)

@@ -13,7 +13,6 @@ pub mod OwnLemmas
 pub mod ChangesetHeld
 pub mod SlotLemmas
 pub mod KeptLemmas
-pub mod ParentManifest
 pub mod PartLemmas
 pub mod PushChangeset
 pub mod PushBlock

@@ -11,6 +11,7 @@ use Rattle.git_model.specs.Object.{Object, knows_object, is_other_content}
 use Rattle.git_store.specs.Known.{AreKnown}
 use Rattle.tree_shape.specs.Laws.{IsKnown}
 use Rattle.view_model.specs.View.{Row, TreeRow, CommitView, changeset_node, commit_id, commit_objects, files_among}
+use Rattle.view_model.specs.Held.{IsChangesetHeld}
 use Rattle.pair_model.specs.Block.{Block, id_of, block_of_id, commits_in}
 use Rattle.pair_model.specs.Collision.{commit_collides}
 use Rattle.partner_model.specs.Clash.{changeset_side_collides}
@@ -21,7 +22,7 @@ use Rattle.pair_state.specs.Blocks.{body_blob, IsAgreed}
 use Rattle.pair_state.specs.Came.{PartsCame, PartsCollide}
 use Rattle.git_store.specs.Growth.{HasGrown, Clash}
 use Rattle.pair_state.specs.Push.{HaveSame, PushesBlock, BlockPushed, block_collides, bodies_collide}
-use Rattle.pair_state.specs.Step.{AreAsked, IsElse, HaveBlobs, IsPushed}
+use Rattle.pair_state.specs.Step.{IsAskedOf, IsElse, HaveBlobs, IsPushed}
 use Rattle.pair_state.specs.declared.state_parts.StateParts.{StateParts}
 use Rattle.pair_state.proofs.BlockLemmas.{HoldMore, HasMore, has-more, parts_of, state-more}
 use Rattle.pair_state.proofs.CommitParts.{none-else, new-held, new-walk, new-apart, HoldsAll}
@@ -82,10 +83,9 @@ module _ (s : StateParts) (h : HgBlock) (d : GitDraft) (blocks : List Block) (b 
   -- ---- what came
 
   module _ (hg : List Revision) (came : PartsCame s.known.hg hg s.changesets (parts_of b)) (new : List Object) (grown : HasGrown s.known.git new (parts s.known.git d c p.made)) where
-    pub asked : AreAsked hg new (h.last).rows rows
-    asked = record {
-      are = p.brings.last.made.draft.rows;
-      held = (held-last s h blocks b p.brings hg came).files;
+    pub asked : (node : Id) → node ≡ changeset_node b.changeset → IsAskedOf hg new node b.changeset
+    asked node is = record {
+      held = subst (λ (n : Id). IsChangesetHeld hg n b.changeset) (sym is) (held-last s h blocks b p.brings hg came);
       blobs = each_from (λ (row : Row). knows_object new (body_blob row).id ≡ true) rows (λ row i.
           knows-new s.known.git d c p.made new grown (body_blob row).id (each_in (λ (row : Row). knows_object (d.fresh ++ s.known.git) (body_blob row).id ≡ true) rows row p.blobs i));
     }

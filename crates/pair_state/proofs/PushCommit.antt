@@ -21,7 +21,7 @@ use Rattle.pair_known.specs.declared.git_draft.GitDraft.{GitDraft}
 use Rattle.pair_state.specs.Blocks.{body_blob, IsAgreed}
 use Rattle.git_store.specs.Growth.{HasGrown, Clash}
 use Rattle.pair_state.specs.Push.{HaveSame, PushesCommit, CommitPushed}
-use Rattle.pair_state.specs.Step.{AreAsked, IsElse, IsPushed}
+use Rattle.pair_state.specs.Step.{IsAskedOf, IsElse, IsPushed}
 use Rattle.pair_state.specs.declared.state_parts.StateParts.{StateParts}
 use Rattle.pair_state.proofs.BlockLemmas.{HoldMore, HasMore, has-more, held-append, any-saved, state-more}
 use Rattle.pair_state.proofs.CommitParts.{own, blob-of, HoldsAll, new-walk, new-held, new-apart, clash-collides, of-map}
@@ -76,10 +76,9 @@ module _ (s : StateParts) (h : HgDraft) (links : List Id) (d : GitDraft) (node :
           differs = r.2.2;
         }))
 
-    pub asked : AreAsked s.known.hg new h.rows v.rows
+    pub asked : IsAskedOf s.known.hg new node v
     asked = record {
-      are = p.draft.rows;
-      held = p.held.files;
+      held = p.held;
       blobs = each-of_map (λ (o : Object). knows_object new o.id ≡ true) body_blob v.rows (subst (Each (λ (o : Object). knows_object new o.id ≡ true)) (sym blobs-are)
           (each-to_map (λ (o : Object). knows_object new o.id ≡ true) blob_of_row (files_among c.rows) (each_from (λ (row : TreeRow). knows_object new row.id ≡ true) (files_among c.rows) (λ row i.
           knows-new s.known.git d c p.ruled.made new grown row.id

@@ -1,122 +1,126 @@
 // The bodies of a changeset's files, beside the blobs of a store.
-ghost use Rattle.std.specs.Prelude.{◌≡◌, ◌&&◌, true, false, [], ◌∷◌, List, IfSome, bytes_eq, map};
-ghost use Rattle.text_model.specs.Id.{blob, has_id, same_kind};
+ghost use Rattle.std.specs.Prelude.{◌≡◌, ◌&&◌, true, false, List, IfSome, bytes_eq};
+ghost use Rattle.text_model.specs.Id.{blob, same_kind};
 ghost use Rattle.bridge_text.specs.Kinds.{object_kind};
 ghost use Rattle.text_model.specs.Lists.{Each, SomeOf};
+ghost use Rattle.hg_model.specs.Revision.{Revision};
+ghost use Rattle.git_model.specs.Object.{Object};
 ghost use Rattle.tree_shape.specs.Laws.{IsKnown};
-ghost use Rattle.view_model.specs.View.{ChangesetView, Row, entry_of_row};
-ghost use Rattle.view_model.specs.Held.{IsChangesetHeld};
+ghost use Rattle.view_model.specs.View.{ChangesetView};
+ghost use Rattle.hg_manifest.specs.Values.{manifest_entry};
 ghost use Rattle.pair_state.specs.Blocks.{body_blob};
-ghost use Rattle.pair_state.specs.Step.{AreAsked, AreBlobs, HaveBlobs, IsElse};
+ghost use Rattle.pair_state.specs.Step.{AreBlobs, HaveBlobs, IsAskedLine, IsAskedOf, IsBlobLine, IsElse, IsElseLine};
 
 use bridge_text::{Id, IdSet, Kind};
 use git_object::Objects;
+use hg_dump::lines_of;
 use hg_filelog::split;
-use hg_manifest::Manifest;
+use hg_manifest::{Beside, Cursor, Entry, Near};
 use hg_store::HgStore;
-use pair_known::{Cursor, HgDraft, HgRow, HgRows, Known};
+use pair_known::Known;
 
-/// Whether the blob of each file of a changeset is its body. Such a blob is an object of the store by its id, which need not be that of the
-/// body. A file with the revision that an agreed parent has needs no look at its body: that of the parent is a blob of the store.
-pub fn have_bodies(known: &Known, agreed: &IdSet, h: &HgDraft) -> bool
-    requires rows { (xs : List Row) × AreAsked known.now.hg known.now.git h.now.rows xs }
+/// Whether the blob of each file of a changeset, which is held, is its body. Such a blob is an object of the store by its id, which need not be
+/// that of the body. A file with the revision that an agreed parent has needs no look at its body: that of the parent is a blob of the store. Of
+/// the files that the first parent has too, whole blocks are passed over.
+pub fn have_bodies(known: &Known, agreed: &IdSet, node: &Id) -> bool
+    requires held { (v : ChangesetView) × IsAskedOf known.now.hg known.now.git node.now v }
     requires agreed { HaveBlobs known.now.hg known.now.git agreed.now }
-    ensures yes { result ≡ true → (xs : List Row) → AreAsked known.now.hg known.now.git h.now.rows xs → Each (λ x. IsKnown known.now.git (body_blob x)) xs }
-    ensures otherwise { result ≡ false → (xs : List Row) → AreAsked known.now.hg known.now.git h.now.rows xs → SomeOf xs (λ x. IsElse known.now.git (body_blob x)) }
+    ensures yes { result ≡ true → (v : ChangesetView) → IsAskedOf known.now.hg known.now.git node.now v
+        → Each (λ x. IsKnown known.now.git (body_blob x)) v.rows }
+    ensures otherwise { result ≡ false → (v : ChangesetView) → IsAskedOf known.now.hg known.now.git node.now v
+        → SomeOf v.rows (λ x. IsElse known.now.git (body_blob x)) }
 {
-    let first = walk_of(&known.hg, agreed, &h.p1);
-    let second = walk_of(&known.hg, agreed, &h.p2);
-    have_blobs(known, &h.rows, first, second)
+    let (p1, p2) = known.hg.parents_of(node).unwrap();
+    let lines = lines_of(&known.hg, node);
+    let near = lines_near(&known.hg, agreed, &p1);
+    have_blobs(known, lines, near, walk_of(&known.hg, agreed, &p2))
+}
+
+// The lines of a parent's manifest, where the parent is agreed, and else none.
+fn lines_near<'a>(hg: &'a HgStore, agreed: &IdSet, parent: &Id) -> Near<'a>
+    ensures { (git : List Object) → HaveBlobs hg.now git agreed.now → AreBlobs hg.now git result }
+{
+    if !agreed.contains(parent) {
+        return Near::none();
+    }
+    match hg.lines_of_changeset(parent) {
+        Some((_, lines)) => lines,
+        None => Near::none(),
+    }
 }
 
 // A walk through the manifest of a parent, where the parent is agreed.
 fn walk_of<'a>(hg: &'a HgStore, agreed: &IdSet, parent: &Id) -> Option<Cursor<'a>>
-    ensures { IfSome result (λ entries. (has_id agreed.now parent.now ≡ true)
-        × ((w : ChangesetView) → IsChangesetHeld hg.now parent.now w → map entry_of_row w.rows ≡ entries)) }
+    ensures { IfSome result (λ entries. (git : List Object) → HaveBlobs hg.now git agreed.now → AreBlobs hg.now git entries) }
 {
     if !agreed.contains(parent) {
         return None;
     }
-    match manifest_of(hg, parent) {
-        Some(manifest) => Some(Cursor::new(manifest)),
+    match hg.manifest_of_changeset(parent) {
+        Some((_, manifest)) => Some(Cursor::new(manifest)),
         None => None,
     }
 }
 
-// The manifest of a changeset.
-fn manifest_of<'a>(hg: &'a HgStore, node: &Id) -> Option<&'a Manifest>
-    ensures { IfSome result (λ m. (w : ChangesetView) → IsChangesetHeld hg.now node.now w → map entry_of_row w.rows ≡ m.now) }
-{
-    let Some((_, _, changeset)) = hg.changeset(node) else {
-        return None;
-    };
-    hg.manifest(&changeset.manifest)
-}
-
+// Whether the blob of each line's file is its body, where that is so of the lines that are near, and of those of the second parent.
 fn have_blobs(
     known: &Known,
-    rows: &HgRows,
-    mut first: Option<Cursor<'_>>,
+    lines: Near<'_>,
+    near: Near<'_>,
     mut second: Option<Cursor<'_>>,
 ) -> bool
-    requires rows { (xs : List Row) × AreAsked known.now.hg known.now.git rows.now xs }
-    requires first { IfSome first (λ entries. AreBlobs known.now.hg known.now.git entries) }
-    requires second { IfSome second (λ entries. AreBlobs known.now.hg known.now.git entries) }
-    ensures yes { result ≡ true → (xs : List Row) → AreAsked known.now.hg known.now.git rows.now xs → Each (λ x. IsKnown known.now.git (body_blob x)) xs }
-    ensures otherwise { result ≡ false → (xs : List Row) → AreAsked known.now.hg known.now.git rows.now xs → SomeOf xs (λ x. IsElse known.now.git (body_blob x)) }
+    requires lines { Each (IsAskedLine known.now.hg known.now.git) lines }
+    requires near { AreBlobs known.now.hg known.now.git near }
+    requires second { IfSome second (AreBlobs known.now.hg known.now.git) }
+    ensures yes { result ≡ true → AreBlobs known.now.hg known.now.git lines.entry }
+    ensures otherwise { result ≡ false → SomeOf lines.entry (IsElseLine known.now.hg known.now.git) }
 {
-    let list = rows.as_slice();
-    for row in list {
-        if !has_blob(known, row, &mut first, &mut second) {
+    let mut walk = Beside { lines, other: near };
+    while let Some(line) = walk.next() {
+        if !has_blob(known, line, &mut second) {
             return false;
         }
     }
     true
 }
 
-fn has_blob(
-    known: &Known,
-    row: &HgRow,
-    first: &mut Option<Cursor<'_>>,
-    second: &mut Option<Cursor<'_>>,
-) -> bool
-    requires row { (x : Row) × AreAsked known.now.hg known.now.git (row.now ∷ []) (x ∷ []) }
-    requires first { IfSome first.old (λ entries. AreBlobs known.now.hg known.now.git entries) }
-    requires second { IfSome second.old (λ entries. AreBlobs known.now.hg known.now.git entries) }
-    ensures yes { result ≡ true → (x : Row) → AreAsked known.now.hg known.now.git (row.now ∷ []) (x ∷ []) → IsKnown known.now.git (body_blob x) }
-    ensures otherwise { result ≡ false → (x : Row) → AreAsked known.now.hg known.now.git (row.now ∷ []) (x ∷ []) → IsElse known.now.git (body_blob x) }
-    ensures first { first.new ≡ first.old }
-    ensures second { second.new ≡ second.old }
+// Whether the blob of a line's file is its body, where that is so of the lines of the second parent.
+fn has_blob(known: &Known, line: &Entry, second: &mut Option<Cursor<'_>>) -> bool
+    requires line { IsAskedLine known.now.hg known.now.git (manifest_entry line.now) }
+    requires second { IfSome second.old (AreBlobs known.now.hg known.now.git) }
+    ensures yes { result ≡ true → IsBlobLine known.now.hg known.now.git (manifest_entry line.now) }
+    ensures otherwise { result ≡ false → IsElseLine known.now.hg known.now.git (manifest_entry line.now) }
+    ensures same { second.new ≡ second.old }
 {
-    is_kept(known, row, first) || is_kept(known, row, second) || has_body(known, row)
+    is_kept(line, second) || has_body(known, line)
 }
 
 // Whether a parent has the file with the same revision.
-fn is_kept(known: &Known, row: &HgRow, parent: &mut Option<Cursor<'_>>) -> bool
-    requires parent { IfSome parent.old (λ entries. AreBlobs known.now.hg known.now.git entries) }
-    ensures kept { result ≡ true → (x : Row) → AreAsked known.now.hg known.now.git (row.now ∷ []) (x ∷ []) → IsKnown known.now.git (body_blob x) }
+fn is_kept(line: &Entry, parent: &mut Option<Cursor<'_>>) -> bool
+    ensures kept { result ≡ true → (hg : List Revision) (git : List Object) → IfSome parent.old (AreBlobs hg git)
+        → IsBlobLine hg git (manifest_entry line.now) }
     ensures same { parent.new ≡ parent.old }
 {
-    let Some(walk) = parent else {
-        return false;
-    };
-    match walk.get(row.path.as_slice()) {
-        Some(entry) => entry.node == row.node,
+    match parent {
+        Some(walk) => walk.has_line(line.path.as_slice(), &line.node),
         None => false,
     }
 }
 
-fn has_body(known: &Known, row: &HgRow) -> bool
-    requires row { (x : Row) × AreAsked known.now.hg known.now.git (row.now ∷ []) (x ∷ []) }
-    ensures yes { result ≡ true → (x : Row) → AreAsked known.now.hg known.now.git (row.now ∷ []) (x ∷ []) → IsKnown known.now.git (body_blob x) }
-    ensures otherwise { result ≡ false → (x : Row) → AreAsked known.now.hg known.now.git (row.now ∷ []) (x ∷ []) → IsElse known.now.git (body_blob x) }
+// Whether the blob of a line's file is its body.
+fn has_body(known: &Known, line: &Entry) -> bool
+    requires line { IsAskedLine known.now.hg known.now.git (manifest_entry line.now) }
+    ensures yes { result ≡ true → IsBlobLine known.now.hg known.now.git (manifest_entry line.now) }
+    ensures otherwise { result ≡ false → IsElseLine known.now.hg known.now.git (manifest_entry line.now) }
 {
-    let text = known.hg.file_text(row.path.as_slice(), &row.node).unwrap();
+    let path = line.path.as_slice();
+    let text = known.hg.file_text(path, &line.node).unwrap();
     let body = match split(text) {
         Ok((_, body)) => body,
         Err(_) => unreachable!(),
     };
-    match known.git.content(&row.blob) {
+    let blob = known.hg.file_blob(path, &line.node).unwrap();
+    match known.git.content(&blob) {
         Some((kind, content)) => is_blob_of(kind, content, body),
         None => unreachable!(),
     }

@@ -107,7 +107,7 @@ impl StateParts {
             DraftTexts::none(),
         )?;
         add_commit(&mut self.known.git, commit, id, text)?;
-        let agreed = have_bodies(&self.known, &self.agreed, &block.last);
+        let agreed = have_bodies(&self.known, &self.agreed, &nodes.last);
         check_bodies(agreed, stored)?;
         put_where(&mut self.agreed, nodes.last, agreed)?;
         self.insert(nodes.links.as_slice(), nodes.last, id)?;
@@ -138,7 +138,7 @@ impl StateParts {
             return Err(PushFault::Collision);
         }
         add_commit(&mut self.known.git, commit, id, text)?;
-        if !have_bodies(&self.known, &self.agreed, h) {
+        if !have_bodies(&self.known, &self.agreed, &node) {
             return Err(PushFault::Collision);
         }
         self.agreed.insert(node)?;

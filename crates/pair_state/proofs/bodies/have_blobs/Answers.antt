@@ -1,33 +1,47 @@
-use Rattle.std.proofs.Common.{sym, subst, ◌∙◌}
+use Rattle.std.proofs.Common.{refl, sym, subst, ◌∙◌}
 use Rattle.std.specs.Prelude.{IfSome}
-use Rattle.tree_shape.specs.Laws.{IsKnown}
-use Rattle.pair_state.specs.Blocks.{body_blob}
-use Rattle.pair_state.specs.Step.{AreBlobs, IsElse}
-use Rattle.pair_state.proofs.BodyLemmas.{asked-at, each-more, some-at, value-at}
+use Rattle.text_model.proofs.Elements.{each_in}
+use Rattle.hg_manifest.specs.Values.{manifest_entry}
+use Rattle.pair_state.specs.Step.{AreBlobs, IsAskedLine, IsElseLine}
+use Rattle.pair_state.proofs.KeptLemmas.{starts, goes-on, ends, told-in, some-in}
 use Rattle.pair_state.proofs.bodies.have_blobs.Goals as goal
+
+pub loop-line-init : goal.loop-line-init
+loop-line-init c = record {
+  same = refl;
+  to = starts c.args.known.now.hg c.args.known.now.git c.args.lines c.args.near;
+}
 
 pub has_blob-requires : goal.has_blob-requires
 has_blob-requires c =
-    let at = value-at c.args.rows.now c.as_slice-list.result.now c.loop-row.row-index c.row-item.result c.as_slice-list.ensures c.loop-row-test.true c.row-item.is in
-    let x = asked-at c.args.known.now.hg c.args.known.now.git c.args.rows.now c.requires.rows.0 c.loop-row.row-index c.row-item.result c.requires.rows.1 at in
+    let known = c.args.known.now in
+    let e = manifest_entry c.in-Some.line.now in
     record {
-      row = (x.row, x.asked);
-      first = subst (λ o. IfSome o (λ entries. AreBlobs c.args.known.now.hg c.args.known.now.git entries)) (sym c.loop-row.invariant.0) c.requires.first;
-      second = subst (λ o. IfSome o (λ entries. AreBlobs c.args.known.now.hg c.args.known.now.git entries)) (sym c.loop-row.invariant.1) c.requires.second;
+      line = each_in (IsAskedLine known.hg known.git) c.args.lines e c.requires.lines
+          (told-in known.hg known.git c.args.lines c.args.near c.loop-line.walk c.next.new.self e c.loop-line.invariant.to c.in-Some.ensures.some);
+      second = subst (λ o. IfSome o (AreBlobs known.hg known.git)) (sym c.loop-line.invariant.same) c.requires.second;
     }
 
 pub returns-then-not-has_blob-clause-otherwise : goal.returns-then-not-has_blob-clause-otherwise
-returns-then-not-has_blob-clause-otherwise c = λ _ xs asked.
-    let at = value-at c.args.rows.now c.as_slice-list.result.now c.loop-row.row-index c.row-item.result c.as_slice-list.ensures c.loop-row-test.true c.row-item.is in
-    let x = asked-at c.args.known.now.hg c.args.known.now.git c.args.rows.now xs c.loop-row.row-index c.row-item.result asked at in
-    some-at (λ x. IsElse c.args.known.now.git (body_blob x)) xs c.loop-row.row-index x.row x.at (c.has_blob.ensures.otherwise c.if-not-has_blob.true x.row x.asked)
+returns-then-not-has_blob-clause-otherwise c = λ _.
+    let known = c.args.known.now in
+    let e = manifest_entry c.in-Some.line.now in
+    some-in (IsElseLine known.hg known.git) c.args.lines e
+    (told-in known.hg known.git c.args.lines c.args.near c.loop-line.walk c.next.new.self e c.loop-line.invariant.to c.in-Some.ensures.some)
+    (c.has_blob.ensures.otherwise c.if-not-has_blob.true)
 
-pub loop-row-preserved : goal.loop-row-preserved
-loop-row-preserved c = (
-  c.has_blob.ensures.first ∙ c.loop-row.invariant.0,
-  c.has_blob.ensures.second ∙ c.loop-row.invariant.1,
-  λ xs asked.
-      let at = value-at c.args.rows.now c.as_slice-list.result.now c.loop-row.row-index c.row-item.result c.as_slice-list.ensures c.loop-row-test.true c.row-item.is in
-      let x = asked-at c.args.known.now.hg c.args.known.now.git c.args.rows.now xs c.loop-row.row-index c.row-item.result asked at in
-      each-more (λ x. IsKnown c.args.known.now.git (body_blob x)) xs c.loop-row.row-index x.row (c.loop-row.invariant.2 xs asked) x.at (c.has_blob.ensures.yes c.if-not-has_blob.false x.row x.asked),
-)
+pub loop-line-preserved : goal.loop-line-preserved
+loop-line-preserved c =
+    let known = c.args.known.now in
+    let e = manifest_entry c.in-Some.line.now in
+    record {
+      same = c.has_blob.ensures.same ∙ c.loop-line.invariant.same;
+      to = goes-on known.hg known.git c.args.lines c.args.near c.loop-line.walk c.next.new.self e c.loop-line.invariant.to c.in-Some.ensures.some
+          c.requires.near (c.has_blob.ensures.yes c.if-not-has_blob.false);
+    }
+
+pub returns-clause-yes : goal.returns-clause-yes
+returns-clause-yes c = λ _.
+    let known = c.args.known.now in
+    ends known.hg known.git c.args.lines c.args.near c.loop-line.walk c.requires.near c.loop-line.invariant.to
+    (c.next.ensures.none c.in_default.is)

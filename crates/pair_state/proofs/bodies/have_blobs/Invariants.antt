@@ -1,12 +1,13 @@
-use Rattle.std.proofs.Common.{◌≡◌, List, take}
-use Rattle.text_model.specs.Lists.{Each}
-use Rattle.tree_shape.specs.Laws.{IsKnown}
-use Rattle.view_model.specs.View.{Row}
-use Rattle.pair_state.specs.Blocks.{body_blob}
-use Rattle.pair_state.specs.Step.{AreAsked}
+use Rattle.std.proofs.Common.{◌≡◌, length}
+use Rattle.pair_state.proofs.KeptLemmas.{AreBlobsTo}
 use Rattle.pair_state.proofs.bodies.have_blobs.Given as goal
 
--- the files so far have their bodies, and the parents' files are as they were
-abbrev pub invariant-loop-row : goal.invariant-loop-row
-invariant-loop-row l = (l.first ≡ l.fn.first) × (l.second ≡ l.fn.second)
-    × ((xs : List Row) → AreAsked l.known.hg l.known.git l.fn.rows xs → Each (λ x. IsKnown l.known.git (body_blob x)) (take l.row-index xs))
+-- the files so far have their bodies, and the second parent's files are as they were
+abbrev pub invariant-loop-line : goal.invariant-loop-line
+invariant-loop-line l = record {
+  same : l.second ≡ l.fn.second;
+  to : AreBlobsTo l.known.hg l.known.git l.fn.lines l.fn.near l.walk;
+}
+
+abbrev pub decreases-loop-line : goal.decreases-loop-line
+decreases-loop-line l = length (l.walk).lines

@@ -57,8 +57,8 @@ returns-in_err-add_commit-clause-collision c = λ is blocks b p.
     objects-clash s c.args.block.now c.args.commit blocks b p
     (subst (λ (o : Object). Clash s.known.git (c.args.commit.fresh ++ c.args.commit.trees ++ o ∷ [])) same (c.in_err-add_commit.ensures.collision (errs _ _ (ap Err (sym q.2) ∙ sym q.1 ∙ is))))
 
-pub have_bodies-agreed-requires-clause-rows : goal.have_bodies-agreed-requires-clause-rows
-have_bodies-agreed-requires-clause-rows c =
+pub have_bodies-agreed-requires-clause-held : goal.have_bodies-agreed-requires-clause-held
+have_bodies-agreed-requires-clause-held c =
     let blocks = c.requires.block.0 in
     let b = c.requires.block.1 in
     let p = c.requires.block.2 in
@@ -67,7 +67,7 @@ have_bodies-agreed-requires-clause-rows c =
     let same = own-is s.known.git c.args.commit b.commit p.made c.in_ok-text.text c.in_ok-text.ensures c.object_id-id.result hash in
     let grown = subst (λ (o : Object). HasGrown s.known.git c.add_commit.new.git (c.args.commit.fresh ++ c.args.commit.trees ++ o ∷ [])) same c.in_ok-add_commit.ensures.ok in
     let came = c.in_ok-nodes.ensures.came blocks b.links b.changeset (whole-parts s c.args.block.now blocks b p.brings) in
-    ((b.changeset).rows, asked s c.args.block.now c.args.commit blocks b p c.add_parts.new.hg came c.add_commit.new.git grown)
+    (b.changeset, asked s c.args.block.now c.args.commit blocks b p c.add_parts.new.hg came c.add_commit.new.git grown c.in_ok-nodes.nodes.last (c.in_ok-nodes.ensures.last blocks b.links b.changeset (whole-parts s c.args.block.now blocks b p.brings)))
 
 pub have_bodies-agreed-requires-clause-agreed : goal.have_bodies-agreed-requires-clause-agreed
 have_bodies-agreed-requires-clause-agreed c =
@@ -93,7 +93,7 @@ returns-in_err-check_bodies-clause-collision c = λ is blocks b p.
     let no = c.in_err-check_bodies.ensures.collision (errs _ _ (ap Err (sym q.2) ∙ sym q.1 ∙ is)) in
     body-collides s c.args.block.now c.args.commit blocks b p c.add_parts.new.hg came c.add_commit.new.git grown
     (ap (knows_object s.known.git) (sym id) ∙ sym c.is_stored-stored.ensures ∙ no.1)
-    (c.have_bodies-agreed.ensures.otherwise no.0 (b.changeset).rows (asked s c.args.block.now c.args.commit blocks b p c.add_parts.new.hg came c.add_commit.new.git grown))
+    (c.have_bodies-agreed.ensures.otherwise no.0 b.changeset (asked s c.args.block.now c.args.commit blocks b p c.add_parts.new.hg came c.add_commit.new.git grown c.in_ok-nodes.nodes.last (c.in_ok-nodes.ensures.last blocks b.links b.changeset (whole-parts s c.args.block.now blocks b p.brings))))
 
 pub insert-requires-clause-few : goal.insert-requires-clause-few
 insert-requires-clause-few c =
@@ -123,7 +123,7 @@ returns-clause-ok c = λ blocks b p.
     let came = c.in_ok-nodes.ensures.came blocks b.links b.changeset of in
     let free = none_is (block_of_id blocks _) (ap (λ (i : Id). is_some (block_of_id blocks i)) (sym id) ∙ sym (hg-some s.known blocks p.brings.state.held c.object_id-id.result) ∙ sym (ap is_some c.hg_of.ensures.partner) ∙ sym c.is_some.ensures ∙ c.if-is_some.false) in
     pushed s c.args.block.now c.args.commit blocks b p c.add_parts.new.hg came c.add_commit.new.git grown p.brings.state.sound c.in_ok-add_commit.ensures.sound
-    c.have_bodies-agreed.result (λ e. c.have_bodies-agreed.ensures.yes e (b.changeset).rows (asked s c.args.block.now c.args.commit blocks b p c.add_parts.new.hg came c.add_commit.new.git grown))
+    c.have_bodies-agreed.result (λ e. c.have_bodies-agreed.ensures.yes e b.changeset (asked s c.args.block.now c.args.commit blocks b p c.add_parts.new.hg came c.add_commit.new.git grown c.in_ok-nodes.nodes.last (c.in_ok-nodes.ensures.last blocks b.links b.changeset (whole-parts s c.args.block.now blocks b p.brings))))
     (known-of c.have_bodies-agreed.result s.known.git c.is_stored-stored.result c.object_id-id.result _ id c.is_stored-stored.ensures c.in_ok-check_bodies.ensures.ok)
     free c.in_ok-nodes.nodes.links (c.in_ok-nodes.ensures.links blocks b.links b.changeset of) c.in_ok-nodes.nodes.last (c.in_ok-nodes.ensures.last blocks b.links b.changeset of)
     c.object_id-id.result id c.put_where.new.set c.in_ok-put_where.ensures c.insert.new.self

@@ -48,14 +48,14 @@ returns-in_err-add_commit-clause-collision c = λ is blocks b p.
     parts-collide s c.args.h.now c.args.links.now c.args.commit c.args.node blocks b p
     (subst (λ (o : Object). Clash s.known.git (c.args.commit.fresh ++ c.args.commit.trees ++ o ∷ [])) same (c.in_err-add_commit.ensures.collision (errs _ _ (ap Err (sym q.2) ∙ sym q.1 ∙ is))))
 
-pub have_bodies-requires-clause-rows : goal.have_bodies-requires-clause-rows
-have_bodies-requires-clause-rows c =
+pub have_bodies-requires-clause-held : goal.have_bodies-requires-clause-held
+have_bodies-requires-clause-held c =
     let s = c.args.self.now in
     let hash = c.object_id-id.ensures ∙ ap (object_id commit) c.as_slice-2.ensures in
     let b = c.requires.block.1 in
     let same = own-is s.known.git c.args.commit b.commit (c.requires.block.2).ruled.made c.in_ok-text.text c.in_ok-text.ensures c.object_id-id.result hash in
     let grown = subst (λ (o : Object). HasGrown s.known.git c.add_commit.new.git (c.args.commit.fresh ++ c.args.commit.trees ++ o ∷ [])) same c.in_ok-add_commit.ensures.ok in
-    ((b.changeset).rows, asked s c.args.h.now c.args.links.now c.args.commit c.args.node c.requires.block.0 b c.requires.block.2 c.add_commit.new.git grown)
+    (b.changeset, asked s c.args.h.now c.args.links.now c.args.commit c.args.node c.requires.block.0 b c.requires.block.2 c.add_commit.new.git grown)
 
 pub have_bodies-requires-clause-agreed : goal.have_bodies-requires-clause-agreed
 have_bodies-requires-clause-agreed c =
@@ -69,7 +69,7 @@ returns-then-not-have_bodies-clause-collision c = λ _ blocks b p.
     let same = own-is s.known.git c.args.commit b.commit p.ruled.made c.in_ok-text.text c.in_ok-text.ensures c.object_id-id.result hash in
     let grown = subst (λ (o : Object). HasGrown s.known.git c.add_commit.new.git (c.args.commit.fresh ++ c.args.commit.trees ++ o ∷ [])) same c.in_ok-add_commit.ensures.ok in
     body-collides s c.args.h.now c.args.links.now c.args.commit c.args.node blocks b p c.add_commit.new.git grown
-    (c.have_bodies.ensures.otherwise c.if-not-have_bodies.true (b.changeset).rows (asked s c.args.h.now c.args.links.now c.args.commit c.args.node blocks b p c.add_commit.new.git grown))
+    (c.have_bodies.ensures.otherwise c.if-not-have_bodies.true b.changeset (asked s c.args.h.now c.args.links.now c.args.commit c.args.node blocks b p c.add_commit.new.git grown))
 
 pub insert-requires-2-clause-node_is_free : goal.insert-requires-2-clause-node_is_free
 insert-requires-2-clause-node_is_free c =
@@ -87,7 +87,7 @@ returns-clause-ok c = λ blocks b p.
     let free = none_is (block_of_id blocks _) (ap (λ (i : Id). is_some (block_of_id blocks i)) (sym id) ∙ sym (hg-some s.known blocks p.state.held c.object_id-id.result) ∙ sym (ap is_some c.hg_of.ensures.partner) ∙ sym c.is_some.ensures ∙ c.if-is_some.false) in
     let apart = sym (ap (list_any (has_id s.changesets)) c.as_slice.ensures) ∙ sym c.contains_any.ensures ∙ c.if-contains_any.false in
     pushed s c.args.h.now c.args.links.now c.args.commit c.args.node blocks b p c.add_commit.new.git grown p.state.sound c.in_ok-add_commit.ensures.sound
-    (c.have_bodies.ensures.yes c.if-not-have_bodies.false (b.changeset).rows (asked s c.args.h.now c.args.links.now c.args.commit c.args.node blocks b p c.add_commit.new.git grown))
+    (c.have_bodies.ensures.yes c.if-not-have_bodies.false b.changeset (asked s c.args.h.now c.args.links.now c.args.commit c.args.node blocks b p c.add_commit.new.git grown))
     (c.views_are_held.ensures.node b.changeset p.held) free apart c.object_id-id.result id
     c.insert.new.self (inserted c.insert.new.self s.agreed c.args.node c.in_ok-insert.field-0 c.in_ok-insert.ensures.ok)
     c.insert-2.new.self (subst (λ (ids : List Id). IsPushed (with_objects s c.add_commit.new.git c.insert.new.self) c.insert-2.new.self ids c.args.node c.object_id-id.result) c.as_slice-3.ensures c.in_ok-insert-2.ensures)
