@@ -1,10 +1,10 @@
 // The pulls into a saved state.
-ghost use Rattle.std.specs.Prelude.{◌≡◌, IfOk};
+ghost use Rattle.std.specs.Prelude.{◌≡◌, Some, IfOk};
 ghost use Rattle.command_model.specs.Command as model;
 ghost use Rattle.state_model.specs.Kept as saved;
 ghost use Rattle.state_model.specs.Saved.{IsState, IsStateText};
 ghost use Rattle.state_text.specs.Stands.{Stands};
-ghost use Rattle.bridge_cli.specs.Makes.{IsNextText, LeavesCount, LeavesSlotCount, Makes};
+ghost use Rattle.bridge_cli.specs.Makes.{LeavesCount, LeavesSlotCount, Makes};
 ghost use Rattle.bridge_cli.specs.Steps.{StepsOf};
 
 use crate::fetch::fetch_state;
@@ -35,7 +35,7 @@ pub fn commits_of_bundle<I: Source, K: Slot, L: Ledger>(
 {
     let state = fetch_state(alloc, slot)?;
     let pulled = pull_hg(state, input, steps)?;
-    Ok(saved_work(pulled)?)
+    Ok(saved_work(pulled))
 }
 
 /// The bundle of the changesets of a stream's commits, and the next state.
@@ -53,23 +53,26 @@ pub fn changesets_of_stream<I: Source, K: Slot, L: Ledger>(
 {
     let state = fetch_state(alloc, slot)?;
     let pulled = pull_git(state, input, steps)?;
-    Ok(saved_work(pulled)?)
+    Ok(saved_work(pulled))
 }
 
 // What an accepted pull is to write, and the text of its next state. The state keeps its memory until the program ends: to give it back part by
 // part takes time, and a run needs it no more.
-fn saved_work(pulled: Pulled) -> Result<Work, NoMemory>
-    requires stands { (m : saved.State) × Stands pulled.state m }
-    ensures output { IfOk result (λ w. w.output ≡ pulled.made) }
-    ensures text { IfOk result (λ w. IsNextText pulled.state w.text) }
+fn saved_work(pulled: Pulled) -> Work
+    ensures output { result.output ≡ pulled.made }
+    ensures text { result.text ≡ Some pulled.text }
 {
-    let Pulled { state, made, .. } = pulled;
-    let text = text_of(&state)?;
+    let Pulled {
+        state,
+        made,
+        text,
+        ..
+    } = pulled;
     forget(state);
-    Ok(Work {
+    Work {
         output: made,
         text: Some(text),
-    })
+    }
 }
 
 /// The text of a state.

@@ -4,16 +4,15 @@ use Rattle.text_model.specs.Lists.{In}
 use Rattle.text_model.specs.Text.{Bytes}
 use Rattle.hg_model.specs.Reading.{Arrival, bundle_reading}
 use Rattle.hg_bundle.specs.declared.arrival.Arrival as listed
-use Rattle.git_model.specs.Object.{Object}
 use Rattle.git_store.specs.Growth.{IsWithin}
 use Rattle.pair_model.specs.Block.{Block, node_of}
 use Rattle.history_model.specs.Pull.{State, BundleBrings, PullHgRefuses, known_with, changesets_among}
 use Rattle.state_model.specs.Kept as saved
-use Rattle.state_model.specs.Kept.{Kept, kept_of}
+use Rattle.state_model.specs.Kept.{Kept, kept_of, with_kept}
 use Rattle.saved_model.specs.Step.{OfBundle, Refuses, known_of, first_large_block, place_of_node}
 use Rattle.bridge_text.specs.declared.fault.Fault.TheVariants.{StateLimit}
 use Rattle.pair_state.specs.declared.state_parts.StateParts.{StateParts}
-use Rattle.state_size.specs.Large.{kept_up_to}
+use Rattle.state_size.specs.Large.{StandsInOrder, kept_up_to}
 use Rattle.state_text.specs.Stands.{AreAt, Stands}
 use Rattle.next_law.proofs.Known.{saved-of, sound-known}
 use Rattle.next_law.proofs.Pulls.{own}
@@ -23,7 +22,7 @@ use Rattle.pull_outcome.specs.Pulls.{PulledHg, GoesOnHg, RefusesHg}
 use Rattle.pull_outcome.specs.Refused.{IsRefusedBy}
 use Rattle.pull_outcome.specs.Steps.{StepsHg}
 use Rattle.pair_state.specs.AllBlocks.{state_value}
-use Rattle.pull_engine.specs.Limit.{IsMeasured, IsLargeBundle, refused_at}
+use Rattle.pull_engine.specs.Limit.{IsLargeBundle, refused_at}
 use Rattle.pull_engine.specs.Places.{node_place}
 use Rattle.pull_engine.specs.Read.{IsReadState, IsPulled}
 use Rattle.pull_engine.proofs.Came.{block-among, changeset-came, node-same}
@@ -31,12 +30,12 @@ use Rattle.pull_engine.proofs.Earlier.{bundle-earlier}
 use Rattle.pull_engine.proofs.Lookups.{within-of}
 use Rattle.pull_engine.proofs.Next.{state-is, tags-stay, stands-on, old-is, new-is, refused-for, few-steps}
 
--- what is said of all states that can be measured
+-- what is said of all states that it stands for
 abbrev pub IsSmall : HgPulled → Type 0
-IsSmall p = (blocks : List Block) (kept : List Object) → IsMeasured p.state blocks kept → first_large_block (kept_up_to p.first_new blocks kept) (drop p.first_new blocks) ≡ None
+IsSmall p = (n : saved.State) → StandsInOrder p.state n → first_large_block (kept_up_to p.first_new n.blocks n.tags) (drop p.first_new n.blocks) ≡ None
 
 abbrev pub IsLarge : HgPulled → PullFault → Type 0
-IsLarge p fault = (blocks : List Block) (kept : List Object) → IsMeasured p.state blocks kept → IsLargeBundle (kept_up_to p.first_new blocks kept) (drop p.first_new blocks) p.arrivals fault
+IsLarge p fault = (n : saved.State) → StandsInOrder p.state n → IsLargeBundle (kept_up_to p.first_new n.blocks n.tags) (drop p.first_new n.blocks) p.arrivals fault
 
 -- ---- what follows whatever the source tells
 
@@ -80,23 +79,24 @@ module _ (s : StateParts) (m : saved.State) (read : IsReadState s m) (bytes : By
     brings : BundleBrings (known_of k) came new
     brings = subst (λ (st : State). BundleBrings st came new) (state-is s m read) (done.makes).brings
 
-    measured : IsMeasured p.state (m.blocks ++ new) m.tags
-    measured = record {
-      state = done.next;
-      tags = tags-left s m read p on;
-      earlier = bundle-earlier m read.saved bytes came new reads brings;
-    }
+    abbrev next : Kept
+    next = record { blocks = m.blocks ++ new; tags = m.tags }
+
+    stands : Stands p.state (with_kept m next)
+    stands = stands-on s m read p.state (m.blocks ++ new) m.tags done.next (tags-left s m read p on) on.names
+
+    in-order : StandsInOrder p.state (with_kept m next)
+    in-order = record { stands = stands; parents = bundle-earlier m read.saved bytes came new reads brings }
 
     sizes : first_large_block (kept_up_to p.first_new (m.blocks ++ new) m.tags) (drop p.first_new (m.blocks ++ new)) ≡ first_large_block k new
     sizes = λ i. first_large_block (old-is m.blocks new m.tags p.first_new done.first_new i) (new-is m.blocks new m.tags p.first_new done.first_new i)
 
-    pub accepted : IsSmall p → IsPulled m (OfBundle bytes) (record { state = p.state; first_new = p.first_new; made = p.made })
-    accepted small =
-        let next : Kept = record { blocks = m.blocks ++ new; tags = m.tags } in
-        let none = sym sizes ∙ small (m.blocks ++ new) m.tags measured in (
+    pub accepted : IsSmall p → (text : Bytes) → IsPulled m (OfBundle bytes) (record { state = p.state; first_new = p.first_new; made = p.made; text = text })
+    accepted small text =
+        let none = sym sizes ∙ small (with_kept m next) in-order in (
           next,
           (new, [], (record { arrivals = came; reads = reads; brings = brings; small = none }, refl), (λ i. record { blocks = m.blocks ++ new; tags = sym (append-nil m.tags) i }), (done.makes).is),
-          stands-on s m read p.state (m.blocks ++ new) m.tags done.next measured.tags on.names,
+          stands,
           done.first_new,
         )
 
@@ -108,7 +108,7 @@ module _ (s : StateParts) (m : saved.State) (read : IsReadState s m) (bytes : By
         (at.0, at.1, ap (λ (l : List listed.Arrival). node_place l (node_of b)) done.came ∙ node-same came (node_of b) ∙ at.1)
 
     pub refused-large : (fault : PullFault) → IsLarge p fault → IsRefusedBy (Refuses k (OfBundle bytes)) fault
-    refused-large fault large = by (large (m.blocks ++ new) m.tags measured)
+    refused-large fault large = by (large (with_kept m next) in-order)
       where
         Due : PullFault → Type 0
         Due = IsRefusedBy (Refuses k (OfBundle bytes))

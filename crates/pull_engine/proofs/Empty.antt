@@ -1,5 +1,4 @@
 -- A state that holds nothing is the empty one as it is read.
-use Rattle.std.proofs.Common.{refl}
 use Rattle.view_model.specs.Dump.{brought_by, paths_in}
 use Rattle.saved_model.specs.Step.{in_written_order}
 use Rattle.next_law.proofs.EmptySaved.{is-state}

@@ -10,7 +10,7 @@ use Rattle.git_model.specs.Object.{Object}
 use Rattle.git_store.specs.Growth.{IsWithin, IsThere}
 use Rattle.pair_model.specs.Block.{Block}
 use Rattle.state_model.specs.Kept as saved
-use Rattle.state_model.specs.Kept.{Kept, kept_of, with_kept}
+use Rattle.state_model.specs.Kept.{Kept, kept_of, with_kept, ids_of}
 use Rattle.saved_model.specs.Step.{known_of}
 use Rattle.pair_state.specs.declared.state_parts.StateParts.{StateParts}
 use Rattle.pair_state.specs.AllBlocks.{HasAllBlocks, state_value}
@@ -54,6 +54,17 @@ module _ (blocks new : List Block) (tags : List Object) (n : ℕ) (is : n ≡ le
 
   pub new-is : drop n (blocks ++ new) ≡ new
   new-is = ap (λ (j : ℕ). drop j (blocks ++ new)) is ∙ drop_front blocks new
+
+-- the tags that there were, and those behind them
+module _ (s : StateParts) (tags new : List Object) (n : ℕ) (are : s.tags ≡ ids_of tags) (is : n ≡ length s.tags) where
+  count : n ≡ length tags
+  count = is ∙ ap length are ∙ length-map tags (λ (o : Object). o.id)
+
+  pub old-tags : take n (tags ++ new) ≡ tags
+  old-tags = ap (λ (j : ℕ). take j (tags ++ new)) count ∙ take_front tags new
+
+  pub new-tags : drop n (tags ++ new) ≡ new
+  new-tags = ap (λ (j : ℕ). drop j (tags ++ new)) count ∙ drop_front tags new
 
 pub count-is : (s : StateParts) (blocks : List Block) → IsStateOf s blocks → length s.blocks ≡ length blocks
 count-is s blocks state = sym (length-map s.blocks value_of) ∙ ap length state.blocks_are ∙ length-map blocks block_value

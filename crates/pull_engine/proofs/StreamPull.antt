@@ -1,5 +1,5 @@
 -- What a pull of a stream makes of a saved state.
-use Rattle.std.proofs.Common.{◌≡◌, ◌≤◌, ◌+◌, ◌*◌, ℕ, List, [], ◌∷◌, ◌++◌, length, drop, map, Some, None, Ok, refl, sym, ap, subst, ◌∙◌, inl, inr, append-nil}
+use Rattle.std.proofs.Common.{◌≡◌, ◌≤◌, ◌+◌, ◌*◌, ℕ, List, [], ◌∷◌, ◌++◌, length, take, drop, map, Some, None, Ok, refl, sym, ap, subst, ◌∙◌, inl, inr, append-nil}
 use Rattle.std.specs.Prelude.{find}
 use Rattle.text_model.specs.Lists.{In, Each}
 use Rattle.text_model.specs.Text.{Bytes}
@@ -19,13 +19,13 @@ use Rattle.view_model.specs.Dump.{revisions_in, hg_increment}
 use Rattle.pair_model.specs.Block.{Block, id_of, changesets_in}
 use Rattle.history_model.specs.Pull.{State, StreamBrings, PullGitRefuses, objects_with, saved_ids, place_of}
 use Rattle.state_model.specs.Kept as saved
-use Rattle.state_model.specs.Kept.{Kept, kept_of}
+use Rattle.state_model.specs.Kept.{Kept, kept_of, with_kept, ids_of}
 use Rattle.saved_model.specs.Step.{OfStream, Refuses, known_of, with_blocks, first_large_block, first_large_tag, lacks_target, new_tags, next_of, made_of}
 use Rattle.bridge_text.specs.declared.fault.Fault.TheVariants.{StateLimit}
 use Rattle.pair_state.specs.declared.state_parts.StateParts.{StateParts}
 use Rattle.pair_state.specs.AllBlocks.{state_value}
-use Rattle.state_size.specs.Large.{kept_up_to}
-use Rattle.state_text.specs.Stands.{AreAt}
+use Rattle.state_size.specs.Large.{StandsInOrder, kept_up_to}
+use Rattle.state_text.specs.Stands.{Stands}
 use Rattle.next_law.proofs.Known.{saved-of, sound-known}
 use Rattle.next_law.proofs.Pulls.{checked}
 use Rattle.pull_stream.proofs.Growth.{each-placed}
@@ -36,28 +36,28 @@ use Rattle.pull_outcome.specs.declared.refused.PullFault.{PullFault}
 use Rattle.pull_outcome.specs.Pulls.{PulledGit, GoesOnGit, RefusesGit}
 use Rattle.pull_outcome.specs.Refused.{IsRefusedBy}
 use Rattle.pull_outcome.specs.Steps.{StepsGit}
-use Rattle.pull_engine.specs.Limit.{IsMeasured, IsLargeStream, refused_at}
+use Rattle.pull_engine.specs.Limit.{IsLargeStream, refused_at}
 use Rattle.pull_engine.specs.Read.{IsReadState, IsPulled}
 use Rattle.pull_engine.specs.Tags.{IsAsked, AreNewTags, IsLacking, HasTags}
 use Rattle.pull_engine.proofs.Came.{block-among, tag-among, commit-came, tag-came}
 use Rattle.pull_engine.proofs.Earlier.{stream-earlier}
-use Rattle.pull_engine.proofs.Next.{state-is, old-is, new-is, refused-for, few-steps}
+use Rattle.pull_engine.proofs.Next.{state-is, old-is, new-is, old-tags, new-tags, refused-for, few-steps}
 use Rattle.pull_engine.proofs.NewTags as tag
 use Rattle.pull_engine.proofs.NewTags.{TagsAreNew, tags-left, stands-with}
 use Rattle.pull_engine.proofs.StreamBytes.{came-in}
 
--- what is said of all states that can be measured, and of all objects that came
-abbrev pub IsSmall : GitPulled → List Id → Type 0
-IsSmall p ids = (blocks : List Block) (kept new : List Object) → IsMeasured p.state blocks kept → AreAt (p.state).known.git ids new
-    → first_large_block (kept_up_to p.first_new blocks kept) (drop p.first_new blocks) ≡ None
+-- what is said of all states that the next parts stand for, and of all objects that came
+abbrev pub IsSmall : StateParts → ℕ → ℕ → Type 0
+IsSmall next first_new first_tag = (n : saved.State) → StandsInOrder next n
+    → first_large_block (kept_up_to first_new n.blocks (take first_tag n.tags)) (drop first_new n.blocks) ≡ None
 
-abbrev pub HasSmallTags : GitPulled → List Id → Type 0
-HasSmallTags p ids = (blocks : List Block) (kept new : List Object) → IsMeasured p.state blocks kept → AreAt (p.state).known.git ids new
-    → first_large_tag (with_blocks (kept_up_to p.first_new blocks kept) (drop p.first_new blocks)) new ≡ None
+abbrev pub HasSmallTags : StateParts → ℕ → ℕ → Type 0
+HasSmallTags next first_new first_tag = (n : saved.State) → StandsInOrder next n
+    → first_large_tag (with_blocks (kept_up_to first_new n.blocks (take first_tag n.tags)) (drop first_new n.blocks)) (drop first_tag n.tags) ≡ None
 
-abbrev pub IsLarge : GitPulled → List Id → PullFault → Type 0
-IsLarge p ids fault = (blocks : List Block) (kept new : List Object) → IsMeasured p.state blocks kept → AreAt (p.state).known.git ids new
-    → IsLargeStream (kept_up_to p.first_new blocks kept) (drop p.first_new blocks) new p.arrivals fault
+abbrev pub IsLarge : StateParts → ℕ → ℕ → List ObjectArrival → PullFault → Type 0
+IsLarge next first_new first_tag arrivals fault = (n : saved.State) → StandsInOrder next n
+    → IsLargeStream (kept_up_to first_new n.blocks (take first_tag n.tags)) (drop first_new n.blocks) (drop first_tag n.tags) arrivals fault
 
 abbrev pub LacksTarget : GitPulled → PullFault → Type 0
 LacksTarget p fault = (blocks : List Block) (tags : List Object) (placed : List Placed) → IsAsked p.state p.arrivals blocks tags placed
@@ -103,9 +103,6 @@ module _ (s : StateParts) (m : saved.State) (read : IsReadState s m) (bytes : By
     earlier : AreParentsEarlier [] (changesets_in all)
     earlier = stream-earlier m read.saved bytes came new reads brings
 
-    measured : IsMeasured p.state all m.tags
-    measured = record { state = done.next; tags = tags-left s m read p on came done.came came-held; earlier = earlier }
-
     asked : IsAsked p.state p.arrivals all m.tags came
     asked = tag.asked s m read p on came done.came came-held all done.next
 
@@ -123,18 +120,36 @@ module _ (s : StateParts) (m : saved.State) (read : IsReadState s m) (bytes : By
 
     -- ---- the new tags
 
-    module _ (ids : List Id) (are : TagsAreNew p ids) where
+    module _ (ids : List Id) (are : TagsAreNew p ids) (next : StateParts) (has : HasTags p.state next ids) (first_tag : ℕ) (first : first_tag ≡ length (p.state).tags) where
       right : AreNewTags all m.tags came ids
       right = are all m.tags came asked
 
-      tags-at : AreAt (p.state).known.git ids tags
-      tags-at = tag.tags-at s m read p on came done.came came-held all done.next ids are
+      abbrev after : Kept
+      after = record { blocks = all; tags = m.tags ++ tags }
 
-      sizes : first_large_block (kept_up_to p.first_new all m.tags) (drop p.first_new all) ≡ first_large_block k new
-      sizes = λ i. first_large_block (old-is m.blocks new m.tags p.first_new done.first_new i) (new-is m.blocks new m.tags p.first_new done.first_new i)
+      stands : Stands next (with_kept m after)
+      stands = stands-with s m read p on came done.came came-held all done.next ids are next has
 
-      tag-sizes : first_large_tag (with_blocks (kept_up_to p.first_new all m.tags) (drop p.first_new all)) tags ≡ first_large_tag (with_blocks k new) tags
-      tag-sizes = λ i. first_large_tag (with_blocks (old-is m.blocks new m.tags p.first_new done.first_new i) (new-is m.blocks new m.tags p.first_new done.first_new i)) tags
+      in-order : StandsInOrder next (with_kept m after)
+      in-order = record { stands = stands; parents = earlier }
+
+      kept-are : (p.state).tags ≡ ids_of m.tags
+      kept-are = (tags-left s m read p on came done.came came-held).0
+
+      old : kept_up_to p.first_new all (take first_tag (m.tags ++ tags)) ≡ k
+      old = ap (kept_up_to p.first_new all) (old-tags p.state m.tags tags first_tag kept-are first) ∙ old-is m.blocks new m.tags p.first_new done.first_new
+
+      added : drop p.first_new all ≡ new
+      added = new-is m.blocks new m.tags p.first_new done.first_new
+
+      behind : drop first_tag (m.tags ++ tags) ≡ tags
+      behind = new-tags p.state m.tags tags first_tag kept-are first
+
+      sizes : first_large_block (kept_up_to p.first_new all (take first_tag (m.tags ++ tags))) (drop p.first_new all) ≡ first_large_block k new
+      sizes = λ i. first_large_block (old i) (added i)
+
+      tag-sizes : first_large_tag (with_blocks (kept_up_to p.first_new all (take first_tag (m.tags ++ tags))) (drop p.first_new all)) (drop first_tag (m.tags ++ tags)) ≡ first_large_tag (with_blocks k new) tags
+      tag-sizes = λ i. first_large_tag (with_blocks (old i) (added i)) (behind i)
 
       -- where the commit of a new block and a new tag came
       listed-at : (id : Id) (at : ℕ) → place_of came id ≡ Some at → place_among p.arrivals id ≡ Some at
@@ -145,13 +160,13 @@ module _ (s : StateParts) (m : saved.State) (read : IsReadState s m) (bytes : By
           let sound = sound-known k (saved-of m read.saved) in
           commit-came (objects_with (known_of k) came) (checked (known_of k) sound bytes came reads) (known_of k).revisions m.blocks came (saved_ids (known_of k)) brings.ordered new brings.order brings.brings b i
 
-      pub refused-large : (fault : PullFault) → IsLarge p ids fault → IsRefusedBy (Refuses k (OfStream bytes)) fault
-      refused-large fault large = by (large all m.tags tags measured tags-at)
+      pub refused-large : (fault : PullFault) → IsLarge next p.first_new first_tag p.arrivals fault → IsRefusedBy (Refuses k (OfStream bytes)) fault
+      refused-large fault large = by (large (with_kept m after) in-order)
         where
           Due : PullFault → Type 0
           Due = IsRefusedBy (Refuses k (OfStream bytes))
 
-          by : IsLargeStream (kept_up_to p.first_new all m.tags) (drop p.first_new all) tags p.arrivals fault → Due fault
+          by : IsLargeStream (kept_up_to p.first_new all (take first_tag (m.tags ++ tags))) (drop p.first_new all) (drop first_tag (m.tags ++ tags)) p.arrivals fault → Due fault
           by (inl is) = subst Due (sym is) tt
           by (inr (inl (b, first, is))) =
               let found = sym sizes ∙ first in
@@ -181,8 +196,9 @@ module _ (s : StateParts) (m : saved.State) (read : IsReadState s m) (bytes : By
           (done.makes).is ∙ base-is-same known (changesets_in m.blocks) (changesets_in new) held behind
           ∙ ap (λ (hs : List ChangesetView). hg_increment (revisions_in hs) (changesets_in m.blocks) (changesets_in new)) (sym split)
 
-      pub accepted : IsSmall p ids → HasSmallTags p ids → (next : StateParts) → HasTags p.state next ids → IsPulled m (OfStream bytes) (record { state = next; first_new = p.first_new; made = p.made })
-      accepted small small_tags next has = (
+      pub accepted : IsSmall next p.first_new first_tag → HasSmallTags next p.first_new first_tag → (text : Bytes)
+          → IsPulled m (OfStream bytes) (record { state = next; first_new = p.first_new; made = p.made; text = text })
+      accepted small small_tags text = (
         next_of k new tags,
         (
           new,
@@ -193,13 +209,13 @@ module _ (s : StateParts) (m : saved.State) (read : IsReadState s m) (bytes : By
             brings = brings;
             targets = right.1;
             tags_are = refl;
-            small = sym sizes ∙ small all m.tags tags measured tags-at;
-            small_tags = sym tag-sizes ∙ small_tags all m.tags tags measured tags-at;
+            small = sym sizes ∙ small (with_kept m after) in-order;
+            small_tags = sym tag-sizes ∙ small_tags (with_kept m after) in-order;
           },
           refl,
           made-is,
         ),
-        stands-with s m read p on came done.came came-held all done.next ids are next has,
+        stands,
         done.first_new,
       )
 

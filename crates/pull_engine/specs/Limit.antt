@@ -1,30 +1,20 @@
 -- The limits of a saved state.
-use Rattle.std.specs.Prelude.{◌≡◌, ◌⊎◌, ℕ, [], List, Option, Some, None, unwrap_or}
+use Rattle.std.specs.Prelude.{◌≡◌, ◌⊎◌, ℕ, List, Option, Some, None, unwrap_or}
 use Rattle.text_model.specs.Id.{Id}
 use Rattle.git_model.specs.Object.{Object}
 use Rattle.bridge_text.specs.declared.fault.Fault.{Fault}
 use Rattle.bridge_text.specs.declared.fault.Fault.TheVariants.{StateLimit}
 use Rattle.hg_bundle.specs.declared.arrival.Arrival as listed
-use Rattle.hg_dump_law.specs.Taken.{AreParentsEarlier}
 use Rattle.git_batch.specs.declared.arrival.ObjectArrival.{ObjectArrival}
-use Rattle.pair_model.specs.Block.{Block, node_of, id_of, changesets_in}
+use Rattle.pair_model.specs.Block.{Block, node_of, id_of}
 use Rattle.state_model.specs.Kept.{Kept}
 use Rattle.saved_model.specs.Step.{first_large_block, first_large_tag, with_blocks}
-use Rattle.pair_state.specs.declared.state_parts.StateParts.{StateParts}
-use Rattle.pair_state.specs.AllBlocks.{HasAllBlocks}
-use Rattle.state_text.specs.Stands.{AreAt}
 use Rattle.pull_outcome.specs.declared.refused.PullFault.{PullFault}
 use Rattle.pull_outcome.specs.declared.refused.PullFault.TheVariants.{Refused, Memory}
 use Rattle.pull_engine.specs.declared.limit.TooLarge.{TooLarge}
 use Rattle.pull_engine.specs.declared.limit.TooLarge.TheVariants as large
 use Rattle.pull_stream.specs.Ready.{place_among}
 use Rattle.pull_engine.specs.Places.{node_place}
-
--- the parts stand for these blocks, whose parents are earlier, and these tags
-pub record IsMeasured (s : StateParts) (blocks : List Block) (kept : List Object) : Type 0 where
-  pub state : HasAllBlocks s blocks
-  pub tags : AreAt s.known.git s.tags kept
-  pub earlier : AreParentsEarlier [] (changesets_in blocks)
 
 -- the answer names the first added block, or else the first new tag, with which a limit is passed
 abbrev pub IsTooLarge : Kept → List Block → List Object → Option TooLarge → Type 0

@@ -2,17 +2,17 @@
 ghost use Rattle.std.specs.Prelude.{◌≡◌, ◌≤◌, ◌+◌, ◌*◌, [], None, List, length, drop, IfSome, IfOk, IfErr, OnOk, OnErr};
 ghost use Rattle.std.specs.Io.KnownBytes.{IsAtEnd};
 ghost use Rattle.text_model.specs.Text.{IsBytes};
-ghost use Rattle.git_model.specs.Object.{Object};
 ghost use Rattle.pair_model.specs.Block.{Block};
 ghost use Rattle.state_model.specs.Kept as saved;
 ghost use Rattle.state_model.specs.Kept.{kept_of};
+ghost use Rattle.state_model.specs.Saved.{IsState, IsStateText};
 ghost use Rattle.saved_model.specs.Step.{OfBundle, Refuses, known_of, first_large_block};
 ghost use Rattle.pair_state.specs.AllBlocks.{HasAllBlocks};
-ghost use Rattle.state_size.specs.Large.{kept_up_to};
+ghost use Rattle.state_size.specs.Large.{StandsInOrder, kept_up_to};
 ghost use Rattle.state_text.specs.Stands.{Stands};
 ghost use Rattle.pull_outcome.specs.Refused.{IsRefusedBy, AnswerCause};
 ghost use Rattle.pull_outcome.specs.Steps.{StepsHg};
-ghost use Rattle.pull_engine.specs.Limit.{IsMeasured, IsLargeBundle};
+ghost use Rattle.pull_engine.specs.Limit.{IsLargeBundle};
 ghost use Rattle.pull_engine.specs.Names.{IsLimitFault, IsOfPullHg};
 ghost use Rattle.pull_engine.specs.Places.{is_changeset, node_place};
 ghost use Rattle.pull_engine.specs.Read.{IsReadState, IsPulled};
@@ -20,10 +20,12 @@ ghost use Rattle.pull_engine.specs.Read.{IsReadState, IsPulled};
 use crate::limit::{TooLarge, first_too_large, limit_fault};
 use crate::pulled::{Pulled, checked};
 use bridge_io::{Source, Steps};
-use bridge_text::{Id, IdList};
+use bridge_text::Id;
 use hg_bundle::{Arrival, Arrivals, RevKind};
 use pair_state::State;
 use pull_outcome::{HgPulled, PullFault};
+use rope::Rope;
+use state_text::write_into;
 use std::sync::ledger::Ledger;
 
 /// Takes a bundle HG10UN into a saved state, and makes the stream of the commits of its new changesets.
@@ -41,6 +43,7 @@ pub fn pull_hg<S: Source, L: Ledger>(
     ensures refused { IfErr result (λ fault. IfSome (S.left src.old) (λ bytes.
         (m : saved.State) → IsReadState state m → IsRefusedBy (Refuses (kept_of m) (OfBundle bytes)) fault)) }
     ensures next { IfOk result (λ pulled. (m : saved.State) → IsReadState state m → (n : saved.State) × Stands pulled.state n) }
+    ensures text { IfOk result (λ pulled. (m : saved.State) → Stands pulled.state m → IsState m → IsStateText pulled.text m) }
     ensures names_stay { IfOk result (λ pulled. (pulled.state).names ≡ state.names) }
     ensures bytes { OnOk result (IfSome (S.left src.old) IsBytes) }
     ensures names { IfErr result IsOfPullHg }
@@ -53,32 +56,36 @@ pub fn pull_hg<S: Source, L: Ledger>(
 {
     let state = checked(state);
     let pulled = pull_bundle::pull_hg(state, src, steps)?;
-    check_limits(&pulled)?;
+    let text = text_within(&pulled)?;
     Ok(Pulled {
         state: pulled.state,
         first_new: pulled.first_new,
         made: pulled.made,
+        text,
     })
 }
 
-// Passes where the next state passes no limit. The fault is that of the first new block with which it does.
-fn check_limits(pulled: &HgPulled) -> Result<(), PullFault>
+// The text of the next state, where that passes no limit. The fault is that of the first new block with which it does.
+fn text_within(pulled: &HgPulled) -> Result<Rope, PullFault>
     requires within { pulled.now.first_new ≤ length (pulled.now.state).blocks }
     requires history { (blocks : List Block) × HasAllBlocks pulled.now.state blocks }
-    ensures small { OnOk result ((blocks : List Block) (kept : List Object) → IsMeasured pulled.now.state blocks kept
-        → first_large_block (kept_up_to pulled.now.first_new blocks kept) (drop pulled.now.first_new blocks) ≡ None) }
-    ensures large { IfErr result (λ fault. (blocks : List Block) (kept : List Object) → IsMeasured pulled.now.state blocks kept
-        → IsLargeBundle (kept_up_to pulled.now.first_new blocks kept) (drop pulled.now.first_new blocks) pulled.now.arrivals fault) }
+    ensures text { IfOk result (λ text. (m : saved.State) → Stands pulled.now.state m → IsState m → IsStateText text m) }
+    ensures small { OnOk result ((m : saved.State) → StandsInOrder pulled.now.state m
+        → first_large_block (kept_up_to pulled.now.first_new m.blocks m.tags) (drop pulled.now.first_new m.blocks) ≡ None) }
+    ensures large { IfErr result (λ fault. (m : saved.State) → StandsInOrder pulled.now.state m
+        → IsLargeBundle (kept_up_to pulled.now.first_new m.blocks m.tags) (drop pulled.now.first_new m.blocks) pulled.now.arrivals fault) }
     ensures names { IfErr result IsLimitFault }
 {
-    let none = IdList::new(pulled.state.alloc());
-    match first_too_large(&pulled.state, pulled.first_new, &none)? {
-        None => Ok(()),
+    let state = &pulled.state;
+    let mut text = Rope::new(state.alloc());
+    let sizes = write_into(state, &mut text)?;
+    match first_too_large(state, pulled.first_new, state.tags().len(), &sizes)? {
+        None => Ok(text),
         Some(TooLarge::Block(block)) => Err(limit_fault(
             block.node,
             place_of_node(&pulled.arrivals, &block.node),
         )),
-        Some(TooLarge::Tag(_)) => Ok(()),
+        Some(TooLarge::Tag(_)) => Ok(text),
     }
 }
 

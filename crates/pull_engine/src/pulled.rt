@@ -14,6 +14,8 @@ pub struct Pulled {
     pub first_new: usize,
     /// What the new blocks bring to the other side.
     pub made: Rope,
+    /// The text of the next state.
+    pub text: Rope,
 }
 
 /// The same state. What its type says is known from here on: it stands for a history.

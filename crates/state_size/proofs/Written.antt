@@ -22,10 +22,6 @@ one-more known ids i id below is =
     more =
         ap (objects_of known) (take_more ids i id below ∙ ap (λ (x : Id). take i ids ++ x ∷ []) (sym is)) ∙ sym (flat_map_more (objects_at known) [] (take i ids) id)
 
--- the objects of two lists
-pub two-more : (kept new : List Object) → length (stream_text (kept ++ new)) ≡ length (stream_text kept) + length (stream_text new)
-two-more kept new = ap (λ b. length b) (stream_text-append kept new) ∙ length-append (stream_text kept) (stream_text new)
-
 -- a length that is counted up to 2^64 - 1 is past the limit where it is
 pub past : (n : ℕ) → nat_lt dump_limit (min n (2 ^ 64 - 1)) ≡ nat_lt dump_limit n
 past n = grind (arith, nat_tests)

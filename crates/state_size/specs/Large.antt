@@ -1,15 +1,13 @@
 -- With what a state first passes a limit.
 use Rattle.std.specs.Prelude.{◌≡◌, ◌⊎◌, ℕ, suc, ◌+◌, ◌-◌, ◌≤◌, false, IsTrue, List, [], ◌++◌, length, take, slice_get, Option, Some, None}
-use Rattle.text_model.specs.Id.{Id}
 use Rattle.git_model.specs.Object.{Object}
 use Rattle.pair_model.specs.Block.{Block, changesets_in}
 use Rattle.hg_dump_law.specs.Taken.{AreParentsEarlier}
-use Rattle.state_model.specs.Kept.{Kept}
+use Rattle.state_model.specs.Kept.{Kept, State}
 use Rattle.state_model.specs.Saved.{passes_limit}
 use Rattle.saved_model.specs.Step.{with_blocks, first_large_block, first_large_tag}
-use Rattle.pair_state.specs.AllBlocks.{HasAllBlocks}
 use Rattle.pair_state.specs.declared.state_parts.StateParts.{StateParts}
-use Rattle.state_text.specs.Stands.{AreAt}
+use Rattle.state_text.specs.Stands.{Stands}
 use Rattle.state_size.specs.declared.large.Large.{Large}
 use Rattle.state_size.specs.declared.large.Large.TheVariants as large
 
@@ -26,21 +24,19 @@ IsLarge old added new (Some (large.Tag i)) = (first_large_block old added ≡ No
 
 -- ---- steps on the way
 
--- a state has these blocks, with parents in time, and these kept tags, and the others are new tags that it knows
-pub record HasGrown (s : StateParts) (tags : List Id) (blocks : List Block) (kept new : List Object) : Type 0 where
-  pub history : HasAllBlocks s blocks
-  pub kept_are : AreAt s.known.git s.tags kept
-  pub new_are : AreAt s.known.git tags new
-  pub parents : AreParentsEarlier [] (changesets_in blocks)
+-- the parts stand for the state, in whose history the parents of each changeset stand before it
+pub record StandsInOrder (s : StateParts) (m : State) : Type 0 where
+  pub stands : Stands s m
+  pub parents : AreParentsEarlier [] (changesets_in m.blocks)
 
--- the history with so many of its new blocks and tags, the blocks first
-abbrev pub grown_by : ℕ → List Block → List Object → List Object → ℕ → Kept
-grown_by first_new blocks kept new count = record {
-  blocks = take (first_new + count) blocks;
-  tags = kept ++ take (count - (length blocks - first_new)) new;
+-- the history with so many of its blocks and tags from these places on, the blocks first
+abbrev pub grown_by : ℕ → ℕ → State → ℕ → Kept
+grown_by first_new first_tag m count = record {
+  blocks = take (first_new + count) m.blocks;
+  tags = take (first_tag + (count - (length m.blocks - first_new))) m.tags;
 }
 
 -- the state passes a limit with so many new blocks and tags, and not with one less
-pub record IsFirstCount (first_new : ℕ) (blocks : List Block) (kept new : List Object) (count : ℕ) : Type 0 where
-  pub passes : IsTrue (passes_limit (grown_by first_new blocks kept new count))
-  pub least : (before : ℕ) → count ≡ suc before → (before ≡ 0) ⊎ (passes_limit (grown_by first_new blocks kept new before) ≡ false)
+pub record IsFirstCount (first_new first_tag : ℕ) (m : State) (count : ℕ) : Type 0 where
+  pub passes : IsTrue (passes_limit (grown_by first_new first_tag m count))
+  pub least : (before : ℕ) → count ≡ suc before → (before ≡ 0) ⊎ (passes_limit (grown_by first_new first_tag m before) ≡ false)

@@ -1,16 +1,19 @@
 // With what a state first passes a limit.
-ghost use Rattle.std.specs.Prelude.{◌≡◌, ◌≤◌, ◌+◌, ◌-◌, [], List, length, drop, IfOk, IsTrue};
-ghost use Rattle.git_model.specs.Object.{Object};
+ghost use Rattle.std.specs.Prelude.{◌≡◌, ◌<◌, ◌≤◌, ◌+◌, ◌-◌, ◌^◌, [], List, length, take, drop, IfOk, IsTrue};
 ghost use Rattle.pair_model.specs.Block.{Block, changesets_in};
 ghost use Rattle.hg_dump_law.specs.Taken.{AreParentsEarlier};
+ghost use Rattle.state_model.specs.Kept as model;
 ghost use Rattle.state_model.specs.Saved.{passes_limit};
 ghost use Rattle.pair_state.specs.AllBlocks.{HasAllBlocks};
-ghost use Rattle.state_text.specs.Stands.{AreAt};
-ghost use Rattle.state_size.specs.Large.{HasGrown, IsLarge, IsFirstCount, grown_by, kept_up_to};
+ghost use Rattle.state_text.specs.Stands.{Stands};
+ghost use Rattle.state_text.specs.Sizes.{AreSizes};
+ghost use Rattle.state_size.specs.Large.{StandsInOrder, IsLarge, IsFirstCount, grown_by, kept_up_to};
 
 use crate::passes::passes;
-use bridge_text::{Id, IdList, NoMemory};
+use crate::past::are_past;
+use bridge_text::NoMemory;
 use pair_state::State;
+use state_text::Sizes;
 
 /// With what a state first passes a limit.
 #[derive(Clone, Copy, Debug, PartialEq, Eq)]
@@ -22,28 +25,30 @@ pub enum Large {
 }
 
 /// The first new block, or else the first new tag, with which the state up to it passes a limit of a saved state; `None` exactly where none
-/// does. The blocks from place `first_new` on are new, and the new tags come behind those of the state.
+/// does. The blocks from place `first_new` on are new, and so are the tags from place `first_tag` on. Nothing is counted where the sizes of the
+/// whole state are within the limits.
 pub fn first_large(
     state: &State,
     first_new: usize,
-    tags: &IdList,
+    first_tag: usize,
+    sizes: &Sizes,
 ) -> Result<Option<Large>, NoMemory>
     requires within { first_new ≤ length state.now.blocks }
+    requires tags { first_tag ≤ length state.now.tags }
     requires history { (blocks : List Block) × HasAllBlocks state.now blocks }
-    ensures { IfOk result (λ large. (blocks : List Block) (kept new : List Object) → HasAllBlocks state.now blocks → AreAt state.now.known.git state.now.tags kept
-        → AreAt state.now.known.git tags.now new → AreParentsEarlier [] (changesets_in blocks)
-        → IsLarge (kept_up_to first_new blocks kept) (drop first_new blocks) new large) }
+    requires sizes { (m : model.State) → Stands state.now m → AreSizes (model.kept_of m) sizes.now }
+    ensures { IfOk result (λ large. (m : model.State) → Stands state.now m → AreParentsEarlier [] (changesets_in m.blocks)
+        → IsLarge (kept_up_to first_new m.blocks (take first_tag m.tags)) (drop first_new m.blocks) (drop first_tag m.tags) large) }
 {
-    let tags = tags.as_slice();
+    if !are_past(state.changesets().len(), sizes) {
+        return Ok(None);
+    }
     let added = state.blocks().as_slice().len() - first_new;
-    let all = added + tags.len();
+    let all = added + (state.tags().as_slice().len() - first_tag);
     if all == 0 {
         return Ok(None);
     }
-    if !passes_with(state, first_new, tags, all)? {
-        return Ok(None);
-    }
-    let last = first_count(state, first_new, tags, all)? - 1;
+    let last = first_count(state, first_new, first_tag, all)? - 1;
     if last < added {
         Ok(Some(Large::Block(first_new + last)))
     } else {
@@ -52,22 +57,27 @@ pub fn first_large(
 }
 
 // The least number of new blocks and tags with which the state passes a limit, where it does with all of them.
-fn first_count(state: &State, first_new: usize, tags: &[Id], all: usize) -> Result<usize, NoMemory>
+fn first_count(
+    state: &State,
+    first_new: usize,
+    first_tag: usize,
+    all: usize,
+) -> Result<usize, NoMemory>
     requires within { first_new ≤ length state.now.blocks }
+    requires tags { first_tag ≤ length state.now.tags }
+    requires room { length state.now.tags < 2 ^ 64 }
     requires history { (blocks : List Block) × HasAllBlocks state.now blocks }
     requires some { 1 ≤ all }
-    requires all { all ≤ (length state.now.blocks - first_new) + length tags.now }
-    requires large { (blocks : List Block) (kept new : List Object) → HasGrown state.now tags.now blocks kept new
-        → IsTrue (passes_limit (grown_by first_new blocks kept new all)) }
+    requires all { all ≤ (length state.now.blocks - first_new) + (length state.now.tags - first_tag) }
+    requires large { (m : model.State) → StandsInOrder state.now m → IsTrue (passes_limit (grown_by first_new first_tag m all)) }
     ensures within { IfOk result (λ count. (1 ≤ count) × (count ≤ all)) }
-    ensures first { IfOk result (λ count. (blocks : List Block) (kept new : List Object) → HasGrown state.now tags.now blocks kept new
-        → IsFirstCount first_new blocks kept new count) }
+    ensures first { IfOk result (λ count. (m : model.State) → StandsInOrder state.now m → IsFirstCount first_new first_tag m count) }
 {
     let mut low: usize = 1;
     let mut high = all;
     while low < high {
         let middle = low + (high - low) / 2;
-        if passes_with(state, first_new, tags, middle)? {
+        if passes_with(state, first_new, first_tag, middle)? {
             high = middle;
         } else {
             low = middle + 1;
@@ -77,17 +87,23 @@ fn first_count(state: &State, first_new: usize, tags: &[Id], all: usize) -> Resu
 }
 
 // Whether the state with so many of its new blocks and tags, the blocks first, passes a limit.
-fn passes_with(state: &State, first_new: usize, tags: &[Id], count: usize) -> Result<bool, NoMemory>
+fn passes_with(
+    state: &State,
+    first_new: usize,
+    first_tag: usize,
+    count: usize,
+) -> Result<bool, NoMemory>
     requires within { first_new ≤ length state.now.blocks }
+    requires tags { first_tag ≤ length state.now.tags }
+    requires room { length state.now.tags < 2 ^ 64 }
     requires history { (blocks : List Block) × HasAllBlocks state.now blocks }
-    requires count { count ≤ (length state.now.blocks - first_new) + length tags.now }
-    ensures { IfOk result (λ passes. (blocks : List Block) (kept new : List Object) → HasGrown state.now tags.now blocks kept new
-        → passes ≡ passes_limit (grown_by first_new blocks kept new count)) }
+    requires count { count ≤ (length state.now.blocks - first_new) + (length state.now.tags - first_tag) }
+    ensures { IfOk result (λ passes. (m : model.State) → StandsInOrder state.now m → passes ≡ passes_limit (grown_by first_new first_tag m count)) }
 {
     let added = state.len() - first_new;
     if count <= added {
-        passes(state, first_new + count, &[])
+        passes(state, first_new + count, first_tag)
     } else {
-        passes(state, state.len(), &tags[..count - added])
+        passes(state, state.len(), first_tag + (count - added))
     }
 }

@@ -5,6 +5,7 @@ mod bundle;
 mod count;
 mod large;
 mod passes;
+mod past;
 mod stream;
 
 pub use large::{Large, first_large};

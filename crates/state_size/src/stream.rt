@@ -1,5 +1,5 @@
 // The size of a stream.
-ghost use Rattle.std.specs.Prelude.{◌≡◌, ◌++◌, ◌-◌, ◌^◌, List, length, min, IfOk};
+ghost use Rattle.std.specs.Prelude.{◌≡◌, ◌-◌, ◌^◌, List, length, min, IfOk};
 ghost use Rattle.git_model.specs.Stream.{stream_text};
 ghost use Rattle.view_model.specs.View.{CommitView};
 ghost use Rattle.git_dump.specs.Commits.{AreWalkableCommits};
@@ -10,21 +10,19 @@ use git_dump::len_at;
 use git_store::GitStore;
 use std::alloc::Global;
 
-/// Whether the stream of these commits is past its limit, with the objects behind it that are known under the ids of two lists.
+/// Whether the stream of these commits is past its limit, with the objects behind it that are known under these ids.
 pub fn passes_stream(
     alloc: Global,
     store: &GitStore,
     commits: &[Id],
-    kept: &[Id],
-    new: &[Id],
+    tags: &[Id],
 ) -> Result<bool, NoMemory>
     requires { (cs : List CommitView) × AreWalkableCommits store.now commits.now cs }
     ensures { IfOk result (λ passes. (cs : List CommitView) → AreWalkableCommits store.now commits.now cs
-        → passes ≡ is_stream_large cs (objects_of store.now kept.now ++ objects_of store.now new.now)) }
+        → passes ≡ is_stream_large cs (objects_of store.now tags.now)) }
 {
     let dump = git_dump::written_len(alloc, store, commits)?;
-    let with_kept = dump.saturating_add(objects_len(store, kept));
-    let all = with_kept.saturating_add(objects_len(store, new));
+    let all = dump.saturating_add(objects_len(store, tags));
     Ok(all > DUMP_LIMIT as u64)
 }
 

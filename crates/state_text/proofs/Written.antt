@@ -1,5 +1,5 @@
 -- What a state writes.
-use Rattle.std.proofs.Common.{◌≡◌, ◌+◌, ℕ, suc, List, [], ◌∷◌, ◌++◌, map, take, drop, slice_get, codes, Some, None, option_map, refl, sym, ap, subst, ◌∙◌, append_assoc, append-nil}
+use Rattle.std.proofs.Common.{◌≡◌, ◌+◌, ℕ, suc, List, [], ◌∷◌, ◌++◌, map, take, drop, length, slice_get, codes, Some, None, option_map, refl, sym, ap, subst, ◌∙◌, append_assoc, append-nil}
 use Rattle.text_model.proofs.Options.{none_some}
 use Rattle.text_model.proofs.Elements.{each_at, get_unmap, take_push, flat_map_append}
 use Rattle.text_model.specs.Lists.{Each}
@@ -22,6 +22,7 @@ use Rattle.state_model.specs.Text.{Sections, sections_of, section_text, text_up_
 use Rattle.dump_law.proofs.Blocks.{ids-blocks}
 use Rattle.pair_state.specs.declared.blocks.Block as pair
 use Rattle.pair_state.specs.declared.state_parts.StateParts.{StateParts}
+use Rattle.pair_state.specs.AllBlocks.{HasAllBlocks}
 use Rattle.pair_state.specs.Blocks.{BlockValue, value_of, block_value}
 use Rattle.state_part.specs.declared.pairs.IdPair.{IdPair}
 use Rattle.state_part.specs.Form.{head_line}
@@ -52,48 +53,53 @@ walks-commits : (git : List Object) (bs : List Block) → Each (λ b. walk_fault
 walks-commits git [] h = tt
 walks-commits git (b ∷ bs) h = (h.0, walks-commits git bs h.1)
 
-module _ (s : StateParts) (m : State) (h : Stands s m) where
-  pub pairs-are : s.blocks ≡ map block_in m.blocks
-  pairs-are = sym (back s.blocks) ∙ ap (map from_value) ((h.blocks).state).blocks_are ∙ from-blocks m.blocks
+module _ (s : StateParts) (blocks : List Block) (h : HasAllBlocks s blocks) where
+  pub pairs-are : s.blocks ≡ map block_in blocks
+  pairs-are = sym (back s.blocks) ∙ ap (map from_value) (h.state).blocks_are ∙ from-blocks blocks
 
-  pub held : AreChangesetsHeld s.known.hg s.changesets (changesets_in m.blocks)
-  held = subst (λ (l : List Id). AreChangesetsHeld s.known.hg l (changesets_in m.blocks)) (sym ((h.blocks).state).changesets) ((((h.blocks).state).held).held).changesets
+  held : AreChangesetsHeld s.known.hg s.changesets (changesets_in blocks)
+  held = subst (λ (l : List Id). AreChangesetsHeld s.known.hg l (changesets_in blocks)) (sym (h.state).changesets) (((h.state).held).held).changesets
 
-  pub hg-written : hg_increment s.known.hg [] (changesets_in m.blocks) ≡ hg_dump (changesets_in m.blocks)
-  hg-written = dump-written s.known.hg (changesets_in m.blocks) ((((h.blocks).state).held).held).changesets (h.blocks).saved
+  hg-written : hg_increment s.known.hg [] (changesets_in blocks) ≡ hg_dump (changesets_in blocks)
+  hg-written = dump-written s.known.hg (changesets_in blocks) (((h.state).held).held).changesets h.saved
 
-  pub walkable : AreWalkableCommits s.known.git s.commits (commits_in m.blocks)
+  walkable : AreWalkableCommits s.known.git s.commits (commits_in blocks)
   walkable = (
-    subst (λ (l : List Id). AreCommitsHeld s.known.git l (commits_in m.blocks)) (ids-blocks m.blocks ∙ sym ((h.blocks).state).commits) ((((h.blocks).state).held).held).commits,
-    walks-commits s.known.git m.blocks ((((h.blocks).state).held).held).walks,
+    subst (λ (l : List Id). AreCommitsHeld s.known.git l (commits_in blocks)) (ids-blocks blocks ∙ sym (h.state).commits) (((h.state).held).held).commits,
+    walks-commits s.known.git blocks (((h.state).held).held).walks,
   )
 
-  pub map-pairs : map pair_in s.blocks ≡ map pair_of m.blocks
-  map-pairs = ap (map pair_in) pairs-are ∙ pairs-of m.blocks
+  pub map-pairs : map pair_in s.blocks ≡ map pair_of blocks
+  map-pairs = ap (map pair_in) pairs-are ∙ pairs-of blocks
 
 -- ---- what the writers of a bundle and of a stream are given, and what they give
 
-module _ (s : StateParts) (m : State) (h : Stands s m) (known : Known) (same : known ≡ s.known) where
-  pub held-in : (nodes : List Id) → nodes ≡ s.changesets → AreChangesetsHeld known.hg nodes (changesets_in m.blocks)
-  held-in nodes list = rw (same, list) (held s m h)
+module _ (s : StateParts) (blocks : List Block) (h : HasAllBlocks s blocks) (known : Known) (same : known ≡ s.known) where
+  pub held-in : (nodes : List Id) → nodes ≡ s.changesets → AreChangesetsHeld known.hg nodes (changesets_in blocks)
+  held-in nodes list = rw (same, list) (held s blocks h)
 
-  pub bundle-of : hg_increment known.hg [] (changesets_in m.blocks) ≡ hg_dump (changesets_in m.blocks)
-  bundle-of = ap (λ (k : Known). hg_increment k.hg [] (changesets_in m.blocks)) same ∙ hg-written s m h
+  pub bundle-of : hg_increment known.hg [] (changesets_in blocks) ≡ hg_dump (changesets_in blocks)
+  bundle-of = ap (λ (k : Known). hg_increment k.hg [] (changesets_in blocks)) same ∙ hg-written s blocks h
 
   pub bundle-is : (nodes : List Id) (bytes : Bytes) → nodes ≡ s.changesets
-      → ((hs : List ChangesetView) → AreChangesetsHeld known.hg nodes hs → bytes ≡ hg_increment known.hg (take 0 hs) (drop 0 hs)) → bytes ≡ hg_dump (changesets_in m.blocks)
+      → ((hs : List ChangesetView) → AreChangesetsHeld known.hg nodes hs → bytes ≡ hg_increment known.hg (take 0 hs) (drop 0 hs)) → bytes ≡ hg_dump (changesets_in blocks)
   bundle-is nodes bytes list written =
-      written (changesets_in m.blocks) (held-in nodes list) ∙ bundle-of
+      written (changesets_in blocks) (held-in nodes list) ∙ bundle-of
 
-  pub walkable-in : (ids : List Id) → ids ≡ s.commits → AreWalkableCommits known.git ids (commits_in m.blocks)
-  walkable-in ids list = rw (same, list) (walkable s m h)
+  pub bundle-len : (nodes : List Id) (size : ℕ) → nodes ≡ s.changesets
+      → ((hs : List ChangesetView) → AreChangesetsHeld known.hg nodes hs → size ≡ length (hg_increment known.hg [] hs)) → size ≡ length (hg_dump (changesets_in blocks))
+  bundle-len nodes size list told = told (changesets_in blocks) (held-in nodes list) ∙ ap (λ (l : Bytes). length l) bundle-of
+
+  pub walkable-in : (ids : List Id) → ids ≡ s.commits → AreWalkableCommits known.git ids (commits_in blocks)
+  walkable-in ids list = rw (same, list) (walkable s blocks h)
 
   pub stream-is : (ids : List Id) (bytes : Bytes) → ids ≡ s.commits
-      → ((cs : List CommitView) → AreWalkableCommits known.git ids cs → bytes ≡ git_increment (take 0 cs) (drop 0 cs)) → bytes ≡ git_dump (commits_in m.blocks)
-  stream-is ids bytes list written = written (commits_in m.blocks) (walkable-in ids list)
+      → ((cs : List CommitView) → AreWalkableCommits known.git ids cs → bytes ≡ git_increment (take 0 cs) (drop 0 cs)) → bytes ≡ git_dump (commits_in blocks)
+  stream-is ids bytes list written = written (commits_in blocks) (walkable-in ids list)
 
-  pub tags-at : (ids : List Id) → ids ≡ s.tags → AreAt known.git ids m.tags
-  tags-at ids list = rw (same, list) (h.tags, h.tags_held)
+-- the ids of the tags, each of which is known
+pub tags-at : (s : StateParts) (m : State) → Stands s m → (known : Known) → known ≡ s.known → (ids : List Id) → ids ≡ s.tags → AreAt known.git ids m.tags
+tags-at s m h known same ids list = rw (same, list) (h.tags, h.tags_held)
 
 -- ---- objects, one by one
 
@@ -159,4 +165,4 @@ written old text hg git tags names pairs m a are names_is hg_is git_is tags_is p
 pub state-text : (s : StateParts) (m : State) → Stands s m → AreBlocks m.blocks → (old text hg git tags names : Bytes) (pairs : List IdPair) → AreAppended old text hg git tags names pairs → names ≡ refs_text s.names
     → hg ≡ hg_dump (changesets_in m.blocks) → git ≡ git_dump (commits_in m.blocks) → tags ≡ stream_text m.tags → pairs ≡ map pair_in s.blocks → text ≡ old ++ state_text m
 state-text s m h are old text hg git tags names pairs a names_is hg_is git_is tags_is pairs_are =
-    written old text hg git tags names pairs m a are (names_is ∙ ap refs_text h.names) hg_is git_is tags_is (pairs_are ∙ ap (map pair_in) (pairs-are s m h))
+    written old text hg git tags names pairs m a are (names_is ∙ ap refs_text h.names) hg_is git_is tags_is (pairs_are ∙ ap (map pair_in) (pairs-are s m.blocks h.blocks))

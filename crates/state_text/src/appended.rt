@@ -1,5 +1,5 @@
 // The sections of both dumps, written where they are to stand.
-ghost use Rattle.std.specs.Prelude.{◌≡◌, ◌<◌, ◌-◌, ◌^◌, ◌++◌, [], List, IfOk, OnOk, codes};
+ghost use Rattle.std.specs.Prelude.{◌≡◌, ◌<◌, ◌-◌, ◌^◌, ◌++◌, [], List, length, IfOk, OnOk, codes};
 ghost use Rattle.std.specs.Io.{StartsWith};
 ghost use Rattle.view_model.specs.View.{ChangesetView, CommitView};
 ghost use Rattle.view_model.specs.Held.{AreChangesetsHeld};
@@ -15,17 +15,18 @@ use rope::Rope;
 use state_part::put_count;
 use std::alloc::Global;
 
-/// Appends the section of the bundle of these changesets. What it brings is collected once, for its size, which is counted first, and for its text. After
-/// want of memory what `out` was is its beginning.
+/// Appends the section of the bundle of these changesets, and tells the size of the bundle. What it brings is collected once, for its size, which is
+/// counted first, and for its text. After want of memory what `out` was is its beginning.
 pub fn append_bundle(
     out: &mut Rope,
     alloc: Global,
     store: &HgStore,
     nodes: &IdList,
-) -> Result<(), NoMemory>
+) -> Result<u64, NoMemory>
     requires held { (hs : List ChangesetView) × AreChangesetsHeld store.now nodes.now hs }
     ensures ok { OnOk result ((hs : List ChangesetView) → AreChangesetsHeld store.now nodes.now hs
         → out.new ≡ out.old ++ sized (codes "hg") (hg_increment store.now [] hs)) }
+    ensures size { IfOk result (λ size. (hs : List ChangesetView) → AreChangesetsHeld store.now nodes.now hs → size ≡ length (hg_increment store.now [] hs)) }
     ensures front { StartsWith out.new out.old }
 {
     let dump = hg_dump::Dump::collect(alloc, store, nodes.as_slice(), 0)?;
@@ -33,7 +34,7 @@ pub fn append_bundle(
     put_count(out, HG, size)?;
     dump.append(out)?;
     out.push(b'\n')?;
-    Ok(())
+    Ok(size)
 }
 
 /// Appends the section of the stream of these commits in the same way.
@@ -42,10 +43,11 @@ pub fn append_stream(
     alloc: Global,
     store: &GitStore,
     ids: &IdList,
-) -> Result<(), NoMemory>
+) -> Result<u64, NoMemory>
     requires commits { (cs : List CommitView) × AreWalkableCommits store.now ids.now cs }
     ensures ok { OnOk result ((cs : List CommitView) → AreWalkableCommits store.now ids.now cs
         → out.new ≡ out.old ++ sized (codes "git") (git_increment [] cs)) }
+    ensures size { IfOk result (λ size. (cs : List CommitView) → AreWalkableCommits store.now ids.now cs → size ≡ length (git_increment [] cs)) }
     ensures front { StartsWith out.new out.old }
 {
     let dump = git_dump::Dump::collect(alloc, store, ids.as_slice(), 0)?;
@@ -53,7 +55,7 @@ pub fn append_stream(
     put_count(out, GIT, size)?;
     dump.append(out)?;
     out.push(b'\n')?;
-    Ok(())
+    Ok(size)
 }
 
 // The size that a section tells of a dump of this length. The greatest number stands for all lengths that no number tells, and no memory has room

@@ -11,9 +11,11 @@ mod names;
 mod reading;
 mod sections;
 mod shared;
+mod sizes;
 mod write;
 
 pub use fault::StateFault;
 pub use nameable::{Nameable, id_set};
 pub use reading::read;
+pub use sizes::Sizes;
 pub use write::{dump_git, dump_hg, map_into, write_into};

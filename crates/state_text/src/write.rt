@@ -3,17 +3,20 @@ ghost use Rattle.std.specs.Prelude.{◌≡◌, ◌++◌, List, Some, IfOk, OnErr
 ghost use Rattle.std.specs.Io.{StartsWith};
 ghost use Rattle.git_model.specs.Object.{Object, object_at};
 ghost use Rattle.git_model.specs.Stream.{object_text, stream_text};
-ghost use Rattle.pair_model.specs.Block.{changesets_in, commits_in};
+ghost use Rattle.pair_model.specs.Block.{Block, changesets_in, commits_in};
 ghost use Rattle.state_model.specs.Kept as model;
 ghost use Rattle.state_model.specs.Saved.{AreBlocks};
 ghost use Rattle.state_model.specs.Text.{state_text};
 ghost use Rattle.saved_model.specs.Written.{map_text};
+ghost use Rattle.pair_state.specs.AllBlocks.{HasAllBlocks};
 ghost use Rattle.state_text.specs.Stands.{Stands, AreAt};
+ghost use Rattle.state_text.specs.Sizes.{AreSizes};
 
 use crate::appended::{append_bundle, append_stream};
 use crate::blocks::pairs_of;
 use crate::names::NAMES;
 use crate::sections::TAGS;
+use crate::sizes::Sizes;
 use bridge_text::{Id, NoMemory};
 use git_batch::put_with_id;
 use git_store::GitStore;
@@ -22,10 +25,11 @@ use ref_map::write_refs;
 use rope::Rope;
 use state_part::{put_head, put_map, put_section, put_sorted_map};
 
-/// Appends the one text of the state. After want of memory what `out` was is its beginning.
-pub fn write_into(state: &State, out: &mut Rope) -> Result<(), NoMemory>
-    requires stands { (m : model.State) × Stands state.now m }
+/// Appends the one text of the state, and tells how many bytes its dumps take. After want of memory what `out` was is its beginning.
+pub fn write_into(state: &State, out: &mut Rope) -> Result<Sizes, NoMemory>
+    requires history { (blocks : List Block) × HasAllBlocks state.now blocks }
     ensures ok { OnOk result ((m : model.State) → Stands state.now m → AreBlocks m.blocks → out.new ≡ out.old ++ state_text m) }
+    ensures sizes { IfOk result (λ sizes. (m : model.State) → Stands state.now m → AreSizes (model.kept_of m) sizes) }
     ensures front { StartsWith out.new out.old }
 {
     let alloc = state.alloc();
@@ -34,11 +38,16 @@ pub fn write_into(state: &State, out: &mut Rope) -> Result<(), NoMemory>
     let tags = tags_text(state)?;
     let names = write_refs(alloc, state.names())?;
     put_head(out)?;
-    append_bundle(out, alloc, &state.known().hg, state.changesets())?;
-    append_stream(out, alloc, &state.known().git, state.commits())?;
+    let bundle = append_bundle(out, alloc, &state.known().hg, state.changesets())?;
+    let stream = append_stream(out, alloc, &state.known().git, state.commits())?;
     out.put(pairs.as_slice())?;
     put_section(out, TAGS, tags.as_slice())?;
-    put_section(out, NAMES, names.as_slice())
+    put_section(out, NAMES, names.as_slice())?;
+    Ok(Sizes {
+        bundle,
+        stream,
+        tags: tags.len() as u64,
+    })
 }
 
 // The text of the kept tags in one piece.

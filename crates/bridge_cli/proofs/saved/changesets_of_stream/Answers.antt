@@ -1,12 +1,9 @@
+use Rattle.std.proofs.Common.{sym, subst}
 use Rattle.std.proofs.lemmas.Result.{err_from_is_err_and}
 use Rattle.state_law.proofs.Next.{state-left}
+use Rattle.bridge_cli.specs.Makes.{IsNextText}
 use Rattle.bridge_cli.proofs.SavedLemmas.{git-makes, git-refuses, git-asked, git-steps, read-cause, slot-cause}
 use Rattle.bridge_cli.proofs.saved.changesets_of_stream.Goals as goal
-
-pub saved_work-requires : goal.saved_work-requires
-saved_work-requires g c =
-    let f = c.in_ok-state.ensures.state in
-    record { stands = c.in_ok-pulled.ensures.next f.0 f.1 }
 
 pub returns-in_err-pulled-clause-makes : goal.returns-in_err-pulled-clause-makes
 returns-in_err-pulled-clause-makes g c =
@@ -27,16 +24,11 @@ pub returns-in_err-pulled-clause-steps : goal.returns-in_err-pulled-clause-steps
 returns-in_err-pulled-clause-steps g c =
     git-steps (g.I.Source.left c.args.input.now) (g.K.Slot.held c.args.slot.now) c.in_ok-state.state _ _ c.in_ok-state.ensures.state c.in_err-pulled.ensures.least c.in_err-pulled.ensures.asked
 
-pub returns-in_err-saved_work-clause-steps : goal.returns-in_err-saved_work-clause-steps
-returns-in_err-saved_work-clause-steps g c =
-    git-steps (g.I.Source.left c.args.input.now) (g.K.Slot.held c.args.slot.now) c.in_ok-state.state _ _ c.in_ok-state.ensures.state c.in_ok-pulled.ensures.least
-    (git-asked (g.I.Source.left c.args.input.now) c.in_ok-state.state c.in_ok-pulled.pulled _ _ c.in_ok-pulled.ensures.pulled c.in_ok-pulled.ensures.steps)
-
 pub returns-clause-makes : goal.returns-clause-makes
 returns-clause-makes g c = (
   c.in_ok-pulled.ensures.end,
-  git-makes state-left (g.I.Source.left c.args.input.now) (g.K.Slot.held c.args.slot.now) c.in_ok-state.state c.in_ok-pulled.pulled _ _ c.in_ok-saved_work.ensures.output c.in_ok-state.ensures.state
-      c.in_ok-pulled.ensures.bytes c.in_ok-pulled.ensures.pulled c.in_ok-saved_work.ensures.text,
+  git-makes state-left (g.I.Source.left c.args.input.now) (g.K.Slot.held c.args.slot.now) c.in_ok-state.state c.in_ok-pulled.pulled _ _ c.saved_work.ensures.output c.in_ok-state.ensures.state
+      c.in_ok-pulled.ensures.bytes c.in_ok-pulled.ensures.pulled (subst (IsNextText c.in_ok-pulled.pulled.state) (sym c.saved_work.ensures.text) c.in_ok-pulled.ensures.text),
 )
 
 pub returns-clause-steps : goal.returns-clause-steps

@@ -1,4 +1,4 @@
-use Rattle.std.proofs.Common.{List, inl, inr, sym, ap, ◌∙◌}
+use Rattle.std.proofs.Common.{List, length, inl, inr, sym, ap, ◌∙◌, arith, length-append}
 use Rattle.std.proofs.lemmas.Result.{err_from_is_err_and}
 use Rattle.text_model.specs.Text.{Bytes, IsBytes}
 use Rattle.pair_model.specs.Block.{Block}
@@ -29,11 +29,25 @@ Read s Says bytes = (m : saved.State) → IsReadState s m → Says m bytes
 abbrev Due : PullFault → saved.State → Bytes → Type 0
 Due e m bytes = IsRefusedBy (Refuses (kept_of m) (OfStream bytes)) e
 
-pub check_limits-requires : goal.check_limits-requires
-check_limits-requires g c =
+pub text_within-requires : goal.text_within-requires
+text_within-requires g c =
     let blocks = c.checked-state.ensures.history.0 in
     let on = c.in_ok-pulled.ensures.next blocks c.checked-state.ensures.history.1 in
-    record { within = within c.in_ok-pulled.pulled.state blocks on.new c.in_ok-pulled.pulled.first_new on.next on.first_new; history = (_, on.next) }
+    let has = c.in_ok-state.ensures in
+    record {
+      within = omega (
+        arith,
+        within c.in_ok-pulled.pulled.state blocks on.new c.in_ok-pulled.pulled.first_new on.next on.first_new,
+        ap length has.blocks,
+      );
+      tags = omega (
+        arith,
+        c.len-first_tag.ensures ∙ ap length c.tags.ensures,
+        ap length has.tags,
+        length-append c.in_ok-pulled.pulled.state.tags c.in_ok-tags.tags,
+      );
+      history = (_, has.history _ on.next);
+    }
 
 -- ---- the pull below fails
 
@@ -68,29 +82,29 @@ returns-in_err-pulled-clause-asked g c =
 
 -- ---- a limit is passed
 
-pub returns-in_err-check_limits-clause-refused : goal.returns-in_err-check_limits-clause-refused
-returns-in_err-check_limits-clause-refused g c =
-    let p = err_from_is_err_and c.from_residual-in_err-check_limits.result c.from_residual-in_err-check_limits.ensures.1 in
-    let e = c.in_err-check_limits.field-0.0 in
+pub returns-in_err-text-clause-refused : goal.returns-in_err-text-clause-refused
+returns-in_err-text-clause-refused g c =
+    let p = err_from_is_err_and c.from_residual-in_err-text.result c.from_residual-in_err-text.ensures.1 in
+    let e = c.in_err-text.field-0.0 in
     let s = c.checked-state.result in
     let done = c.in_ok-pulled.pulled in
     rw (p.1, p.2, sym c.checked-state.ensures.same)
     (some-one (g.S.Source.left c.args.src.now) (Told s (λ blocks bytes. PulledGit s blocks bytes done)) (Read s (Due e))
-    (λ bytes h m read. refused-large s m read bytes done (h m.blocks (read.stands).blocks) (c.in_ok-pulled.ensures.next m.blocks (read.stands).blocks) c.in_ok-tags.tags c.in_ok-tags.ensures.tags e c.in_err-check_limits.ensures.large) c.in_ok-pulled.ensures.pulled)
+    (λ bytes h m read. refused-large s m read bytes done (h m.blocks (read.stands).blocks) (c.in_ok-pulled.ensures.next m.blocks (read.stands).blocks) c.in_ok-tags.tags c.in_ok-tags.ensures.tags c.in_ok-state.state c.in_ok-state.ensures c.len-first_tag.result (c.len-first_tag.ensures ∙ ap length c.tags.ensures) e c.in_err-text.ensures.large) c.in_ok-pulled.ensures.pulled)
 
-pub returns-in_err-check_limits-clause-names : goal.returns-in_err-check_limits-clause-names
-returns-in_err-check_limits-clause-names g c =
-    let p = err_from_is_err_and c.from_residual-in_err-check_limits.result c.from_residual-in_err-check_limits.ensures.1 in
-    rw (p.1, p.2) (inr (inr c.in_err-check_limits.ensures.names))
+pub returns-in_err-text-clause-names : goal.returns-in_err-text-clause-names
+returns-in_err-text-clause-names g c =
+    let p = err_from_is_err_and c.from_residual-in_err-text.result c.from_residual-in_err-text.ensures.1 in
+    rw (p.1, p.2) (inr (inr c.in_err-text.ensures.names))
 
-pub returns-in_err-check_limits-clause-cause : goal.returns-in_err-check_limits-clause-cause
-returns-in_err-check_limits-clause-cause g c =
-    let p = err_from_is_err_and c.from_residual-in_err-check_limits.result c.from_residual-in_err-check_limits.ensures.1 in
-    rw (p.1, p.2) (limit-cause _ _ c.in_err-check_limits.field-0.0 c.in_err-check_limits.ensures.names c.in_ok-pulled.ensures.cause)
+pub returns-in_err-text-clause-cause : goal.returns-in_err-text-clause-cause
+returns-in_err-text-clause-cause g c =
+    let p = err_from_is_err_and c.from_residual-in_err-text.result c.from_residual-in_err-text.ensures.1 in
+    rw (p.1, p.2) (limit-cause _ _ c.in_err-text.field-0.0 c.in_err-text.ensures.names c.in_ok-pulled.ensures.cause)
 
-pub returns-in_err-check_limits-clause-asked : goal.returns-in_err-check_limits-clause-asked
-returns-in_err-check_limits-clause-asked g c =
-    let p = err_from_is_err_and c.from_residual-in_err-check_limits.result c.from_residual-in_err-check_limits.ensures.1 in
+pub returns-in_err-text-clause-asked : goal.returns-in_err-text-clause-asked
+returns-in_err-text-clause-asked g c =
+    let p = err_from_is_err_and c.from_residual-in_err-text.result c.from_residual-in_err-text.ensures.1 in
     let s = c.checked-state.result in
     let before = c.args.steps.now in
     let now = c.pull_git.new.steps in
@@ -134,9 +148,9 @@ returns-in_err-tags-clause-asked g c =
 
 -- ---- memory for the tags runs out
 
-pub returns-in_err-keep_tags-clause-asked : goal.returns-in_err-keep_tags-clause-asked
-returns-in_err-keep_tags-clause-asked g c =
-    let p = err_from_is_err_and c.from_residual-in_err-keep_tags.result c.from_residual-in_err-keep_tags.ensures.1 in
+pub returns-in_err-state-clause-asked : goal.returns-in_err-state-clause-asked
+returns-in_err-state-clause-asked g c =
+    let p = err_from_is_err_and c.from_residual-in_err-state.result c.from_residual-in_err-state.ensures.1 in
     let s = c.checked-state.result in
     let before = c.args.steps.now in
     let now = c.pull_git.new.steps in
@@ -151,10 +165,11 @@ pub returns-clause-pulled : goal.returns-clause-pulled
 returns-clause-pulled g c =
     let s = c.checked-state.result in
     let done = c.in_ok-pulled.pulled in
-    let result : Pulled = record { state = c.in_ok-keep_tags.field-0; first_new = done.first_new; made = done.made } in
+    let result : Pulled = record { state = c.in_ok-state.state; first_new = done.first_new; made = done.made; text = c.in_ok-text.text } in
     rw (sym c.checked-state.ensures.same)
     (some-one (g.S.Source.left c.args.src.now) (Told s (λ blocks bytes. PulledGit s blocks bytes done)) (Read s (λ m bytes. IsPulled m (OfStream bytes) result))
-    (λ bytes h m read. accepted s m read bytes done (h m.blocks (read.stands).blocks) (c.in_ok-pulled.ensures.next m.blocks (read.stands).blocks) c.in_ok-tags.tags c.in_ok-tags.ensures.tags c.in_ok-check_limits.ensures.small c.in_ok-check_limits.ensures.small_tags c.in_ok-keep_tags.field-0 c.in_ok-keep_tags.ensures) c.in_ok-pulled.ensures.pulled)
+    (λ bytes h m read. accepted s m read bytes done (h m.blocks (read.stands).blocks) (c.in_ok-pulled.ensures.next m.blocks (read.stands).blocks) c.in_ok-tags.tags c.in_ok-tags.ensures.tags c.in_ok-state.state c.in_ok-state.ensures c.len-first_tag.result (c.len-first_tag.ensures ∙ ap length c.tags.ensures)
+    c.in_ok-text.ensures.small c.in_ok-text.ensures.small_tags c.in_ok-text.text) c.in_ok-pulled.ensures.pulled)
 
 pub returns-clause-bytes : goal.returns-clause-bytes
 returns-clause-bytes g c =
@@ -172,10 +187,10 @@ returns-clause-next g c =
     let held = c.in_ok-pulled.ensures.held in
     rw (sym c.checked-state.ensures.same)
     (λ m read. goes-on s m read c.in_ok-pulled.pulled (c.in_ok-pulled.ensures.next m.blocks (read.stands).blocks) held.0 held.1 held.2
-    c.in_ok-tags.tags c.in_ok-tags.ensures.tags c.in_ok-keep_tags.field-0 c.in_ok-keep_tags.ensures)
+    c.in_ok-tags.tags c.in_ok-tags.ensures.tags c.in_ok-state.state c.in_ok-state.ensures)
 
 pub returns-clause-names_stay : goal.returns-clause-names_stay
 returns-clause-names_stay g c =
     let history = c.checked-state.ensures.history in
     let on = c.in_ok-pulled.ensures.next history.0 history.1 in
-    c.in_ok-keep_tags.ensures.names ∙ on.names ∙ ap (λ (s : StateParts). s.names) c.checked-state.ensures.same
+    c.in_ok-state.ensures.names ∙ on.names ∙ ap (λ (s : StateParts). s.names) c.checked-state.ensures.same

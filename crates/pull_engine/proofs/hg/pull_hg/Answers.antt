@@ -27,8 +27,8 @@ Read s Says bytes = (m : saved.State) → IsReadState s m → Says m bytes
 abbrev Due : PullFault → saved.State → Bytes → Type 0
 Due e m bytes = IsRefusedBy (Refuses (kept_of m) (OfBundle bytes)) e
 
-pub check_limits-requires : goal.check_limits-requires
-check_limits-requires g c =
+pub text_within-requires : goal.text_within-requires
+text_within-requires g c =
     let blocks = c.checked-state.ensures.history.0 in
     let on = c.in_ok-pulled.ensures.next blocks c.checked-state.ensures.history.1 in
     record { within = within c.in_ok-pulled.pulled.state blocks on.new c.in_ok-pulled.pulled.first_new on.next on.first_new; history = (_, on.next) }
@@ -66,29 +66,29 @@ returns-in_err-pulled-clause-asked g c =
 
 -- ---- a limit is passed
 
-pub returns-in_err-check_limits-clause-refused : goal.returns-in_err-check_limits-clause-refused
-returns-in_err-check_limits-clause-refused g c =
-    let p = err_from_is_err_and c.from_residual-in_err-check_limits.result c.from_residual-in_err-check_limits.ensures.1 in
-    let e = c.in_err-check_limits.field-0.0 in
+pub returns-in_err-text-clause-refused : goal.returns-in_err-text-clause-refused
+returns-in_err-text-clause-refused g c =
+    let p = err_from_is_err_and c.from_residual-in_err-text.result c.from_residual-in_err-text.ensures.1 in
+    let e = c.in_err-text.field-0.0 in
     let s = c.checked-state.result in
     let done = c.in_ok-pulled.pulled in
     rw (p.1, p.2, sym c.checked-state.ensures.same)
     (some-one (g.S.Source.left c.args.src.now) (Told s (λ blocks bytes. PulledHg s blocks bytes done)) (Read s (Due e))
-    (λ bytes h m read. refused-large s m read bytes done (h m.blocks (read.stands).blocks) (c.in_ok-pulled.ensures.next m.blocks (read.stands).blocks) e c.in_err-check_limits.ensures.large) c.in_ok-pulled.ensures.pulled)
+    (λ bytes h m read. refused-large s m read bytes done (h m.blocks (read.stands).blocks) (c.in_ok-pulled.ensures.next m.blocks (read.stands).blocks) e c.in_err-text.ensures.large) c.in_ok-pulled.ensures.pulled)
 
-pub returns-in_err-check_limits-clause-names : goal.returns-in_err-check_limits-clause-names
-returns-in_err-check_limits-clause-names g c =
-    let p = err_from_is_err_and c.from_residual-in_err-check_limits.result c.from_residual-in_err-check_limits.ensures.1 in
-    rw (p.1, p.2) (inr c.in_err-check_limits.ensures.names)
+pub returns-in_err-text-clause-names : goal.returns-in_err-text-clause-names
+returns-in_err-text-clause-names g c =
+    let p = err_from_is_err_and c.from_residual-in_err-text.result c.from_residual-in_err-text.ensures.1 in
+    rw (p.1, p.2) (inr c.in_err-text.ensures.names)
 
-pub returns-in_err-check_limits-clause-cause : goal.returns-in_err-check_limits-clause-cause
-returns-in_err-check_limits-clause-cause g c =
-    let p = err_from_is_err_and c.from_residual-in_err-check_limits.result c.from_residual-in_err-check_limits.ensures.1 in
-    rw (p.1, p.2) (limit-cause _ _ c.in_err-check_limits.field-0.0 c.in_err-check_limits.ensures.names c.in_ok-pulled.ensures.cause)
+pub returns-in_err-text-clause-cause : goal.returns-in_err-text-clause-cause
+returns-in_err-text-clause-cause g c =
+    let p = err_from_is_err_and c.from_residual-in_err-text.result c.from_residual-in_err-text.ensures.1 in
+    rw (p.1, p.2) (limit-cause _ _ c.in_err-text.field-0.0 c.in_err-text.ensures.names c.in_ok-pulled.ensures.cause)
 
-pub returns-in_err-check_limits-clause-asked : goal.returns-in_err-check_limits-clause-asked
-returns-in_err-check_limits-clause-asked g c =
-    let p = err_from_is_err_and c.from_residual-in_err-check_limits.result c.from_residual-in_err-check_limits.ensures.1 in
+pub returns-in_err-text-clause-asked : goal.returns-in_err-text-clause-asked
+returns-in_err-text-clause-asked g c =
+    let p = err_from_is_err_and c.from_residual-in_err-text.result c.from_residual-in_err-text.ensures.1 in
     let s = c.checked-state.result in
     let before = c.args.steps.now in
     let now = c.pull_hg.new.steps in
@@ -103,10 +103,10 @@ pub returns-clause-pulled : goal.returns-clause-pulled
 returns-clause-pulled g c =
     let s = c.checked-state.result in
     let done = c.in_ok-pulled.pulled in
-    let result : Pulled = record { state = done.state; first_new = done.first_new; made = done.made } in
+    let result : Pulled = record { state = done.state; first_new = done.first_new; made = done.made; text = c.in_ok-text.text } in
     rw (sym c.checked-state.ensures.same)
     (some-one (g.S.Source.left c.args.src.now) (Told s (λ blocks bytes. PulledHg s blocks bytes done)) (Read s (λ m bytes. IsPulled m (OfBundle bytes) result))
-    (λ bytes h m read. accepted s m read bytes done (h m.blocks (read.stands).blocks) (c.in_ok-pulled.ensures.next m.blocks (read.stands).blocks) c.in_ok-check_limits.ensures.small) c.in_ok-pulled.ensures.pulled)
+    (λ bytes h m read. accepted s m read bytes done (h m.blocks (read.stands).blocks) (c.in_ok-pulled.ensures.next m.blocks (read.stands).blocks) c.in_ok-text.ensures.small c.in_ok-text.text) c.in_ok-pulled.ensures.pulled)
 
 -- ---- whatever the source tells
 

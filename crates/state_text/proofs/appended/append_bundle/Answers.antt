@@ -19,6 +19,12 @@ returns-clause-ok c = λ hs are.
     ∙ ap (λ (l : Bytes). l ++ 10 ∷ []) (appended ∙ ap (λ (l : Bytes). l ++ text) (c.in_ok-put_count.ensures.ok ∙ ap (λ (n : ℕ). c.args.out.now ++ count_line (codes "hg") n) whole))
     ∙ regroup c.args.out.now (count_line (codes "hg") (length text)) text (10 ∷ [])
 
+pub returns-clause-size : goal.returns-clause-size
+returns-clause-size c = λ hs are.
+    let text = hg_increment c.args.store.now [] hs in
+    let of = c.in_ok-dump.ensures.text hs (subst (λ (ids : List Id). AreChangesetsHeld c.args.store.now ids hs) (sym c.as_slice.ensures) are) in
+    omega (arith, c.len.ensures text of, c.in_ok-size.ensures.0, c.in_ok-size.ensures.1)
+
 pub returns-clause-front : goal.returns-clause-front
 returns-clause-front c =
     starts_with_trans _ _ _ c.push.ensures.front (starts_with_trans _ _ _ c.append.ensures.front c.put_count.ensures.front)

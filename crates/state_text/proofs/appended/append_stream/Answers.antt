@@ -17,3 +17,8 @@ returns-clause-ok c = λ cs are.
     c.in_ok-push.ensures.ok
     ∙ ap (λ (l : Bytes). l ++ 10 ∷ []) (appended ∙ ap (λ (l : Bytes). l ++ text) (c.in_ok-put_count.ensures.ok ∙ ap (λ (n : ℕ). c.args.out.now ++ count_line (codes "git") n) whole))
     ∙ regroup c.args.out.now (count_line (codes "git") (length text)) text (10 ∷ [])
+
+pub returns-clause-size : goal.returns-clause-size
+returns-clause-size c = λ cs are.
+    let of = c.in_ok-dump.ensures cs (subst (λ (ids : List Id). AreWalkableCommits c.args.store.now ids cs) (sym c.as_slice.ensures) are) in
+    omega (arith, c.len.ensures, ap (λ (l : Bytes). length l) of, c.in_ok-size.ensures.0, c.in_ok-size.ensures.1)

@@ -12,6 +12,6 @@ pub returns-clause-ok : goal.returns-clause-ok
 returns-clause-ok c =
     let s = c.args.state.now in
     on_ok_weaker c.put_sorted_map.result (λ e m h.
-    e ∙ ap (λ (l : List IdPair). c.args.out.now.items ++ sorted_lines l) (c.in_ok-pairs.ensures ∙ ap (map pair_in) c.blocks-2.ensures ∙ map-pairs s m h)
+    e ∙ ap (λ (l : List IdPair). c.args.out.now.items ++ sorted_lines l) (c.in_ok-pairs.ensures ∙ ap (map pair_in) c.blocks-2.ensures ∙ map-pairs s m.blocks h.blocks)
     ∙ ap (λ (t : Bytes). c.args.out.now.items ++ t) (map-lines m.blocks))
     c.put_sorted_map.ensures.ok
