@@ -1,7 +1,10 @@
 ghost use Rattle.std.specs.Prelude.{◌≡◌, IfOk};
 
 use bridge_text::{Id, NoMemory};
-use shared_text::{Text, again};
+use shared_text::Text;
+use std::alloc::Global;
+use std::marker::Model;
+use std::rc::Rc;
 
 /// What kind of file an entry is.
 #[derive(Clone, Copy, Debug, PartialEq, Eq)]
@@ -22,15 +25,44 @@ pub struct Entry {
     pub flag: Flag,
 }
 
-impl Entry {
-    /// The same entry once more, with no copy of the path.
-    pub fn again(&self) -> Result<Entry, NoMemory>
-        ensures { IfOk result (λ entry. entry ≡ self.now) }
+/// An entry with several owners, as those of manifests that have the same line. Contracts see the entry.
+#[derive(Drop)]
+pub(crate) struct SharedEntry {
+    entry: Rc<Entry>,
+}
+
+impl Model for SharedEntry {
+    ghost use Rattle.hg_manifest.specs.declared.entry.Entry.{Entry};
+
+    ghost Value = { Entry };
+
+    ghost view = { λ s. (s.entry).value };
+}
+
+impl SharedEntry {
+    // An entry with one owner.
+    pub(crate) fn new(alloc: Global, entry: Entry) -> Result<SharedEntry, NoMemory>
+        ensures { IfOk result (λ shared. shared ≡ entry) }
     {
-        Ok(Entry {
-            path: again(&self.path)?,
-            node: self.node,
-            flag: self.flag,
+        match Rc::new(alloc, entry) {
+            Ok(entry) => Ok(SharedEntry { entry }),
+            Err(_) => Err(NoMemory),
+        }
+    }
+
+    // Another owner of the same entry.
+    pub(crate) fn again(&self) -> Result<SharedEntry, NoMemory>
+        ensures { IfOk result (λ other. other ≡ self.now) }
+    {
+        Ok(SharedEntry {
+            entry: self.entry.clone()?,
         })
+    }
+
+    // The entry.
+    pub(crate) fn get(&self) -> &Entry
+        ensures { result.now ≡ self.now }
+    {
+        &self.entry
     }
 }

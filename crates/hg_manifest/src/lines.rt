@@ -5,7 +5,7 @@ ghost use Rattle.hg_model.specs.Manifest.{flag_text, entry_text, manifest_text};
 ghost use Rattle.hg_manifest.specs.Values.{file_flag, manifest_entry};
 ghost use Rattle.hg_manifest.specs.Near.{StartsWithLines};
 
-use crate::entry::{Entry, Flag};
+use crate::entry::{Flag, SharedEntry};
 use bridge_text::{Id, NoMemory};
 
 fn flag_bytes(flag: Flag) -> &'static [u8]
@@ -40,12 +40,13 @@ pub fn line_len(path: &[u8], flag: Flag) -> usize
 }
 
 // How many bytes of a text stand behind the lines of these entries, with which it begins.
-pub(crate) fn len_behind(text: &[u8], entries: &[Entry]) -> usize
+pub(crate) fn len_behind(text: &[u8], entries: &[SharedEntry]) -> usize
     requires { (rest : List ℕ) × StartsWithLines text.now (map manifest_entry entries.now) rest }
     ensures { (rest : List ℕ) → StartsWithLines text.now (map manifest_entry entries.now) rest → result ≡ length rest }
 {
     let mut behind = text.len();
     for entry in entries {
+        let entry = entry.get();
         behind -= line_len(entry.path.as_slice(), entry.flag);
     }
     behind
@@ -53,11 +54,12 @@ pub(crate) fn len_behind(text: &[u8], entries: &[Entry]) -> usize
 
 /// Adds the lines of entries, of which want of memory may leave some and a part of the next.
 #[tactic(auto, unfolding(hg_model::specs::Manifest::manifest_text))]
-pub fn put_lines(out: &mut Vec<u8>, entries: &[Entry]) -> Result<(), NoMemory>
+pub(crate) fn put_lines(out: &mut Vec<u8>, entries: &[SharedEntry]) -> Result<(), NoMemory>
     ensures ok { OnOk result (out.new.items ≡ out.old.items ++ manifest_text (map manifest_entry entries.now)) }
     ensures front { StartsWith out.new.items out.old.items }
 {
     for entry in entries {
+        let entry = entry.get();
         put_line(out, entry.path.as_slice(), &entry.node, entry.flag)?;
     }
     Ok(())

@@ -7,7 +7,7 @@ ghost use Rattle.hg_model.specs.Manifest.{IsManifest, IsManifestText, manifest_t
 ghost use Rattle.hg_manifest.specs.Values.{manifest_entry, IsFault};
 ghost use Rattle.hg_manifest.specs.Near.{first_rises};
 
-use crate::entry::Entry;
+use crate::entry::{Entry, SharedEntry};
 use crate::fault::ManifestFault;
 use crate::line::read_line;
 use crate::lines::put_lines;
@@ -24,7 +24,7 @@ const SHORTEST_LINE: usize = 43;
 /// The entries of a manifest, whose paths are fit and rise strictly as bytes. Contracts see the list.
 #[derive(Drop)]
 pub struct Manifest {
-    entries: Vec<Entry>,
+    entries: Vec<SharedEntry>,
 }
 
 impl Model for Manifest {
@@ -99,18 +99,30 @@ impl Manifest {
         ensures ok { OnOk result (self.new ≡ self.old ++ manifest_entry entry ∷ []) }
         ensures err { OnErr result (self.new ≡ self.old) }
     {
+        let shared = SharedEntry::new(*self.entries.allocator(), entry)?;
+        self.push_shared(shared)
+    }
+
+    // The same of an entry that may have other owners.
+    fn push_shared(&mut self, shared: SharedEntry) -> Result<(), NoMemory>
+        requires fit { IsTrue (is_fit_path shared.path) }
+        requires rises { IsTrue (rises_above (last_path self.old) shared.path) }
+        ensures ok { OnOk result (self.new ≡ self.old ++ manifest_entry shared ∷ []) }
+        ensures err { OnErr result (self.new ≡ self.old) }
+    {
+        let entry = shared.get();
         each_is_byte(entry.path.as_slice());
         let _bytes = entry.node.bytes();
-        Ok(self.entries.push(entry)?)
+        Ok(self.entries.push(shared)?)
     }
 
     // Adds entries of another manifest behind the others. Want of memory may leave some of them.
-    fn push_all(&mut self, entries: &[Entry]) -> Result<(), NoMemory>
+    fn push_all(&mut self, entries: &[SharedEntry]) -> Result<(), NoMemory>
         requires { IsManifest (self.old ++ map manifest_entry entries.now) }
         ensures { OnOk result (self.new ≡ self.old ++ map manifest_entry entries.now) }
     {
         for entry in entries {
-            self.push(entry.again()?)?;
+            self.push_shared(entry.again()?)?;
         }
         Ok(())
     }
@@ -123,7 +135,7 @@ impl Manifest {
     }
 
     // The entries.
-    pub(crate) fn entries(&self) -> &[Entry]
+    pub(crate) fn entries(&self) -> &[SharedEntry]
         ensures entries { map manifest_entry result.now ≡ self.now }
         ensures manifest { IsManifest self.now }
     {
@@ -150,7 +162,7 @@ impl Manifest {
         requires { i < length self.now }
         ensures { slice_get self.now i ≡ Some (manifest_entry result.now) }
     {
-        &self.entries[i]
+        self.entries[i].get()
     }
 
     /// The entry of a path; `None` exactly where no entry has it.
@@ -158,12 +170,12 @@ impl Manifest {
         ensures { option_map (λ entry. manifest_entry entry.now) result ≡ find (λ entry. bytes_eq entry.path path.now) self.now }
     {
         let place = self.entries.binary_search_by(
-            |entry: &Entry| -> Ordering
-                ensures { result ≡ slice_cmp nat_cmp entry.now.path path.entry.now }
-            { entry.path.as_slice().cmp(path) },
+            |shared: &SharedEntry| -> Ordering
+                ensures { result ≡ slice_cmp nat_cmp shared.now.path path.entry.now }
+            { shared.get().path.as_slice().cmp(path) },
         );
         match place {
-            Ok(i) => Some(&self.entries[i]),
+            Ok(i) => Some(self.entries[i].get()),
             Err(_) => None,
         }
     }
@@ -202,21 +214,21 @@ fn rises_above(last: Option<&[u8]>, path: &[u8]) -> bool
 }
 
 // Whether the path of the first of these entries stands after that of the line before, if there is one.
-fn first_rises(last: Option<&[u8]>, entries: &[Entry]) -> bool
+fn first_rises(last: Option<&[u8]>, entries: &[SharedEntry]) -> bool
     ensures { result ≡ first_rises (option_copied last.entry) (map manifest_entry entries.now) }
 {
     match entries.first() {
-        Some(entry) => rises_above(last, entry.path.as_slice()),
+        Some(entry) => rises_above(last, entry.get().path.as_slice()),
         None => true,
     }
 }
 
 // The path of the last of these entries.
-fn last_path(entries: &[Entry]) -> Option<&[u8]>
+fn last_path(entries: &[SharedEntry]) -> Option<&[u8]>
     ensures { option_copied result ≡ last_path (map manifest_entry entries.now) }
 {
     match entries.split_last() {
-        Some((entry, _)) => Some(entry.path.as_slice()),
+        Some((entry, _)) => Some(entry.get().path.as_slice()),
         None => None,
     }
 }

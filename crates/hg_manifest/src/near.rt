@@ -3,7 +3,7 @@ ghost use Rattle.hg_model.specs.Manifest.{IsManifestText};
 ghost use Rattle.hg_manifest.specs.Near.{IsSplit, AreFirstLines, IsFront, IsLater};
 ghost use Rattle.hg_manifest.specs.Values.{manifest_entry};
 
-use crate::entry::Entry;
+use crate::entry::{Entry, SharedEntry};
 use crate::lines::{len_behind, line_len};
 use crate::list::Manifest;
 use std::marker::Model;
@@ -15,7 +15,7 @@ pub(crate) const BLOCK: usize = 16;
 /// Contracts see their entries.
 #[derive(Drop)]
 pub struct Near<'a> {
-    entries: &'a [Entry],
+    entries: &'a [SharedEntry],
     lines: &'a [u8],
 }
 
@@ -64,7 +64,7 @@ impl<'a> Near<'a> {
     }
 
     // The entries of the first lines, of many or of one, and what follows these lines in a text that begins with them. Then they are no longer ahead.
-    pub(crate) fn take<'b>(&mut self, rest: &'b [u8]) -> Option<(&'a [Entry], &'b [u8])>
+    pub(crate) fn take<'b>(&mut self, rest: &'b [u8]) -> Option<(&'a [SharedEntry], &'b [u8])>
         ensures { IfSome result (λ found. AreFirstLines rest.entry.now (map manifest_entry found.0.now) found.1.now) }
     {
         match self.take_front(rest, BLOCK) {
@@ -74,7 +74,11 @@ impl<'a> Near<'a> {
     }
 
     // The same of so many lines.
-    fn take_front<'b>(&mut self, rest: &'b [u8], count: usize) -> Option<(&'a [Entry], &'b [u8])>
+    fn take_front<'b>(
+        &mut self,
+        rest: &'b [u8],
+        count: usize,
+    ) -> Option<(&'a [SharedEntry], &'b [u8])>
         requires some { 0 < count }
         ensures { IfSome result (λ found. AreFirstLines rest.entry.now (map manifest_entry found.0.now) found.1.now) }
     {
@@ -96,7 +100,7 @@ impl<'a> Near<'a> {
     }
 
     // The first entries, so many of them, the text of their lines, and the lines behind them; `None` where there are fewer.
-    pub(crate) fn front(&self, count: usize) -> Option<(&'a [Entry], &'a [u8], Near<'a>)>
+    pub(crate) fn front(&self, count: usize) -> Option<(&'a [SharedEntry], &'a [u8], Near<'a>)>
         ensures { IfSome result (λ parts. IsFront count self.now (map manifest_entry parts.0.now) parts.1.now parts.2) }
     {
         if self.entries.len() < count {
@@ -113,7 +117,8 @@ impl<'a> Near<'a> {
         ensures some { IfSome result (λ parts. IsSplit self.now parts.0.now parts.1.now parts.2) }
         ensures none { result ≡ None → self.now ≡ [] }
     {
-        let entry = self.entries.first()?;
+        let shared = self.entries.first()?;
+        let entry = shared.get();
         let (_, entries) = self.entries.split_at(1);
         let (line, lines) = self
             .lines

@@ -223,7 +223,7 @@ fn with_entry(rt: &impl Abort, alloc: Global) -> Result<Manifest, Fail> {
         node: Id::NULL,
         flag: Flag::Exec,
     };
-    manifest.push(entry.again()?)?;
+    manifest.push(entry)?;
     Ok(manifest)
 }
 

@@ -13,8 +13,8 @@ pub overflow_sub-behind : goal.overflow_sub-behind
 overflow_sub-behind c =
     let rest = c.requires.0 in
     let i = c.loop-entry.entry-index in
-    let e = c.entry-item.result in
-    let at = slice_get-get_or c.args.entries.now i e c.loop-entry-test.true ∙ ap Some (sym c.entry-item.is) in
+    let e = c.get-entry.result.now in
+    let at = slice_get-get_or c.args.entries.now i c.entry-item.result c.loop-entry-test.true ∙ ap Some (sym c.entry-item.is ∙ sym c.get-entry.ensures) in
     let measures : IsId e.node → c.line_len-behind.result ≡ length (entry_text (manifest_entry e)) =
     λ is. c.line_len-behind.ensures e.node is ∙ ap (λ (p : List ℕ). length (entry_text (record { path = p; node = e.node; flag = file_flag e.flag }))) c.as_slice.ensures in
     omega (arith, line_behind c.args.entries.now i e at c.requires.1.1 rest c.line_len-behind.result measures, c.loop-entry.invariant rest c.requires.1)
@@ -22,8 +22,8 @@ overflow_sub-behind c =
 pub loop-entry-preserved : goal.loop-entry-preserved
 loop-entry-preserved c = λ rest starts.
     let i = c.loop-entry.entry-index in
-    let e = c.entry-item.result in
-    let at = slice_get-get_or c.args.entries.now i e c.loop-entry-test.true ∙ ap Some (sym c.entry-item.is) in
+    let e = c.get-entry.result.now in
+    let at = slice_get-get_or c.args.entries.now i c.entry-item.result c.loop-entry-test.true ∙ ap Some (sym c.entry-item.is ∙ sym c.get-entry.ensures) in
     let measures : IsId e.node → c.line_len-behind.result ≡ length (entry_text (manifest_entry e)) =
     λ is. c.line_len-behind.ensures e.node is ∙ ap (λ (p : List ℕ). length (entry_text (record { path = p; node = e.node; flag = file_flag e.flag }))) c.as_slice.ensures in
     omega (arith, line_behind c.args.entries.now i e at starts.1 rest c.line_len-behind.result measures, c.loop-entry.invariant rest starts)

@@ -1,4 +1,4 @@
-use Rattle.std.proofs.Common.{◌≡◌, ◌∷◌, [], List, map, true, refl, sym, ap, ◌∙◌, nat_cmp, bytes_eq, find, subst}
+use Rattle.std.proofs.Common.{◌≡◌, Some, ◌∷◌, [], List, map, true, refl, sym, ap, ◌∙◌, nat_cmp, bytes_eq, find, subst}
 use Rattle.std.specs.Prelude.{option_map}
 use Rattle.std.specs.Cmp.Lexicographic.{slice_cmp}
 use Rattle.std.proofs.lemmas.Fn.{always_returns_same}
@@ -24,7 +24,8 @@ pub returns-in-Ok : goal.returns-in-Ok
 returns-in-Ok c =
     let position = c.in-Ok.ensures.position (λ e. slice_cmp nat_cmp e.path c.args.path.now) (always_returns_same _ _ _ (λ a r f called. (called.met.1, λ i. record { 0 = called.met.0 i }))) in
     let items = c.self.inside.entries.items in
-    ap (option_map manifest_entry) (got path_in items c.args.path.now c.in-Ok.i c.index.result.now (paths_rise items c.self.invariant) (rw (sym c.deref.ensures.value) c.in-Ok.ensures.bound) (rw (sym c.deref.ensures.value) position) c.index.ensures)
+    ap (λ (e : Entry). Some (manifest_entry e)) c.get.ensures
+    ∙ ap (option_map manifest_entry) (got path_in items c.args.path.now c.in-Ok.i c.index.result.now (paths_rise items c.self.invariant) (rw (sym c.deref.ensures.value) c.in-Ok.ensures.bound) (rw (sym c.deref.ensures.value) position) c.index.ensures)
     ∙ sym (find-map manifest_entry (λ e. bytes_eq e.path c.args.path.now) items)
     ∙ ap (λ (l : List ManifestEntry). find (λ e. bytes_eq e.path c.args.path.now) l) c.self.view_is
 

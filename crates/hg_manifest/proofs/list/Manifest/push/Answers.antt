@@ -1,11 +1,7 @@
-use Rattle.std.proofs.Common.{sym, IsTrue, subst, List}
-use Rattle.text_model.specs.Text.{Bytes, IsBytes}
-use Rattle.hg_model.specs.Manifest.{ManifestEntry, rises_above, last_path}
-use Rattle.hg_manifest.proofs.ReadLemmas.{pushed}
 use Rattle.hg_manifest.proofs.list.Manifest.push.Goals as goal
 
-pub invariant_of-self-2 : goal.invariant_of-self-2
-invariant_of-self-2 c =
-    let bytes = subst (λ (x : Bytes). IsBytes x) c.as_slice.ensures c.each_is_byte.ensures in
-    let above = subst (λ (es : List ManifestEntry). IsTrue (rises_above (last_path es) c.args.entry.path)) (sym c.self.view_is) c.requires.rises in
-    pushed c.self.inside.entries.items c.push.new.self.items c.args.entry c.in_ok-push.ensures.items c.self.invariant c.requires.fit bytes c.bytes-bytes.ensures.id above
+pub push_shared-requires-clause-fit : goal.push_shared-requires-clause-fit
+push_shared-requires-clause-fit c = rw c.in_ok-shared.ensures c.requires.fit
+
+pub push_shared-requires-clause-rises : goal.push_shared-requires-clause-rises
+push_shared-requires-clause-rises c = rw c.in_ok-shared.ensures c.requires.rises

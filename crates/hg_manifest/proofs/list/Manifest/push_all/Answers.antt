@@ -4,14 +4,14 @@ use Rattle.hg_manifest.specs.Values.{manifest_entry}
 use Rattle.hg_manifest.proofs.ReadLemmas.{next-at, next-pushed}
 use Rattle.hg_manifest.proofs.list.Manifest.push_all.Goals as goal
 
-pub push-requires-clause-fit : goal.push-requires-clause-fit
-push-requires-clause-fit c =
+pub push_shared-requires-clause-fit : goal.push_shared-requires-clause-fit
+push_shared-requires-clause-fit c =
     let at = slice_get-get_or c.args.entries.now c.loop-entry.entry-index c.entry-item.result c.loop-entry-test.true ∙ ap Some (sym c.entry-item.is) in
     let n = next-at c.args.self.now c.args.entries.now c.loop-entry.entry-index c.entry-item.result at c.requires in
     rw c.in_ok-again.ensures n.fit.0
 
-pub push-requires-clause-rises : goal.push-requires-clause-rises
-push-requires-clause-rises c =
+pub push_shared-requires-clause-rises : goal.push_shared-requires-clause-rises
+push_shared-requires-clause-rises c =
     let at = slice_get-get_or c.args.entries.now c.loop-entry.entry-index c.entry-item.result c.loop-entry-test.true ∙ ap Some (sym c.entry-item.is) in
     let n = next-at c.args.self.now c.args.entries.now c.loop-entry.entry-index c.entry-item.result at c.requires in
     rw (c.in_ok-again.ensures, c.loop-entry.invariant) n.rises
@@ -19,4 +19,4 @@ push-requires-clause-rises c =
 pub loop-entry-preserved : goal.loop-entry-preserved
 loop-entry-preserved c =
     let at = slice_get-get_or c.args.entries.now c.loop-entry.entry-index c.entry-item.result c.loop-entry-test.true ∙ ap Some (sym c.entry-item.is) in
-    c.in_ok-push.ensures.ok ∙ (λ i. c.loop-entry.invariant i ++ manifest_entry (c.in_ok-again.ensures i) ∷ []) ∙ next-pushed c.args.self.now c.args.entries.now c.loop-entry.entry-index c.entry-item.result at
+    c.in_ok-push_shared.ensures.ok ∙ (λ i. c.loop-entry.invariant i ++ manifest_entry (c.in_ok-again.ensures i) ∷ []) ∙ next-pushed c.args.self.now c.args.entries.now c.loop-entry.entry-index c.entry-item.result at
