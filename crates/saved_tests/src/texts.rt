@@ -1,9 +1,9 @@
 // The form of a state's text.
-use crate::values::{BUNDLE, COMMIT, NODE, STREAM, id};
+use crate::values::{BUNDLE, COMMIT, NODE, STREAM, id, text};
 use rope::Rope;
 use state_part::{
-    HeadFault, IdPair, IdPairs, count_into, put_count, put_head, put_map, put_pair, put_section,
-    put_sorted_map, read_count, read_head, read_map, read_section, section_laws,
+    HeadFault, IdPair, IdPairs, count_into, dumps_in, put_count, put_head, put_map, put_pair,
+    put_section, put_sorted_map, read_count, read_head, read_map, read_section, section_laws,
 };
 use std::alloc::Global;
 use std::test::Fail;
@@ -43,6 +43,16 @@ fn sections_are_read_as_they_were_written(rt: HostRuntime) -> Result<(), Fail> {
     assert!(rt; map.pairs.as_slice() == [pair()?].as_slice());
     assert!(rt; map.pairs.len() == 1 && !map.pairs.is_empty() && *map.pairs.at(0) == pair()?);
     assert!(rt; map.rest.is_empty());
+    Ok(())
+}
+
+#[test]
+fn dumps_are_parts_of_a_text(rt: HostRuntime) -> Result<(), Fail> {
+    let whole = written(rt.alloc())?;
+    let dumps = dumps_in(&text(rt.alloc(), &whole)?)?.ok_or("two dumps")?;
+    assert!(rt; dumps.bundle.as_slice() == BUNDLE && dumps.stream.as_slice() == STREAM);
+    let none = text(rt.alloc(), b"hg-git-bridge 2\nhg 0\n")?;
+    assert!(rt; dumps_in(&none)?.is_none());
     Ok(())
 }
 

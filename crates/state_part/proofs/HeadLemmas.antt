@@ -10,7 +10,8 @@ use Rattle.text_model.proofs.Options.{some_is, none_some}
 use Rattle.state_model.specs.Text.{version_word, version}
 use Rattle.state_model.specs.Saved.{IsVersionFault}
 use Rattle.state_part.specs.Form.{head_line, IsHeadFault}
-use Rattle.state_part.specs.declared.head.HeadFault.TheVariants.{Shape}
+use Rattle.state_part.specs.declared.head.HeadFault.{HeadFault}
+use Rattle.state_part.specs.declared.head.HeadFault.TheVariants.{OtherVersion, Shape}
 
 -- what stands before the number
 abbrev pub before_number : Bytes
@@ -78,3 +79,14 @@ pub no_other : (bytes first rest number : Bytes) → Some (first, rest) ≡ cut_
 no_other bytes first rest number cut first_is number_is v =
     let o = other_line bytes first rest cut v in
     o.other (append_cancel_left before_number _ _ (sym o.is ∙ first_is) ∙ number_is)
+
+-- the version in force is no other
+in_force-first : (bytes rest : Bytes) → bytes ≡ head_line ++ rest → ¬ (IsVersionFault bytes)
+in_force-first bytes rest is v =
+    let o = other_line bytes (before_number ++ version) rest (sym (ap (cut_of lf) is ∙ cut_of-head rest)) v in
+    o.other (append_cancel_left before_number _ _ (sym o.is))
+
+-- no first line at all
+pub no_head : (bytes : Bytes) (why : HeadFault) → IsHeadFault bytes why → (rest : Bytes) → bytes ≢ head_line ++ rest
+no_head bytes OtherVersion v rest is = in_force-first bytes rest is v
+no_head bytes Shape h rest is = h.1 rest is

@@ -4,3 +4,4 @@ pub mod SectionLemmas
 pub mod HeadLemmas
 pub mod PairLemmas
 pub mod SortLemmas
+pub mod DumpLemmas

@@ -1,5 +1,5 @@
 -- How the parts of a state's text are told apart.
-use Rattle.std.specs.Prelude.{◌≡◌, ◌≢◌, ℕ, ◌<◌, ◌^◌, [], ◌∷◌, ◌++◌, decimal}
+use Rattle.std.specs.Prelude.{◌≡◌, ◌≢◌, ℕ, ◌<◌, ◌^◌, [], ◌∷◌, ◌++◌, codes, decimal, length}
 use Rattle.text_model.specs.Text.{Bytes, line, spaced}
 use Rattle.state_model.specs.Text.{sized, version_word, version}
 use Rattle.state_model.specs.Saved.{IsVersionFault}
@@ -35,3 +35,21 @@ HasSection word bytes text rest = bytes ≡ sized word text ++ rest
 -- no section of this word begins the bytes
 abbrev pub NoSection : Bytes → Bytes → Type 0
 NoSection word bytes = (text rest : Bytes) → bytes ≢ sized word text ++ rest
+
+-- the bytes are an end of the text
+abbrev pub IsEnd : Bytes → Bytes → Type 0
+IsEnd text bytes = (front : Bytes) × (text ≡ front ++ bytes)
+
+-- the first line, the sections of a bundle and of a stream, and the rest
+abbrev pub dumps_text : Bytes → Bytes → Bytes → Bytes
+dumps_text bundle stream rest = head_line ++ (sized (codes "hg") bundle ++ (sized (codes "git") stream ++ rest))
+
+-- a text begins with the first line and the sections of this bundle and of this stream
+pub record HasDumps (text bundle stream : Bytes) : Type 0 where
+  pub rest : Bytes
+  pub is : text ≡ dumps_text bundle stream rest
+  pub short : length text < 2 ^ 64
+
+-- it doesn't begin so
+abbrev pub NoDumps : Bytes → Type 0
+NoDumps text = (bundle stream rest : Bytes) → text ≢ dumps_text bundle stream rest

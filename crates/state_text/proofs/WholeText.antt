@@ -17,7 +17,7 @@ use Rattle.state_model.specs.Saved.{AreDumped, AreCommitsSaved, AreTagsSaved, Is
 use Rattle.name_model.specs.Targets.{AreTargets}
 use Rattle.dump_law.proofs.Blocks.{ids-blocks}
 use Rattle.dump_law.proofs.Names.{targets-same, targets-are}
-use Rattle.state_part.specs.Form.{head_line, IsHeadFault}
+use Rattle.state_part.specs.Form.{head_line, IsEnd, IsHeadFault}
 use Rattle.state_part.specs.declared.head.HeadFault.{HeadFault}
 use Rattle.state_part.specs.declared.head.HeadFault.TheVariants.{OtherVersion, Shape}
 use Rattle.state_text.specs.declared.fault.StateFault.{StateFault}
@@ -30,7 +30,7 @@ use Rattle.tag_section.specs.Tags.{HoldsTags}
 use Rattle.pair_state.specs.declared.blocks.Block as pair
 use Rattle.state_text.specs.declared.heads.Head.{Head}
 use Rattle.state_text.specs.Heads.{heads_of}
-use Rattle.state_text.specs.Sections.{IsEnd, hg_text, NoHg, HasHg, NoGit, HasGit, NoTags, HasTags, HasNames, paired, pairs_text, names_text, targets_read}
+use Rattle.state_text.specs.Sections.{hg_text, NoHg, HasHg, NoGit, HasGit, NoTags, HasTags, HasNames, paired, pairs_text, names_text, targets_read}
 use Rattle.state_text.specs.Whole.{block_in, AreSectionsOf}
 use Rattle.state_text.proofs.BlockLemmas.{Made, blocks-made, head_in, heads-blocks, paired-blocks, partners-blocks, nodes-once, ids-once, pairs-section, map_text_of}
 use Rattle.state_text.proofs.SectionLemmas.{IsRead, read-first, read-more}

@@ -21,10 +21,6 @@ use Rattle.state_part.specs.Pairs.{map_section}
 use Rattle.state_text.specs.declared.heads.Head.{Head}
 use Rattle.state_text.specs.Heads.{heads_of}
 
--- the bytes are an end of the text
-abbrev pub IsEnd : Bytes → Bytes → Type 0
-IsEnd text bytes = (front : Bytes) × (text ≡ front ++ bytes)
-
 abbrev pub hg_text : List ChangesetView → Bytes
 hg_text hs = sized (codes "hg") (hg_dump hs)
 

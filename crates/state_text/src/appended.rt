@@ -7,12 +7,11 @@ ghost use Rattle.view_model.specs.Dump.{hg_increment, git_increment};
 ghost use Rattle.git_dump.specs.Commits.{AreWalkableCommits};
 ghost use Rattle.state_model.specs.Text.{sized};
 
-use crate::sections::{GIT, HG};
 use bridge_text::{IdList, NoMemory};
 use git_store::GitStore;
 use hg_store::HgStore;
 use rope::Rope;
-use state_part::put_count;
+use state_part::{GIT, HG, put_count};
 use std::alloc::Global;
 
 /// Appends the section of the bundle of these changesets, and tells the size of the bundle. What it brings is collected once, for its size, which is

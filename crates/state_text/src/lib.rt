@@ -10,7 +10,6 @@ mod nameable;
 mod names;
 mod reading;
 mod sections;
-mod shared;
 mod sizes;
 mod write;
 
@@ -18,4 +17,4 @@ pub use fault::StateFault;
 pub use nameable::{Nameable, id_set};
 pub use reading::read;
 pub use sizes::Sizes;
-pub use write::{dump_git, dump_hg, map_into, write_into};
+pub use write::{dump_git, dump_hg, map_into, tags_text, write_into};

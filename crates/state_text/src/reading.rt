@@ -1,7 +1,8 @@
 // A state is read from its text.
-ghost use Rattle.std.specs.Prelude.{IfErr, IfOk};
+ghost use Rattle.std.specs.Prelude.{◌≡◌, ◌++◌, IfErr, IfOk};
 ghost use Rattle.state_model.specs.Kept as model;
-ghost use Rattle.state_model.specs.Saved.{IsStateText};
+ghost use Rattle.state_model.specs.Saved.{IsStateText, IsVersionFault};
+ghost use Rattle.state_part.specs.Form.{head_line};
 ghost use Rattle.state_text.specs.Faults.{IsStateFault};
 ghost use Rattle.state_text.specs.Stands.{Stands, HoldsExactly};
 
@@ -10,10 +11,10 @@ use crate::blocks::blocks_of;
 use crate::fault::StateFault;
 use crate::names::read_named;
 use crate::sections::{read_git, read_hg, read_pairs, read_tagged};
-use crate::shared::behind_head;
 use bridge_text::SLOT_LIMIT;
 use pair_state::State;
 use shared_text::Text;
+use state_part::read_head;
 use std::alloc::Global;
 
 /// The state whose text this is, of which the state keeps parts. `StateVersion` comes exactly where the first line names another
@@ -38,4 +39,15 @@ pub fn read(alloc: Global, text: &Text) -> Result<State, StateFault>
         return Err(StateFault::StateShape(5));
     }
     Ok(assemble(alloc, hg.section, blocks, tags.section, named)?)
+}
+
+// What follows the first line of a state's text. `StateVersion` comes exactly where the first line names another version, and `StateShape`
+// with 0 where the bytes begin with no such line.
+fn behind_head(bytes: &Text) -> Result<&[u8], StateFault>
+    ensures head { IfOk result (λ rest. bytes.now ≡ head_line ++ rest.now) }
+    ensures version { IfOk result (λ _. ¬ (IsVersionFault bytes.now)) }
+    ensures fault { IfErr result (IsStateFault bytes.now) }
+{
+    let rest = read_head(bytes.as_slice())?;
+    Ok(rest)
 }

@@ -5,26 +5,20 @@ ghost use Rattle.view_model.specs.View.{ChangesetView, CommitView};
 ghost use Rattle.git_model.specs.Object.{Object};
 ghost use Rattle.git_section.specs.Sections.{HoldsCommits};
 ghost use Rattle.state_model.specs.Kept as kept;
-ghost use Rattle.state_text.specs.Sections.{IsEnd, NoHg, HasHg, NoGit, HasGit, NoTags, HasTags, pairs_text};
+ghost use Rattle.state_part.specs.Form.{IsEnd};
+ghost use Rattle.state_text.specs.Sections.{NoHg, HasHg, NoGit, HasGit, NoTags, HasTags, pairs_text};
 
 use crate::blocks::pairs_of;
 use crate::heads::{Heads, heads_among};
-use crate::shared::shared_section;
 use bridge_text::NoMemory;
 use git_section::{GitSection, read_commits};
 use hg_section::{HgSection, read_changesets};
 use known_blobs::KnownBlobs;
 use pair_state::Blocks;
 use shared_text::Text;
-use state_part::{put_map, read_section};
+use state_part::{GIT, HG, put_map, read_section, shared_section};
 use std::alloc::Global;
 use tag_section::{TagSection, read_tags};
-
-/// The section of the changesets.
-pub const HG: &[u8] = b"hg";
-
-/// The section of the commits.
-pub const GIT: &[u8] = b"git";
 
 /// The section of the kept tags.
 pub const TAGS: &[u8] = b"tags";

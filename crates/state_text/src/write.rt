@@ -50,8 +50,8 @@ pub fn write_into(state: &State, out: &mut Rope) -> Result<Sizes, NoMemory>
     })
 }
 
-// The text of the kept tags in one piece.
-fn tags_text(state: &State) -> Result<Vec<u8>, NoMemory>
+/// The stream of the kept tags alone, in one piece.
+pub fn tags_text(state: &State) -> Result<Vec<u8>, NoMemory>
     ensures { IfOk result (λ text. (m : model.State) → Stands state.now m → text.items ≡ stream_text m.tags) }
 {
     let mut text = Rope::new(state.alloc());

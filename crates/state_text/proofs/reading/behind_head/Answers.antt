@@ -4,7 +4,7 @@ use Rattle.text_model.specs.Text.{Bytes}
 use Rattle.state_part.specs.Form.{IsHeadFault}
 use Rattle.state_text.specs.Faults.{head_refused}
 use Rattle.state_text.proofs.WholeText.{err-is, head-fault}
-use Rattle.state_text.proofs.shared.behind_head.Goals as goal
+use Rattle.state_text.proofs.reading.behind_head.Goals as goal
 
 pub returns-in_err-rest-clause-fault : goal.returns-in_err-rest-clause-fault
 returns-in_err-rest-clause-fault c =

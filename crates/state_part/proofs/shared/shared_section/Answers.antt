@@ -3,7 +3,7 @@ use Rattle.std.specs.Prelude.{slice_range, decimal}
 use Rattle.std.proofs.lemmas.List.{length-append, take_at, drop_at}
 use Rattle.text_model.specs.Text.{Bytes, line, spaced}
 use Rattle.state_part.specs.Form.{HasSection}
-use Rattle.state_text.proofs.shared.shared_section.Goals as goal
+use Rattle.state_part.proofs.shared.shared_section.Goals as goal
 
 -- what a section says, as a part of the whole text
 part-is : (whole front head text rest : Bytes) (start end : ℕ) → whole ≡ front ++ ((head ++ (text ++ 10 ∷ [])) ++ rest) → end ≡ length whole - length rest - 1 → start ≡ end - length text → slice_range whole start end ≡ text

@@ -1,14 +1,10 @@
-// Parts of a state's text, which share its block.
-ghost use Rattle.std.specs.Prelude.{◌≡◌, ◌<◌, ◌++◌, ◌^◌, length, IfErr, IfOk, IfSome, MatchOption};
-ghost use Rattle.state_model.specs.Saved.{IsVersionFault};
-ghost use Rattle.state_part.specs.Form.{head_line, HasSection, NoSection};
-ghost use Rattle.state_text.specs.Faults.{IsStateFault};
-ghost use Rattle.state_text.specs.Sections.{IsEnd};
+// Sections of a text that is shared, as parts of it.
+ghost use Rattle.std.specs.Prelude.{◌≡◌, ◌<◌, ◌^◌, length, IfOk, IfSome, MatchOption};
+ghost use Rattle.state_part.specs.Form.{IsEnd, HasSection, NoSection};
 
-use crate::fault::StateFault;
+use crate::section::read_section;
 use bridge_text::NoMemory;
 use shared_text::{Text, part};
-use state_part::{read_head, read_section};
 
 /// A section that bytes begin with.
 pub struct SharedSection<'a> {
@@ -24,15 +20,14 @@ impl Drop for SharedSection<'_> {
     }
 }
 
-/// What follows the first line of a state's text. `StateVersion` comes exactly where the first line names another version, and `StateShape`
-/// with 0 where the bytes begin with no such line.
-pub fn behind_head(bytes: &Text) -> Result<&[u8], StateFault>
-    ensures head { IfOk result (λ rest. bytes.now ≡ head_line ++ rest.now) }
-    ensures version { IfOk result (λ _. ¬ (IsVersionFault bytes.now)) }
-    ensures fault { IfErr result (IsStateFault bytes.now) }
-{
-    let rest = read_head(bytes.as_slice())?;
-    Ok(rest)
+impl SharedSection<'_> {
+    /// What the section says.
+    pub fn into_text(self) -> Text
+        ensures { result ≡ self.entry.text }
+    {
+        let SharedSection { text, rest: _ } = self;
+        text
+    }
 }
 
 /// The section of this word that begins the bytes, an end of the text, of which it keeps a part; `None` exactly where no such section begins
