@@ -9,7 +9,8 @@ use Rattle.bridge_io.specs.Slot.{FetchGives}
 use Rattle.pair_state.specs.declared.state.State.{State}
 use Rattle.pair_state.specs.AllBlocks.{HasAllBlocks}
 use Rattle.pull_engine.proofs.Empty.{empty-is-read}
-use Rattle.bridge_cli.specs.Fetched.{IsFetched, IsNotFetched, IsNoText, ReadsText, Fetches}
+use Rattle.bridge_cli.specs.Fetched.{IsFetched, IsFetchedWith, IsNotFetched, IsNoText, ReadsText, FetchesWith}
+use Rattle.bridge_cli.specs.declared.fetch.Fetched.{Fetched}
 use Rattle.bridge_cli.specs.Makes.{LeavesSlotCount}
 use Rattle.bridge_cli.specs.Report.{bad_value}
 use Rattle.bridge_cli.specs.declared.report.Report.{Report}
@@ -17,8 +18,8 @@ use Rattle.bridge_cli.specs.declared.report.Report.TheVariants as code
 use Rattle.bridge_cli.proofs.EmptyText.{empty-bytes}
 
 -- a text that was read, or is none, leaves the count of the slot's faults
-pub leaves-count : (before now : ℕ) (text : Bytes) (result : Result State Report) → ReadsText text result → now ≡ before → LeavesSlotCount before now result
-leaves-count before now text (Ok s) reads e = e
+pub leaves-count : (before now : ℕ) (text : Bytes) (result : Result Fetched Report) → ReadsText text result → now ≡ before → LeavesSlotCount before now result
+leaves-count before now text (Ok f) reads e = e
 leaves-count before now text (Err code.Done) reads e = absurd reads
 leaves-count before now text (Err (code.Refused why)) reads e = absurd reads
 leaves-count before now text (Err code.Usage) reads e = absurd reads
@@ -56,19 +57,23 @@ gives-text (Some None) max into found gives is = absurd (true-false (sym is ∙ 
 gives-text (Some (Some bytes)) max into found gives is = sym (ap Some gives.1)
 
 -- the state of a text that was fetched
-pub text-fetched : (slot : Option (Option Bytes)) (max : ℕ) (text : Bytes) (found : Bool) (result : Result State Report) → FetchGives slot max (Ok found) text → found ≡ true
-    → OnOk result (IsBytes text) → ReadsText text result → Fetches slot result
-text-fetched slot max text found (Ok s) gives is are (m, read, text-is) =
-    (m, read, subst IsBytes text-is.1 are, held-text slot text m (gives-text slot max text found gives is) text-is)
+pub text-fetched : (slot : Option (Option Bytes)) (max : ℕ) (text : Bytes) (found : Bool) (result : Result Fetched Report) → FetchGives slot max (Ok found) text → found ≡ true
+    → OnOk result (IsBytes text) → ReadsText text result → FetchesWith slot result
+text-fetched slot max text found (Ok f) gives is are (m, read, text-is, has) =
+    (m, read, subst IsBytes text-is.1 are, held-text slot text m (gives-text slot max text found gives is) text-is, subst (λ (t : Option Bytes). IfSome t (λ own. IsStateText own m)) (sym has) text-is)
 text-fetched slot max text found (Err report) gives is are unread = no-state slot text report (gives-text slot max text found gives is) unread
 
 -- nothing is held: the empty state
 pub nothing-fetched : (slot : Option (Option Bytes)) (max : ℕ) (into : Bytes) (found : Bool) (s : State) → FetchGives slot max (Ok found) into → found ≡ false
-    → HasAllBlocks s [] → s.known.hg ≡ [] → s.known.git ≡ [] → s.tags ≡ [] → s.names ≡ [] → IsFetched slot s
+    → HasAllBlocks s [] → s.known.hg ≡ [] → s.known.git ≡ [] → s.tags ≡ [] → s.names ≡ [] → IsFetchedWith slot (record { state = s; text = None })
 nothing-fetched slot max into found s gives is blocks revisions objects tags names =
-    (model.empty_state, empty-is-read s blocks revisions objects tags names, empty-bytes, held slot gives)
+    (model.empty_state, empty-is-read s blocks revisions objects tags names, empty-bytes, held slot gives, tt)
   where
     held : (slot : Option (Option Bytes)) → FetchGives slot max (Ok found) into → IfSome slot (λ held. SlotHolds held model.empty_state)
     held None gives = tt
     held (Some None) gives = refl
     held (Some (Some bytes)) gives = absurd (true-false (sym gives.0 ∙ is))
+
+-- the state alone
+pub state-fetched : (slot : Option (Option Bytes)) (f : Fetched) → IsFetchedWith slot f → IsFetched slot f.state
+state-fetched slot f (m, read, are, holds, text) = (m, read, are, holds)

@@ -5,6 +5,7 @@ pub mod AloneLemmas
 pub mod RefusedLemmas
 pub mod EmptyText
 pub mod FetchLemmas
+pub mod DumpLemmas
 pub mod SavedLemmas
 pub mod HeadlineLemmas
 pub mod RunLemmas

@@ -6,9 +6,8 @@ use Rattle.state_model.specs.Kept as model
 use Rattle.state_model.specs.Saved.{SlotHolds}
 use Rattle.command_model.specs.Command.{DumpHg, DumpGit, Map, NamesHg, NamesGit, Written}
 use Rattle.ref_map.specs.declared.row.Side.TheVariants.{Hg, Git}
-use Rattle.pair_state.specs.declared.state.State.{State}
-use Rattle.name_engine.specs.Set.{IsSaved}
-use Rattle.bridge_cli.specs.Fetched.{IsFetched, IsNotFetched}
+use Rattle.bridge_cli.specs.Fetched.{IsFetchedWith, IsSavedWith, IsNotFetched}
+use Rattle.bridge_cli.specs.declared.fetch.Fetched.{Fetched}
 use Rattle.bridge_cli.specs.Makes.{IsTextOf, IsEndOf, Makes}
 use Rattle.bridge_cli.specs.Printed.{print_command, print_of}
 use Rattle.bridge_cli.specs.declared.printed.Printed.{Printed}
@@ -25,21 +24,21 @@ print-unfetched printed.Map input slot report end = unfetched Map refl input slo
 print-unfetched (printed.Names Hg) input slot report end = unfetched NamesHg refl input slot report end
 print-unfetched (printed.Names Git) input slot report end = unfetched NamesGit refl input slot report end
 
-module _ (slot : Option (Option Bytes)) (s : State) (w : Work) (bytes : Bytes) (fetched : IsFetched slot s) (same : w.output ≡ bytes) (none : w.text ≡ None) (input : Option Bytes) where
+module _ (slot : Option (Option Bytes)) (f : Fetched) (w : Work) (bytes : Bytes) (fetched : IsFetchedWith slot f) (same : w.output ≡ bytes) (none : w.text ≡ None) (input : Option Bytes) where
   -- the output is what is written of the saved state
-  written : (made : model.State → Bytes) → ((m : model.State) → IsSaved s m → bytes ≡ made m)
+  written : (made : model.State → Bytes) → ((m : model.State) → IsSavedWith f m → bytes ≡ made m)
       → IfSome slot (λ held. (m : model.State) × SlotHolds held m × ((saved : Option model.State) × (Written (made m) None ≡ Written w.output saved) × IsTextOf saved w.text))
   written made told = by slot fetched
     where
-      by : (slot : Option (Option Bytes)) → IsFetched slot s
+      by : (slot : Option (Option Bytes)) → IsFetchedWith slot f
           → IfSome slot (λ held. (m : model.State) × SlotHolds held m × ((saved : Option model.State) × (Written (made m) None ≡ Written w.output saved) × IsTextOf saved w.text))
       by None fetched = tt
-      by (Some held) (m, read, are, holds) =
-          let is : made m ≡ w.output = sym (told m (saved-of s m read)) ∙ sym same in
+      by (Some held) (m, read, are, holds, text) =
+          let is : made m ≡ w.output = sym (told m (record { saved = saved-of f.state m read; text = text })) ∙ sym same in
           (m, holds, (None, ap (λ (o : Bytes). Written o None) is, subst (IsTextOf None) (sym none) tt))
 
   -- so it is what is printed
-  pub print-makes : (what : Printed) → ((m : model.State) → IsSaved s m → bytes ≡ print_of what m) → Makes (print_command what) input input slot (Ok w)
+  pub print-makes : (what : Printed) → ((m : model.State) → IsSavedWith f m → bytes ≡ print_of what m) → Makes (print_command what) input input slot (Ok w)
   print-makes printed.Bundle told = (tt, written (print_of printed.Bundle) told)
   print-makes printed.Stream told = (tt, written (print_of printed.Stream) told)
   print-makes printed.Map told = (tt, written (print_of printed.Map) told)

@@ -1,5 +1,5 @@
 -- The state that a slot gives.
-use Rattle.std.specs.Prelude.{Option, Some, IfSome, Result, MatchResult, ⊤}
+use Rattle.std.specs.Prelude.{◌≡◌, Option, Some, IfSome, Result, MatchResult, ⊤}
 use Rattle.text_model.specs.Text.{Bytes, IsBytes}
 use Rattle.state_model.specs.Kept as model
 use Rattle.state_model.specs.Text.{state_text}
@@ -8,12 +8,23 @@ use Rattle.command_model.specs.Command.{IsBadSlot}
 use Rattle.pair_state.specs.declared.state.State.{State}
 use Rattle.pull_engine.specs.Read.{IsReadState}
 use Rattle.bridge_cli.specs.Report.{bad_value}
+use Rattle.name_engine.specs.Set.{IsSaved}
+use Rattle.bridge_cli.specs.declared.fetch.Fetched.{Fetched}
 use Rattle.bridge_cli.specs.declared.report.Report.{Report}
 use Rattle.bridge_cli.specs.declared.report.Report.TheVariants as code
 
 -- the state is what the slot holds, where it tells it, and its text is made of bytes
 abbrev pub IsFetched : Option (Option Bytes) → State → Type 0
 IsFetched slot s = (m : model.State) × IsReadState s m × IsBytes (state_text m) × IfSome slot (λ held. SlotHolds held m)
+
+-- the same with the text of the state, if there is one
+abbrev pub IsFetchedWith : Option (Option Bytes) → Fetched → Type 0
+IsFetchedWith slot f = (m : model.State) × IsReadState f.state m × IsBytes (state_text m) × IfSome slot (λ held. SlotHolds held m) × IfSome f.text (λ text. IsStateText text m)
+
+-- what was fetched stands for a saved state, and has its text, if it has one
+pub record IsSavedWith (f : Fetched) (m : model.State) : Type 0 where
+  pub saved : IsSaved f.state m
+  pub text : IfSome f.text (λ text. IsStateText text m)
 
 -- why the slot gives no state
 abbrev pub IsNotFetched : Option (Option Bytes) → Report → Type 0
@@ -29,8 +40,11 @@ IsNoText text code.Memory = ⊤
 IsNoText text report = ⊥
 
 -- what is read of the text of a slot
-abbrev pub ReadsText : Bytes → Result State Report → Type 0
-ReadsText text result = MatchResult result (λ s. (m : model.State) × IsReadState s m × IsStateText text m) (IsNoText text)
+abbrev pub ReadsText : Bytes → Result Fetched Report → Type 0
+ReadsText text result = MatchResult result (λ f. (m : model.State) × IsReadState f.state m × IsStateText text m × (f.text ≡ Some text)) (IsNoText text)
 
 abbrev pub Fetches : Option (Option Bytes) → Result State Report → Type 0
 Fetches slot result = MatchResult result (IsFetched slot) (IsNotFetched slot)
+
+abbrev pub FetchesWith : Option (Option Bytes) → Result Fetched Report → Type 0
+FetchesWith slot result = MatchResult result (IsFetchedWith slot) (IsNotFetched slot)

@@ -1,13 +1,5 @@
-use Rattle.bridge_cli.proofs.FetchLemmas.{leaves-count, text-fetched, nothing-fetched}
+use Rattle.bridge_cli.proofs.FetchLemmas.{state-fetched}
 use Rattle.bridge_cli.proofs.fetch.fetch_state.Goals as goal
 
-pub returns-in-Ok-true-clause-state : goal.returns-in-Ok-true-clause-state
-returns-in-Ok-true-clause-state g c =
-    text-fetched _ _ _ _ c.state_of.result c.in-Ok-true.ensures.gives c.in-Ok-true.field-0-test c.state_of.ensures.bytes c.state_of.ensures.reads
-
-pub returns-in-Ok-true-clause-cause : goal.returns-in-Ok-true-clause-cause
-returns-in-Ok-true-clause-cause g c = leaves-count _ _ _ _ c.state_of.ensures.reads c.in-Ok-true.ensures.cause
-
-pub returns-in-Ok-false-clause-state : goal.returns-in-Ok-false-clause-state
-returns-in-Ok-false-clause-state g c =
-    nothing-fetched _ _ _ _ c.empty.result c.in-Ok-false.ensures.gives c.in-Ok-false.field-0-test c.empty.ensures.state c.empty.ensures.revisions c.empty.ensures.objects c.empty.ensures.tags c.empty.ensures.names
+pub returns-clause-state : goal.returns-clause-state
+returns-clause-state g c = rw c.into_state.ensures (state-fetched (g.K.Slot.held c.args.slot.now) c.in_ok-fetched.fetched c.in_ok-fetched.ensures.state)
