@@ -7,10 +7,10 @@ use crate::shared::shared_section;
 use bridge_text::NoMemory;
 use shared_text::Text;
 
-/// The section of the changesets.
+/// The word with which the section of the changesets begins.
 pub const HG: &[u8] = b"hg";
 
-/// The section of the commits.
+/// The word with which the section of the commits begins.
 pub const GIT: &[u8] = b"git";
 
 /// The dumps of both sides, which are parts of a state's text.
