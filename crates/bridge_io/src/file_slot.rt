@@ -5,8 +5,9 @@ use crate::failed::Failed;
 use crate::slot::{Slot, SlotFault};
 use bytes::Bytes;
 use rope::Rope;
+use std::alloc::Global;
 use std::fs::OpenFile;
-use std::io::{ErrorKind, Read, Write};
+use std::io::{BufWriter, ErrorKind, Read, Write};
 use std::marker::Model;
 use std::rt::Files;
 use std::{fs, io};
@@ -15,12 +16,16 @@ const STATE: &str = "hggit.state";
 
 const NEW_STATE: &str = "hggit.state.new";
 
+/// How many bytes are gathered before they are written: the pieces of a state are short, and the system takes its time for each write.
+const WRITTEN_LEN: usize = 1 << 16;
+
 /// The file `hggit.state` in the current folder. While there is no such file, nothing is held. It tells no content.
 ///
 /// A replacement is written to `hggit.state.new`, handed to the disk, and renamed. So a replacement that fails or is cut
 /// off before the renaming leaves the old file as it was.
 #[derive(Drop)]
 pub struct FileSlot<R: Files + Drop> {
+    alloc: Global,
     files: R,
     faults: u64,
 }
@@ -33,10 +38,14 @@ impl<R: Files + Drop> Model for FileSlot<R> {
 
 impl<R: Files + Drop> FileSlot<R> {
     /// A slot without a fault so far. Contracts see the number of its faults.
-    pub fn new(files: R) -> FileSlot<R>
+    pub fn new(alloc: Global, files: R) -> FileSlot<R>
         ensures { result ≡ 0 }
     {
-        FileSlot { files, faults: 0 }
+        FileSlot {
+            alloc,
+            files,
+            faults: 0,
+        }
     }
 }
 
@@ -62,7 +71,7 @@ impl<R: Files + Drop> Slot for FileSlot<R> {
 
     /// `Failed` comes where the new file can't be made, written or renamed, want of memory included.
     fn replace(&mut self, text: &Rope) -> Result<(), Failed> {
-        match replace_file(&self.files, text) {
+        match replace_file(self.alloc, &self.files, text) {
             Ok(()) => Ok(()),
             Err(_) => {
                 self.faults = self.faults.saturating_add(1);
@@ -130,11 +139,13 @@ fn fault_of(error: &io::Error) -> SlotFault {
 }
 
 // Writes the new file, hands it to the disk, and puts it in the place of the old one.
-fn replace_file(files: &impl Files, text: &Rope) -> io::Result<()> {
+fn replace_file(alloc: Global, files: &impl Files, text: &Rope) -> io::Result<()> {
+    let file = fs::create(files, NEW_STATE)?;
+    let mut writer = BufWriter::with_capacity(alloc, WRITTEN_LEN, file)?;
     let (pieces, end) = text.pieces();
-    let mut file = fs::create(files, NEW_STATE)?;
-    write_pieces(&mut file, pieces)?;
-    file.write_all(end)?;
+    write_pieces(&mut writer, pieces)?;
+    writer.write_all(end)?;
+    let file = writer.into_inner()?;
     file.sync_all()?;
     fs::rename(files, NEW_STATE, STATE)
 }

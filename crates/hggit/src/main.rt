@@ -67,7 +67,7 @@ fn main(rt: HostRuntime) -> ExitCode {
             rt.reader(),
             rt.stdout(),
             rt.stderr(),
-            &mut FileSlot::new(&rt),
+            &mut FileSlot::new(rt.alloc(), &rt),
             Blank::new(1),
         ),
         Err(NoMemory) => Status::Memory,

@@ -27,7 +27,7 @@ fn clear(files: &impl Files) {
 fn a_file_slot_holds_its_last_replacement(rt: HostRuntime) -> Result<(), Fail> {
     clear(&rt);
     small_texts(&rt)?;
-    large_text(&rt)?;
+    large_texts(&rt)?;
     changing_text(&rt)?;
     clear(&rt);
     no_plain_file(&rt)?;
@@ -38,13 +38,13 @@ fn a_file_slot_holds_its_last_replacement(rt: HostRuntime) -> Result<(), Fail> {
 // Whether the slot has no text yet.
 fn is_new(rt: &(impl Files + AllocGlobal)) -> bool {
     let mut into = Vec::new(rt.alloc());
-    FileSlot::new(rt).fetch(9, &mut into) == Ok(false)
+    FileSlot::new(rt.alloc(), rt).fetch(9, &mut into) == Ok(false)
 }
 
 // Whether a text is put into the slot, and no other file is left.
 fn is_replaced(rt: &(impl Files + AllocGlobal), text: &[u8]) -> Result<bool, Fail> {
     let rope = in_thirds(rt.alloc(), text)?;
-    let is_put = FileSlot::new(rt).replace(&rope) == Ok(());
+    let is_put = FileSlot::new(rt.alloc(), rt).replace(&rope) == Ok(());
     let is_left = fs::exists(rt, NEW_STATE)?;
     Ok(is_put && !is_left)
 }
@@ -52,13 +52,13 @@ fn is_replaced(rt: &(impl Files + AllocGlobal), text: &[u8]) -> Result<bool, Fai
 // Whether the slot has this text, of `limit` bytes at most.
 fn is_fetched(rt: &(impl Files + AllocGlobal), limit: usize, text: &[u8]) -> bool {
     let mut into = Vec::new(rt.alloc());
-    FileSlot::new(rt).fetch(limit, &mut into) == Ok(true) && into.as_slice() == text
+    FileSlot::new(rt.alloc(), rt).fetch(limit, &mut into) == Ok(true) && into.as_slice() == text
 }
 
 // Whether the slot gives nothing for this reason.
 fn is_refused(rt: &(impl Files + AllocGlobal), limit: usize, fault: SlotFault) -> bool {
     let mut into = Vec::new(rt.alloc());
-    FileSlot::new(rt).fetch(limit, &mut into) == Err(fault) && into.is_empty()
+    FileSlot::new(rt.alloc(), rt).fetch(limit, &mut into) == Err(fault) && into.is_empty()
 }
 
 const TEXTS: &[&[u8]] = &[b"one", b"", b"longer than before", b"four"];
@@ -83,18 +83,23 @@ fn numbers(alloc: Global, count: u32) -> Result<Vec<u8>, Fail> {
     Ok(text)
 }
 
-fn large_text(rt: &(impl Files + AllocGlobal + Abort)) -> Result<(), Fail> {
-    let text = numbers(rt.alloc(), 300_000)?;
-    let is_replaced = is_replaced(rt, &text)?;
-    let is_fetched = is_fetched(rt, usize::MAX, &text);
-    assert!(rt; is_replaced && is_fetched);
+// How many numbers texts have: the thirds of the first are gathered before they are written, those of the other are written one by one.
+const COUNTS: &[u32] = &[30_000, 300_000];
+
+fn large_texts(rt: &(impl Files + AllocGlobal + Abort)) -> Result<(), Fail> {
+    for count in COUNTS {
+        let text = numbers(rt.alloc(), *count)?;
+        let is_replaced = is_replaced(rt, &text)?;
+        let is_fetched = is_fetched(rt, usize::MAX, &text);
+        assert!(rt; is_replaced && is_fetched);
+    }
     Ok(())
 }
 
 fn no_plain_file(rt: &(impl Files + AllocGlobal + Abort)) -> Result<(), Fail> {
     fs::create_dir(rt, STATE)?;
     let text = Rope::of(rt.alloc(), b"text".to_vec(rt.alloc())?);
-    let is_put = FileSlot::new(rt).replace(&text) == Err(Failed);
+    let is_put = FileSlot::new(rt.alloc(), rt).replace(&text) == Err(Failed);
     assert!(rt; is_put && is_refused(rt, 9, SlotFault::Failed));
     Ok(())
 }
@@ -214,7 +219,7 @@ const CHANGED: &[(&str, Result<bool, SlotFault>)] = &[
 // What is fetched of a file that was another.
 fn fetched_after(rt: &(impl Files + AllocGlobal), before: &Metadata) -> Result<bool, SlotFault> {
     let mut into = Vec::new(rt.alloc());
-    FileSlot::new(Changing { files: rt, before }).fetch(4, &mut into)
+    FileSlot::new(rt.alloc(), Changing { files: rt, before }).fetch(4, &mut into)
 }
 
 // The metadata of the file `leaf`, which has another text then.
