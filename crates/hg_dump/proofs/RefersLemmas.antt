@@ -1,17 +1,20 @@
 -- The revisions to which changesets refer, as marks that were met.
-use Rattle.std.proofs.Common.{◌≡◌, Bool, true, false, List, [], ◌∷◌, ◌++◌, map, refl, sym, ap, subst, ◌∙◌}
-use Rattle.std.specs.Prelude.{IsTrue}
+use Rattle.std.proofs.Common.{◌≡◌, Bool, true, false, Option, None, Some, List, [], ◌∷◌, ◌++◌, map, refl, sym, ap, subst, ◌∙◌}
+use Rattle.std.specs.Prelude.{IsTrue, IfSome, MatchOption}
+use Rattle.std.specs.Borrow.{Bor}
 use Rattle.std.specs.List.{list_any}
 use Rattle.text_model.specs.Lists.{Each}
 use Rattle.text_model.specs.Id.{Id, null, has_id}
 use Rattle.text_model.proofs.Elements.{map_append}
+use Rattle.hg_model.specs.Manifest.{ManifestEntry}
 use Rattle.hg_model.specs.Revision.{Group, FilesAt, Revision, is_of, knows}
 use Rattle.view_model.specs.View.{ChangesetView, Row, entry_of_row, file_node}
+use Rattle.view_model.specs.Held.{IsChangesetHeld}
 use Rattle.view_model.specs.Dump.{revisions_of, revisions_in}
 use Rattle.hg_dump.specs.declared.refers.Refers.{Refers}
 use Rattle.hg_dump.specs.Referred.{Referred, nothing}
 use Rattle.hg_dump.specs.Marks.{Mark, mark_of, same_mark, references_at, marks_in, Met, IsMet, meets, meet}
-use Rattle.hg_dump.specs.Refers.{RefersTo}
+use Rattle.hg_dump.specs.Refers.{RefersTo, HasFilesOf}
 use Rattle.hg_dump.specs.State.{referred_in, IsLineMet}
 use Rattle.hg_dump.proofs.MeetLemmas.{all-meets}
 
@@ -61,3 +64,9 @@ more-revisions refers rs hs is = more-marks refers rs (revisions_in hs) (subst (
 pub lines-met : (rs : List Revision) (rows : List Row) → Each (λ row. IsTrue (knows rs (FilesAt row.path) (file_node row.revision))) rows → Each (IsLineMet (met-of rs)) (map entry_of_row rows)
 lines-met rs [] h = tt
 lines-met rs (row ∷ rows) h = (any-knows (FilesAt row.path) (file_node row.revision) null rs ∙ h.0, lines-met rs rows h.1)
+
+-- the lines of the changeset that is near, or none, were met
+pub near-met : (refers : Refers) (known rs : List Revision) (near : Option (Bor Id)) (lines : List ManifestEntry) → MatchOption near (lines ≡ []) (λ node. (h : ChangesetView) → IsChangesetHeld known node.now h → map entry_of_row h.rows ≡ lines)
+    → IfSome near (λ node. (v : ChangesetView) × IsChangesetHeld known node.now v × ((ss : List Revision) → RefersTo refers ss → HasFilesOf ss v)) → RefersTo refers rs → Each (IsLineMet (met-of rs)) lines
+near-met refers known rs None lines is near to = subst (λ (es : List ManifestEntry). Each (IsLineMet (met-of rs)) es) (sym is) tt
+near-met refers known rs (Some node) lines is (v, held, has) to = subst (λ (es : List ManifestEntry). Each (IsLineMet (met-of rs)) es) (is v held) (lines-met rs v.rows (has rs to))

@@ -6,7 +6,7 @@ use Rattle.text_model.proofs.Elements.{map_append}
 use Rattle.hg_model.specs.Manifest.{ManifestEntry}
 use Rattle.hg_manifest.specs.Beside.{IsLineOf, IsPassed}
 use Rattle.hg_manifest.specs.Near.{IsLater}
-use Rattle.hg_manifest.specs.declared.beside.Beside.{Beside}
+use Rattle.hg_manifest.specs.declared.ahead.Ahead.{Ahead}
 use Rattle.hg_manifest.proofs.BesideLemmas.{lines-later, later-more}
 use Rattle.hg_dump.specs.declared.brought.Brought.{Brought}
 use Rattle.hg_dump.specs.Marks.{Mark, file_mark}
@@ -14,14 +14,14 @@ use Rattle.hg_dump.specs.State.{Steps, StepsAfter, referred_in}
 use Rattle.hg_dump.proofs.MeetLemmas.{after-append, met-line, meet-known}
 
 -- the lines up to those that are ahead were referred to
-pub record IsReferred (lines previous : List ManifestEntry) (is_new : Bool) (link : Id) (walk : Beside) (old new : Brought) : Type 0 where
+pub record IsReferred (lines previous : List ManifestEntry) (is_new : Bool) (link : Id) (walk : Ahead) (old new : Brought) : Type 0 where
   pub passed : List ManifestEntry
   pub whole : lines ≡ passed ++ walk.lines
   pub later : IsLater previous walk.other
   pub steps : StepsAfter previous is_new (map (file_mark link) passed) old new
 
-pub starts : (lines previous : List ManifestEntry) (is_new : Bool) (link : Id) (b : Brought) → IsReferred lines previous is_new link (record { lines = lines; other = previous }) b b
-starts lines previous is_new link b = record {
+pub starts : (walk : Ahead) (is_new : Bool) (link : Id) (b : Brought) → IsReferred walk.lines walk.other is_new link walk b b
+starts walk is_new link b = record {
   passed = [];
   whole = refl;
   later = record { passed = []; whole = refl };
@@ -40,7 +40,7 @@ module _ (before : List ManifestEntry) (is_new : Bool) (link : Id) where
       subst (λ (ms : List Mark). StepsAfter before is_new ms a c) (sym (map_append (file_mark link) xs ys)) (after-append before is_new (map (file_mark link) xs) (map (file_mark link) ys) a b c f g)
 
   -- the next line
-  pub goes-on : (lines : List ManifestEntry) (walk next : Beside) (e : ManifestEntry) (a b c : Brought) → IsReferred lines before is_new link walk a b → IsPassed walk next (e ∷ []) → Steps is_new (file_mark link e ∷ []) b c
+  pub goes-on : (lines : List ManifestEntry) (walk next : Ahead) (e : ManifestEntry) (a b c : Brought) → IsReferred lines before is_new link walk a b → IsPassed walk next (e ∷ []) → Steps is_new (file_mark link e ∷ []) b c
       → IsReferred lines before is_new link next a c
   goes-on lines walk next e a b c r p step =
       let told : List ManifestEntry = p.same ++ e ∷ [] in
@@ -52,6 +52,6 @@ module _ (before : List ManifestEntry) (is_new : Bool) (link : Id) where
       }
 
   -- nothing is left
-  pub ends : (lines : List ManifestEntry) (walk : Beside) (a b : Brought) → IsReferred lines before is_new link walk a b → Each (IsLineOf walk.other) walk.lines → StepsAfter before is_new (map (file_mark link) lines) a b
+  pub ends : (lines : List ManifestEntry) (walk : Ahead) (a b : Brought) → IsReferred lines before is_new link walk a b → Each (IsLineOf walk.other) walk.lines → StepsAfter before is_new (map (file_mark link) lines) a b
   ends lines walk a b r each =
       subst (λ (es : List ManifestEntry). StepsAfter before is_new (map (file_mark link) es) a b) (sym r.whole) (steps-lines r.passed walk.lines a b b r.steps (met-lines walk.lines b (lines-later before walk.other walk.lines r.later each)))

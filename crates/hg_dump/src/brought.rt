@@ -4,6 +4,7 @@ ghost use Rattle.std.specs.Bool.{OnTrue};
 ghost use Rattle.text_model.specs.Id.{has_id};
 ghost use Rattle.hg_model.specs.Revision as model;
 ghost use Rattle.hg_store.specs.Groups.{group_value};
+ghost use Rattle.hg_store.specs.Views.{IsManifestOf};
 ghost use Rattle.view_model.specs.View.{ChangesetView};
 ghost use Rattle.hg_manifest.specs.Values.{manifest_entry};
 ghost use Rattle.view_model.specs.Held.{IsChangesetHeld, AreChangesetsHeld};
@@ -64,8 +65,8 @@ impl Brought {
             → IsMet (met_of (take from hs) (drop from hs)) (referred_in brought)) }
     {
         let mut brought = Brought::new(alloc);
-        brought.refer_all(store, &nodes[..from], Near::none(), false)?;
-        brought.refer_all(store, &nodes[from..], Near::none(), true)?;
+        brought.refer_all(store, &nodes[..from], Id::NULL, Near::none(), false)?;
+        brought.refer_all(store, &nodes[from..], Id::NULL, Near::none(), true)?;
         Ok(brought)
     }
 
@@ -85,15 +86,20 @@ impl Brought {
         &mut self,
         store: &'a HgStore,
         nodes: &[Id],
+        mut before: Id,
         mut previous: Near<'a>,
         is_new: bool,
     ) -> Result<(), NoMemory>
         requires held { (hs : List ChangesetView) × AreChangesetsHeld store.now nodes.now hs }
+        requires before { IsManifestOf store.now before previous }
         ensures { OnOk result ((hs : List ChangesetView) → AreChangesetsHeld store.now nodes.now hs → StepsAfter previous.entry is_new (marks_in hs) self.old self.new) }
     {
         for node in nodes {
             let (manifest_node, lines) = named_lines(store, node);
-            self.refer_view(node, &manifest_node, lines.again(), previous, is_new)?;
+            let newer = store.newer(&manifest_node, &before);
+            let walk = Beside::of(lines.again(), previous, newer);
+            self.refer_view(node, &manifest_node, walk, is_new)?;
+            before = manifest_node;
             previous = lines;
         }
         Ok(())
@@ -104,15 +110,14 @@ impl Brought {
         &mut self,
         node: &Id,
         manifest_node: &Id,
-        lines: Near<'_>,
-        previous: Near<'_>,
+        walk: Beside<'_>,
         is_new: bool,
     ) -> Result<(), NoMemory>
-        ensures { OnOk result (StepsAfter previous.entry is_new (view_marks node.now manifest_node.now lines.entry) self.old self.new) }
+        ensures { OnOk result (StepsAfter (walk.entry).other is_new (view_marks node.now manifest_node.now (walk.entry).lines) self.old self.new) }
     {
         self.refer(Group::Changesets, node, node, is_new)?;
         self.refer_manifest(manifest_node, node, is_new)?;
-        self.refer_files(lines, previous, node, is_new)
+        self.refer_files(walk, node, is_new)
     }
 
     /// Adds a manifest. The null one is no revision.
@@ -130,20 +135,15 @@ impl Brought {
         self.refer(Group::Manifests, manifest_node, link, is_new)
     }
 
-    /// Adds the file revisions that the lines of a manifest name. Those that stand in the manifest before, whose lines were met, need no look-up.
+    /// Adds the file revisions that the lines of a manifest name. Those that stand in the other one, whose lines were met, need no look-up.
     pub fn refer_files(
         &mut self,
-        lines: Near<'_>,
-        previous: Near<'_>,
+        mut walk: Beside<'_>,
         link: &Id,
         is_new: bool,
     ) -> Result<(), NoMemory>
-        ensures { OnOk result (StepsAfter previous.entry is_new (map (file_mark link.now) lines.entry) self.old self.new) }
+        ensures { OnOk result (StepsAfter (walk.entry).other is_new (map (file_mark link.now) (walk.entry).lines) self.old self.new) }
     {
-        let mut walk = Beside {
-            lines,
-            other: previous,
-        };
         while let Some(entry) = walk.next() {
             self.refer_line(entry, link, is_new)?;
         }
@@ -192,7 +192,8 @@ impl Brought {
 // The lines of the manifest of a changeset that is held, with its node. The file revisions that they name are not looked up.
 fn named_lines<'a>(store: &'a HgStore, node: &Id) -> (Id, Near<'a>)
     requires held { (h : ChangesetView) × IsChangesetHeld store.now node.now h }
-    ensures { (h : ChangesetView) → IsChangesetHeld store.now node.now h → marks_of h ≡ view_marks node.now result.0 result.1 }
+    ensures marks { (h : ChangesetView) → IsChangesetHeld store.now node.now h → marks_of h ≡ view_marks node.now result.0 result.1 }
+    ensures manifest { IsManifestOf store.now result.0 result.1 }
 {
     match store.lines_of_changeset(node) {
         Some(found) => found,

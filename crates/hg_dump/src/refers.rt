@@ -1,7 +1,8 @@
 // Whether changesets refer to a revision.
-ghost use Rattle.std.specs.Prelude.{◌≡◌, ◌++◌, List, map, IfOk, IfSome, OnOk};
+ghost use Rattle.std.specs.Prelude.{◌≡◌, ◌++◌, [], List, map, IfOk, IfSome, MatchOption, OnOk};
 ghost use Rattle.hg_model.specs.Revision.{Revision, knows};
 ghost use Rattle.hg_store.specs.Groups.{group_value};
+ghost use Rattle.hg_store.specs.Views.{IsManifestOf};
 ghost use Rattle.view_model.specs.View.{ChangesetView, entry_of_row};
 ghost use Rattle.view_model.specs.Held.{IsChangesetHeld, AreChangesetsHeld};
 ghost use Rattle.view_model.specs.Dump.{revisions_in};
@@ -9,7 +10,7 @@ ghost use Rattle.hg_dump.specs.Refers.{RefersTo, HasFilesOf, AreNamedBy};
 
 use crate::brought::Brought;
 use bridge_text::{Id, NoMemory};
-use hg_manifest::{Manifest, Near};
+use hg_manifest::{Beside, Manifest, Near};
 use hg_store::{Group, HgStore};
 use std::alloc::Global;
 
@@ -39,11 +40,8 @@ impl Refers {
         requires near { IfSome near (λ node. (v : ChangesetView) × IsChangesetHeld store.now node.now v × ((rs : List Revision) → RefersTo self.old rs → HasFilesOf rs v)) }
         ensures { OnOk result ((hs : List ChangesetView) (rs : List Revision) → AreChangesetsHeld store.now nodes.now hs → RefersTo self.old rs → RefersTo self.new (rs ++ revisions_in hs)) }
     {
-        let lines = match near {
-            Some(node) => lines_of(store, node),
-            None => Near::none(),
-        };
-        self.brought.refer_all(store, nodes, lines, false)
+        let (before, lines) = lines_near(store, near);
+        self.brought.refer_all(store, nodes, before, lines, false)
     }
 
     /// Adds what a changeset names that is known, though the store may lack it: its manifest, and the file revisions that this names where
@@ -59,7 +57,8 @@ impl Refers {
         let Some(lines) = store.lines(&changeset.manifest) else {
             return Ok(());
         };
-        self.brought.refer_files(lines, Near::none(), node, false)
+        let walk = Beside::of(lines, Near::none(), None);
+        self.brought.refer_files(walk, node, false)
     }
 
     /// Whether one of the changesets refers to the revision of a group with this node.
@@ -70,15 +69,37 @@ impl Refers {
     }
 }
 
+// The lines of the manifest of a changeset that is near, or none, with its node.
+fn lines_near<'a>(store: &'a HgStore, near: Option<&Id>) -> (Id, Near<'a>)
+    requires near { IfSome near (λ node. (h : ChangesetView) × IsChangesetHeld store.now node.now h) }
+    ensures lines { MatchOption near.entry (result.1 ≡ []) (λ node. (h : ChangesetView) → IsChangesetHeld store.now node.now h → map entry_of_row h.rows ≡ result.1) }
+    ensures manifest { IsManifestOf store.now result.0 result.1 }
+{
+    match near {
+        Some(node) => named_lines_of(store, node),
+        None => (Id::NULL, Near::none()),
+    }
+}
+
+// The lines of the manifest of a changeset that is held, with its node.
+fn named_lines_of<'a>(store: &'a HgStore, node: &Id) -> (Id, Near<'a>)
+    requires held { (h : ChangesetView) × IsChangesetHeld store.now node.now h }
+    ensures lines { (h : ChangesetView) → IsChangesetHeld store.now node.now h → map entry_of_row h.rows ≡ result.1 }
+    ensures manifest { IsManifestOf store.now result.0 result.1 }
+{
+    match store.lines_of_changeset(node) {
+        Some(found) => found,
+        None => unreachable!(),
+    }
+}
+
 /// The lines of the manifest of a changeset that is held.
 pub fn lines_of<'a>(store: &'a HgStore, node: &Id) -> Near<'a>
     requires held { (h : ChangesetView) × IsChangesetHeld store.now node.now h }
     ensures { (h : ChangesetView) → IsChangesetHeld store.now node.now h → map entry_of_row h.rows ≡ result }
 {
-    match store.lines_of_changeset(node) {
-        Some((_, lines)) => lines,
-        None => unreachable!(),
-    }
+    let (_, lines) = named_lines_of(store, node);
+    lines
 }
 
 /// The manifest of a changeset that is held.

@@ -1,14 +1,14 @@
 -- Lines that are passed over beside those of another manifest.
-use Rattle.std.proofs.Common.{◌≡◌, ◌<◌, inl, inr, ℕ, List, [], ◌∷◌, ◌++◌, length, refl, sym, ap, subst, ◌∙◌, append_assoc, arith, map}
-use Rattle.std.proofs.lemmas.List.{length-append, append-nil}
+use Rattle.std.proofs.Common.{◌≡◌, ◌<◌, inl, inr, ℕ, List, [], ◌∷◌, ◌++◌, length, refl, sym, ap, subst, ◌∙◌, append_assoc, arith, map, take, drop, ◌+◌, ◌-◌}
+use Rattle.std.proofs.lemmas.List.{length-append, append-nil, take_at, drop_at}
 use Rattle.text_model.specs.Text.{Bytes}
 use Rattle.text_model.specs.Lists.{Each}
 use Rattle.text_model.proofs.EachLemmas.{Each-append, Each-weaker}
 use Rattle.hg_model.specs.Manifest.{ManifestEntry}
 use Rattle.hg_model.proofs.ManifestLemmas.{one_manifest}
 use Rattle.hg_manifest.specs.Near.{IsFront, IsLater}
-use Rattle.hg_manifest.specs.Beside.{IsLineOf, IsPassed}
-use Rattle.hg_manifest.specs.declared.beside.Beside.{Beside}
+use Rattle.hg_manifest.specs.Beside.{IsLineOf, IsNewer, IsPassed}
+use Rattle.hg_manifest.specs.declared.ahead.Ahead.{Ahead}
 
 -- ---- which lines are left
 
@@ -43,9 +43,13 @@ own_lines : (es : List ManifestEntry) → Each (IsLineOf es) es
 own_lines [] = tt
 own_lines (e ∷ es) = (inl (refl, refl), Each-weaker (IsLineOf es) (IsLineOf (e ∷ es)) (λ x is. inr is) es (own_lines es))
 
+-- the first lines of some are lines of them
+pub front-lines : (es front behind : List ManifestEntry) → es ≡ front ++ behind → Each (IsLineOf es) front
+front-lines es front behind whole = Each-weaker (IsLineOf front) (IsLineOf es) (λ e is. subst (λ (l : List ManifestEntry). IsLineOf l e) (sym whole) (line-front e front behind is)) front (own_lines front)
+
 -- ---- what was passed
 
-pub passed-none : (b : Beside) → IsPassed b b []
+pub passed-none : (b : Ahead) → IsPassed b b []
 passed-none b = record {
   same = [];
   whole = refl;
@@ -54,7 +58,7 @@ passed-none b = record {
 }
 
 -- then lines were passed that both have
-pub passed-both : (old mid : Beside) (count : ℕ) (text : Bytes) (front theirs lines other : List ManifestEntry) → IsPassed old mid [] → IsFront count mid.lines front text lines → IsFront count mid.other theirs text other
+pub passed-both : (old mid : Ahead) (count : ℕ) (text : Bytes) (front theirs lines other : List ManifestEntry) → IsPassed old mid [] → IsFront count mid.lines front text lines → IsFront count mid.other theirs text other
     → IsPassed old (record { lines = lines; other = other }) []
 passed-both old mid count text front theirs lines other p f g =
     let same : front ≡ theirs = one_manifest text front theirs f.text_is g.text_is in
@@ -72,7 +76,7 @@ pub fewer : (count : ℕ) (es front behind : List ManifestEntry) (text : Bytes) 
 fewer count es front behind text some f = omega (arith, some, f.many, ap length f.whole, length-append front behind)
 
 -- both kinds of passing, one after the other
-pub passed-more : (old mid new : Beside) (told : List ManifestEntry) → IsPassed old mid [] → IsPassed mid new told → IsPassed old new told
+pub passed-more : (old mid new : Ahead) (told : List ManifestEntry) → IsPassed old mid [] → IsPassed mid new told → IsPassed old new told
 passed-more old mid new told p q = record {
   same = p.same ++ q.same;
   whole = p.whole ∙ ap (λ (es : List ManifestEntry). p.same ++ es) q.whole ∙ sym (append_assoc p.same q.same (told ++ new.lines));
@@ -81,7 +85,7 @@ passed-more old mid new told p q = record {
 }
 
 -- the next line was told, whatever it is
-pub passed-told : (old : Beside) (e : ManifestEntry) (lines other : List ManifestEntry) → old.lines ≡ e ∷ lines → IsLater old.other other → IsPassed old (record { lines = lines; other = other }) (e ∷ [])
+pub passed-told : (old : Ahead) (e : ManifestEntry) (lines other : List ManifestEntry) → old.lines ≡ e ∷ lines → IsLater old.other other → IsPassed old (record { lines = lines; other = other }) (e ∷ [])
 passed-told old e lines other first later = record {
   same = [];
   whole = first;
@@ -90,12 +94,99 @@ passed-told old e lines other first later = record {
 }
 
 -- then fewer lines are left
-pub passed-fewer : (old new : Beside) (e : ManifestEntry) → IsPassed old new (e ∷ []) → length new.lines < length old.lines
+pub passed-fewer : (old new : Ahead) (e : ManifestEntry) → IsPassed old new (e ∷ []) → length new.lines < length old.lines
 passed-fewer old new e p = omega (arith, ap (λ (es : List ManifestEntry). length es) p.whole, length-append p.same (e ∷ [] ++ new.lines))
 
 -- where no line is left, each was one of both
-pub passed-all : (old new : Beside) → IsPassed old new [] → new.lines ≡ [] → Each (IsLineOf old.other) old.lines
+pub passed-all : (old new : Ahead) → IsPassed old new [] → new.lines ≡ [] → Each (IsLineOf old.other) old.lines
 passed-all old new p none = subst (λ (es : List ManifestEntry). Each (IsLineOf old.other) es) (sym (p.whole ∙ ap (λ (es : List ManifestEntry). p.same ++ es) none ∙ append-nil p.same)) p.both
+
+-- ---- lines of which it is known that the other manifest may lack them
+
+rest-of : List ManifestEntry → List ManifestEntry
+rest-of [] = []
+rest-of (e ∷ es) = es
+
+-- then the next of them was told
+pub newer-told : (old : Ahead) (gap : ℕ) (gaps : List ℕ) (front mid behind : List ManifestEntry) (text : Bytes) (e : ManifestEntry) → IsNewer old.other (gap ∷ gaps) old.lines → IsFront gap old.lines front text mid → mid ≡ e ∷ behind
+    → IsPassed old (record { lines = behind; other = old.other }) (e ∷ []) × IsNewer old.other gaps behind
+unfolding rest-of
+newer-told old gap gaps front mid behind text e (same, one, rest, whole, many, both, newer) f split =
+    let eq : front ++ mid ≡ same ++ (one ∷ rest) = sym f.whole ∙ whole in
+    let same-is : front ≡ same = sym (take_at front mid gap f.many) ∙ ap (take gap) eq ∙ take_at same (one ∷ rest) gap many in
+    let rest-is : mid ≡ one ∷ rest = sym (drop_at front mid gap f.many) ∙ ap (drop gap) eq ∙ drop_at same (one ∷ rest) gap many in (
+      record {
+        same = front;
+        whole = f.whole ∙ ap (λ (es : List ManifestEntry). front ++ es) split;
+        both = subst (λ (es : List ManifestEntry). Each (IsLineOf old.other) es) (sym same-is) both;
+        later = later-none old.other;
+      },
+      subst (λ (es : List ManifestEntry). IsNewer old.other gaps es) (ap rest-of (sym rest-is ∙ split)) newer,
+    )
+
+-- where so many lines are told before the next one, there are more
+pub newer-some : (other : List ManifestEntry) (gap : ℕ) (gaps : List ℕ) (es : List ManifestEntry) → IsNewer other (gap ∷ gaps) es → gap < length es
+newer-some other gap gaps es (same, one, rest, whole, many, both, newer) = omega (arith, many, ap (λ (xs : List ManifestEntry). length xs) whole, length-append same (one ∷ rest))
+
+-- ---- entries that are read near those of another manifest
+
+-- the same of entries that go on behind the last one that was told
+abbrev pub NewerTo : List ManifestEntry → List ℕ → ℕ → List ManifestEntry → Type 0
+NewerTo other [] n es = (length es ≡ n) × Each (IsLineOf other) es
+NewerTo other (gap ∷ gaps) n es = (same : List ManifestEntry) × (e : ManifestEntry) × (rest : List ManifestEntry) × (es ≡ same ++ (e ∷ rest)) × (length same ≡ gap) × Each (IsLineOf other) same × NewerTo other gaps n rest
+
+newer-same : (other : List ManifestEntry) (gaps : List ℕ) (n : ℕ) (es xs : List ManifestEntry) → NewerTo other gaps n es → Each (IsLineOf other) xs → NewerTo other gaps (n + length xs) (es ++ xs)
+newer-same other [] n es xs (many, both) are = (length-append es xs ∙ ap (λ (k : ℕ). k + length xs) many, Each-append (IsLineOf other) es xs both are)
+newer-same other (gap ∷ gaps) n es xs (same, e, rest, whole, many, both, more) are =
+    (same, e, rest ++ xs, ap (λ (l : List ManifestEntry). l ++ xs) whole ∙ append_assoc same (e ∷ rest) xs, many, both, newer-same other gaps n rest xs more are)
+
+newer-one : (other : List ManifestEntry) (gaps : List ℕ) (n : ℕ) (es : List ManifestEntry) (e : ManifestEntry) → NewerTo other gaps n es → NewerTo other (gaps ++ (n ∷ [])) 0 (es ++ (e ∷ []))
+newer-one other [] n es e (many, both) = (es, e, [], refl, many, both, (refl, tt))
+newer-one other (gap ∷ gaps) n es x (same, e, rest, whole, many, both, more) =
+    (same, e, rest ++ (x ∷ []), ap (λ (l : List ManifestEntry). l ++ (x ∷ [])) whole ∙ append_assoc same (e ∷ rest) (x ∷ []), many, both, newer-one other gaps n rest x more)
+
+newer-end : (other : List ManifestEntry) (gaps : List ℕ) (n : ℕ) (es : List ManifestEntry) → NewerTo other gaps n es → IsNewer other gaps es
+newer-end other [] n es (many, both) = both
+newer-end other (gap ∷ gaps) n es (same, e, rest, whole, many, both, more) = (same, e, rest, whole, many, both, newer-end other gaps n rest more)
+
+-- The entries that were read near another manifest, of which these lines are ahead. So many of them stand up to the last one that was told.
+pub record IsToldTo (near ahead : List ManifestEntry) (gaps : List ℕ) (told : ℕ) (es : List ManifestEntry) : Type 0 where
+  pub later : IsLater near ahead
+  pub behind : ℕ
+  pub newer : NewerTo near gaps behind es
+  pub count : told + behind ≡ length es
+
+pub told-start : (near : List ManifestEntry) → IsToldTo near near [] 0 []
+told-start near = record {
+  later = later-none near;
+  behind = 0;
+  newer = (refl, tt);
+  count = refl;
+}
+
+-- lines of the other manifest were read
+pub told-same : (near ahead new : List ManifestEntry) (gaps : List ℕ) (told : ℕ) (es xs : List ManifestEntry) → IsToldTo near ahead gaps told es → IsLater ahead new → Each (IsLineOf ahead) xs → IsToldTo near new gaps told (es ++ xs)
+told-same near ahead new gaps told es xs t later are = record {
+  later = later-more near ahead new t.later later;
+  behind = t.behind + length xs;
+  newer = newer-same near gaps t.behind es xs t.newer (lines-later near ahead xs t.later are);
+  count = omega (arith, t.count, length-append es xs);
+}
+
+-- a line was read that it may lack
+pub told-one : (near ahead new : List ManifestEntry) (gaps : List ℕ) (told : ℕ) (es : List ManifestEntry) (e : ManifestEntry) → IsToldTo near ahead gaps told es → IsLater ahead new
+    → IsToldTo near new (gaps ++ ((length es - told) ∷ [])) (length (es ++ (e ∷ []))) (es ++ (e ∷ []))
+told-one near ahead new gaps told es e t later =
+    let left : t.behind ≡ length es - told = omega (arith, t.count) in
+    record {
+      later = later-more near ahead new t.later later;
+      behind = 0;
+      newer = subst (λ (n : ℕ). NewerTo near (gaps ++ (n ∷ [])) 0 (es ++ (e ∷ []))) left (newer-one near gaps t.behind es e t.newer);
+      count = omega arith;
+    }
+
+pub told-end : (near ahead : List ManifestEntry) (gaps : List ℕ) (told : ℕ) (es : List ManifestEntry) → IsToldTo near ahead gaps told es → IsNewer near gaps es
+told-end near ahead gaps told es t = newer-end near gaps t.behind es t.newer
 
 -- ---- what the lines stand for
 
@@ -142,7 +233,7 @@ parts-of {X} f (x ∷ xs) other (s ∷ same) e lines is both =
       ahead = p.ahead;
     }
 
-pub passed-parts : {X : Type 0} (f : X → ManifestEntry) (xs : List X) (walk next : Beside) (e : ManifestEntry) → map f xs ≡ walk.lines → IsPassed walk next (e ∷ []) → AreParts f xs walk.other e next.lines
+pub passed-parts : {X : Type 0} (f : X → ManifestEntry) (xs : List X) (walk next : Ahead) (e : ManifestEntry) → map f xs ≡ walk.lines → IsPassed walk next (e ∷ []) → AreParts f xs walk.other e next.lines
 passed-parts f xs walk next e is p = parts-of f xs walk.other p.same e next.lines (is ∙ p.whole) p.both
 
 -- each line that is left is one of both

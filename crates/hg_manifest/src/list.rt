@@ -5,6 +5,7 @@ ghost use Rattle.std.specs.Cmp.Lexicographic.{slice_cmp};
 ghost use Rattle.text_model.specs.Path.{is_fit_path};
 ghost use Rattle.hg_model.specs.Manifest.{IsManifest, IsManifestText, manifest_text, rises_above, last_path};
 ghost use Rattle.hg_manifest.specs.Values.{manifest_entry, IsFault};
+ghost use Rattle.hg_manifest.specs.Beside.{IsNewer};
 ghost use Rattle.hg_manifest.specs.Near.{first_rises};
 
 use crate::entry::{Entry, SharedEntry};
@@ -12,6 +13,7 @@ use crate::fault::ManifestFault;
 use crate::line::read_line;
 use crate::lines::put_lines;
 use crate::near::Near;
+use crate::newer::Newer;
 use bridge_text::{NoMemory, each_is_byte, first_line, fit_path};
 use shared_text::{Text, part};
 use std::alloc::Global;
@@ -49,13 +51,28 @@ impl Manifest {
         }
     }
 
-    /// The manifest whose text this is. The lines are a path, NUL, the 40 lower case hex digits of a node, nothing or `x` or `l`, and LF;
-    /// their paths rise strictly as bytes and are fit. The first line that doesn't fit decides the fault, and on one line Shape comes before PathUnfit.
-    /// Memory comes where memory runs out. Where most lines are those of another manifest, as of a parent's, they are read the faster near that one.
+    /// The manifest whose text this is, as [`Manifest::read_near`] gives it.
     pub fn read(alloc: Global, text: &Text, near: Near<'_>) -> Result<Manifest, ManifestFault>
         ensures { MatchResult result (IsManifestText text.now) (IsFault text.now) }
     {
+        let (manifest, _) = Manifest::read_near(alloc, text, near)?;
+        Ok(manifest)
+    }
+
+    /// The manifest whose text this is, and which of its lines another one may lack, near which it is read. The lines are a path, NUL, the 40 lower case hex digits of a node, nothing or `x` or `l`, and LF;
+    /// their paths rise strictly as bytes and are fit. The first line that doesn't fit decides the fault, and on one line Shape comes before PathUnfit.
+    /// Memory comes where memory runs out. Where most lines are those of another manifest, as of a parent's, they are read the faster near that one.
+    pub fn read_near(
+        alloc: Global,
+        text: &Text,
+        near: Near<'_>,
+    ) -> Result<(Manifest, Newer), ManifestFault>
+        ensures manifest { MatchResult result (λ read. IsManifestText text.now read.0) (IsFault text.now) }
+        ensures newer { IfOk result (λ read. IsNewer near.entry read.1 read.0) }
+    {
         let mut manifest = room_for(alloc, text.as_slice())?;
+        let mut newer = Newer::new(alloc);
+        let mut told = 0;
         let mut near = near;
         let mut last = None;
         let mut rest = text.as_slice();
@@ -79,17 +96,19 @@ impl Manifest {
                     return Err(ManifestFault::PathUnfit(place));
                 }
                 near.pass(line.path);
+                newer.push(manifest.len() - told)?;
                 manifest.push(Entry {
                     path: part(text, place..place + line.path.len())?,
                     node: line.node,
                     flag: line.flag,
                 })?;
+                told = manifest.len();
                 last = Some(line.path);
                 rest = after;
             }
         }
         manifest.entries.shrink_to_fit();
-        Ok(manifest)
+        Ok((manifest, newer))
     }
 
     /// Adds an entry behind the others: its path is fit, and stands after that of the last one. After want of memory the manifest is as it was.

@@ -1,5 +1,7 @@
-ghost use Rattle.std.specs.Prelude.{◌≡◌, ◌<◌, [], None, IfSome, map};
+ghost use Rattle.std.specs.Prelude.{◌≡◌, ◌<◌, [], None, IfSome, length, map};
+ghost use Rattle.text_model.specs.Lists.{Each};
 ghost use Rattle.hg_model.specs.Manifest.{IsManifestText};
+ghost use Rattle.hg_manifest.specs.Beside.{IsLineOf};
 ghost use Rattle.hg_manifest.specs.Near.{IsSplit, AreFirstLines, IsFront, IsLater};
 ghost use Rattle.hg_manifest.specs.Values.{manifest_entry};
 
@@ -65,7 +67,9 @@ impl<'a> Near<'a> {
 
     // The entries of the first lines, of many or of one, and what follows these lines in a text that begins with them. Then they are no longer ahead.
     pub(crate) fn take<'b>(&mut self, rest: &'b [u8]) -> Option<(&'a [SharedEntry], &'b [u8])>
-        ensures { IfSome result (λ found. AreFirstLines rest.entry.now (map manifest_entry found.0.now) found.1.now) }
+        ensures first { IfSome result (λ found. AreFirstLines rest.entry.now (map manifest_entry found.0.now) found.1.now) }
+        ensures lines { IfSome result (λ found. Each (IsLineOf self.old) (map manifest_entry found.0.now)) }
+        ensures later { IsLater self.old self.new }
     {
         match self.take_front(rest, BLOCK) {
             Some(found) => Some(found),
@@ -80,7 +84,9 @@ impl<'a> Near<'a> {
         count: usize,
     ) -> Option<(&'a [SharedEntry], &'b [u8])>
         requires some { 0 < count }
-        ensures { IfSome result (λ found. AreFirstLines rest.entry.now (map manifest_entry found.0.now) found.1.now) }
+        ensures first { IfSome result (λ found. AreFirstLines rest.entry.now (map manifest_entry found.0.now) found.1.now) }
+        ensures lines { IfSome result (λ found. Each (IsLineOf self.old) (map manifest_entry found.0.now)) }
+        ensures later { IsLater self.old self.new }
     {
         let (entries, text, behind) = self.front(count)?;
         let after = rest.strip_prefix(text)?;
@@ -101,7 +107,8 @@ impl<'a> Near<'a> {
 
     // The first entries, so many of them, the text of their lines, and the lines behind them; `None` where there are fewer.
     pub(crate) fn front(&self, count: usize) -> Option<(&'a [SharedEntry], &'a [u8], Near<'a>)>
-        ensures { IfSome result (λ parts. IsFront count self.now (map manifest_entry parts.0.now) parts.1.now parts.2) }
+        ensures some { IfSome result (λ parts. IsFront count self.now (map manifest_entry parts.0.now) parts.1.now parts.2) }
+        ensures none { result ≡ None → length self.now < count }
     {
         if self.entries.len() < count {
             return None;

@@ -5,20 +5,16 @@ use Rattle.std.proofs.lemmas.Option.{slice_get-get_or}
 use Rattle.text_model.specs.Lists.{Each}
 use Rattle.text_model.proofs.EachLemmas.{Each-append, Each-push, Each-weaker}
 use Rattle.text_model.proofs.Elements.{each_at}
-use Rattle.hg_model.specs.Manifest.{ManifestEntry, IsManifestText}
-use Rattle.hg_model.proofs.ManifestLemmas.{one_manifest}
-use Rattle.text_model.specs.Id.{Id}
-use Rattle.text_model.specs.Text.{Bytes}
-use Rattle.text_model.proofs.Options.{some_is}
+use Rattle.hg_model.specs.Manifest.{ManifestEntry}
 use Rattle.hg_model.specs.Revision.{Revision, FilesAt, knows}
 use Rattle.view_model.specs.View.{Row, entry_of_row}
 use Rattle.view_model.specs.Held.{IsFileHeld}
 use Rattle.hg_manifest.specs.Lines.{HasLine}
 use Rattle.hg_manifest.specs.Beside.{IsLineOf, IsPassed}
 use Rattle.hg_manifest.specs.Near.{IsLater}
-use Rattle.hg_manifest.specs.declared.beside.Beside.{Beside}
+use Rattle.hg_manifest.specs.declared.ahead.Ahead.{Ahead}
 use Rattle.hg_manifest.proofs.BesideLemmas.{lines-later, later-more}
-use Rattle.hg_store.specs.Views.{IsManifestOf, is_unknown, first_unknown}
+use Rattle.hg_store.specs.Views.{is_unknown, first_unknown}
 use Rattle.hg_store.proofs.ViewLemmas.{position-none}
 use Rattle.hg_section.specs.Held.{IsLineKnown, AreLinesKnown}
 
@@ -37,30 +33,26 @@ rows-known known (row ∷ rows) are = (ap is_some are.0.is_held, rows-known know
 pub none-unknown : (known : List Revision) (es : List ManifestEntry) → AreLinesKnown known es → first_unknown known es ≡ None
 none-unknown known es are = position-none (is_unknown known) es (λ k d within. ap not (each_at (IsLineKnown known) es k (get_or es k d) (slice_get-get_or es k d within) are))
 
--- the entries of a manifest are one list
-pub one-list : (known : List Revision) (node : Id) (es fs : List ManifestEntry) → IsManifestOf known node es → IsManifestOf known node fs → es ≡ fs
-one-list known node es fs a b = one_manifest a.text es fs a.spells (subst (λ (t : Bytes). IsManifestText t fs) (some_is (sym b.is_held ∙ a.is_held)) b.spells)
-
 -- lines of both manifests are known where those of the other one are
 pub both-known : (known : List Revision) (other es : List ManifestEntry) → AreLinesKnown known other → Each (IsLineOf other) es → AreLinesKnown known es
 both-known known other es are both = Each-weaker (IsLineOf other) (IsLineKnown known) (λ e is. line-known known other e are is) es both
 
 -- the lines up to those that are ahead are known
-pub record AreKnownTo (known : List Revision) (lines near : List ManifestEntry) (walk : Beside) : Type 0 where
+pub record AreKnownTo (known : List Revision) (lines near : List ManifestEntry) (walk : Ahead) : Type 0 where
   pub passed : List ManifestEntry
   pub whole : lines ≡ passed ++ walk.lines
   pub later : IsLater near walk.other
   pub are : AreLinesKnown known passed
 
-pub starts : (known : List Revision) (lines near : List ManifestEntry) → AreKnownTo known lines near (record { lines = lines; other = near })
-starts known lines near = record {
+pub starts : (known : List Revision) (walk : Ahead) → AreKnownTo known walk.lines walk.other walk
+starts known walk = record {
   passed = [];
   whole = refl;
   later = record { passed = []; whole = refl };
   are = tt;
 }
 
-pub goes-on : (known : List Revision) (lines near : List ManifestEntry) (walk next : Beside) (e : ManifestEntry) → AreLinesKnown known near → AreKnownTo known lines near walk → IsPassed walk next (e ∷ []) → IsLineKnown known e
+pub goes-on : (known : List Revision) (lines near : List ManifestEntry) (walk next : Ahead) (e : ManifestEntry) → AreLinesKnown known near → AreKnownTo known lines near walk → IsPassed walk next (e ∷ []) → IsLineKnown known e
     → AreKnownTo known lines near next
 goes-on known lines near walk next e are k p one =
     let told : List ManifestEntry = p.same ++ e ∷ [] in
@@ -72,6 +64,6 @@ goes-on known lines near walk next e are k p one =
       are = Each-append (IsLineKnown known) k.passed told k.are (Each-push (IsLineKnown known) p.same e same one);
     }
 
-pub ends : (known : List Revision) (lines near : List ManifestEntry) (walk : Beside) → AreLinesKnown known near → AreKnownTo known lines near walk → Each (IsLineOf walk.other) walk.lines → AreLinesKnown known lines
+pub ends : (known : List Revision) (lines near : List ManifestEntry) (walk : Ahead) → AreLinesKnown known near → AreKnownTo known lines near walk → Each (IsLineOf walk.other) walk.lines → AreLinesKnown known lines
 ends known lines near walk are k both =
     subst (AreLinesKnown known) (sym k.whole) (Each-append (IsLineKnown known) k.passed walk.lines k.are (both-known known near walk.lines are (lines-later near walk.other walk.lines k.later both)))

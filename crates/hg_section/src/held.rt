@@ -19,11 +19,13 @@ pub fn are_held(store: &HgStore, order: &IdList) -> bool
     ensures held { OnTrue result ((hs : List ChangesetView) × AreChangesetsHeld store.now order.now hs) }
     ensures all { (hs : List ChangesetView) → AreChangesetsHeld store.now order.now hs → IsTrue result }
 {
+    let mut before = Id::NULL;
     let mut near = Near::none();
     for node in order.as_slice() {
-        let Ok(_) = view_beside(store, node, near) else {
+        let Ok(view) = view_beside(store, node, &before, near) else {
             return false;
         };
+        before = view.manifest_node;
         near = lines_of(store, node);
     }
     true
@@ -31,7 +33,13 @@ pub fn are_held(store: &HgStore, order: &IdList) -> bool
 
 // The changeset of a node with the manifest that it names, as the store's `view_of` gives it. Each file revision that the lines of another manifest
 // name is known.
-fn view_beside<'a>(store: &'a HgStore, node: &Id, near: Near<'_>) -> Result<View<'a>, ViewFault>
+fn view_beside<'a>(
+    store: &'a HgStore,
+    node: &Id,
+    before: &Id,
+    near: Near<'_>,
+) -> Result<View<'a>, ViewFault>
+    requires before { IsManifestOf store.now before.now near }
     requires near { AreLinesKnown store.now near }
     ensures value { MatchResult result (IsView store.now node.now) (IsViewFault store.now node.now) }
     ensures known { AreAdded store.now }
@@ -42,7 +50,7 @@ fn view_beside<'a>(store: &'a HgStore, node: &Id, near: Near<'_>) -> Result<View
     let Some(manifest) = store.manifest(&changeset.manifest) else {
         return Err(ViewFault::ManifestUnknown);
     };
-    if !are_files_known(store, &changeset.manifest, manifest, near) {
+    if !are_files_known(store, &changeset.manifest, manifest, before, near) {
         return store.view_of(node);
     }
     Ok(View {
@@ -55,23 +63,32 @@ fn view_beside<'a>(store: &'a HgStore, node: &Id, near: Near<'_>) -> Result<View
 }
 
 // Whether each file revision that the manifest of this node names is known, as those that the lines of another name are.
-fn are_files_known(store: &HgStore, node: &Id, manifest: &Manifest, near: Near<'_>) -> bool
+fn are_files_known(
+    store: &HgStore,
+    node: &Id,
+    manifest: &Manifest,
+    before: &Id,
+    near: Near<'_>,
+) -> bool
     requires manifest { IsManifestOf store.now node.now manifest.now }
+    requires before { IsManifestOf store.now before.now near }
     requires near { AreLinesKnown store.now near }
     ensures { result ≡ true → first_unknown store.now manifest.now ≡ None }
 {
     match store.lines(node) {
-        Some(lines) => are_known_beside(store, lines, near),
+        Some(lines) => {
+            let walk = Beside::of(lines, near, store.newer(node, before));
+            are_known_beside(store, walk)
+        }
         None => false,
     }
 }
 
 // Whether each file revision that the lines of a manifest name is known, as those of another manifest are.
-fn are_known_beside(store: &HgStore, lines: Near<'_>, near: Near<'_>) -> bool
-    requires near { AreLinesKnown store.now near }
-    ensures { result ≡ true → AreLinesKnown store.now lines.entry }
+fn are_known_beside(store: &HgStore, mut walk: Beside<'_>) -> bool
+    requires near { AreLinesKnown store.now walk.other }
+    ensures { result ≡ true → AreLinesKnown store.now (walk.entry).lines }
 {
-    let mut walk = Beside { lines, other: near };
     while let Some(line) = walk.next() {
         if !is_known(store, line) {
             return false;

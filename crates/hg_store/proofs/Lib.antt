@@ -3,6 +3,7 @@ pub mod ExactLemmas
 pub mod KeyLemmas
 pub mod Found
 pub mod KnownLemmas
+pub mod NewerLemmas
 pub mod PathLemmas
 pub mod StoreLemmas
 pub mod ViewLemmas

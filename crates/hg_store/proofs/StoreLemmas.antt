@@ -13,9 +13,10 @@ use Rattle.hg_store.specs.declared.group.KeyGroup.TheVariants as key
 use Rattle.hg_store.specs.declared.held.Key.{Key}
 use Rattle.hg_store.specs.declared.held.Held.{Held}
 use Rattle.hg_store.specs.Known.{IsAddedTo, AreAdded}
-use Rattle.hg_store.specs.Groups.{group_in, HasNumber, same_key_group, AreGrown, IsNumberOf, held_revision, revision_in, revisions_in, HasValue, IsStore}
+use Rattle.hg_store.specs.Groups.{group_in, HasNumber, same_key_group, AreGrown, IsNumberOf, held_revision, revision_in, revisions_in, HasValue, IsNewerIn, IsStore}
 use Rattle.hg_store.proofs.KeyLemmas.{find-by_key}
 use Rattle.hg_store.proofs.KnownLemmas.{AreAddedTo-push}
+use Rattle.hg_store.proofs.NewerLemmas.{newer-more}
 
 -- ---- more paths
 
@@ -45,6 +46,7 @@ module _ (old new : List Bytes) (grown : AreGrown old new) where
     apart = grown.apart s.apart;
     numbers = Each-weaker (λ e. HasNumber old e.0.group) (λ e. HasNumber new e.0.group) (λ e h. HasNumber-grown e.0.group h) es s.numbers;
     values = values-grown es s.numbers s.values;
+    newer = subst (λ (known : List Revision). Each (λ e. IsNewerIn known e.1.p e.1.parsed) es) (sym (revisions_in-grown es s.numbers)) s.newer;
     added = subst AreAdded (sym (revisions_in-grown es s.numbers)) s.added;
   }
 
@@ -59,11 +61,18 @@ revisions_in-push paths [] e = refl
 revisions_in-push paths (x ∷ xs) e = ap (λ (l : List Revision). revision_in paths x ∷ l) (revisions_in-push paths xs e)
 
 pub IsStore-push : (paths : List Bytes) (es : List (Key × Held)) (e : Key × Held) → IsStore paths es → HasNumber paths e.0.group
-    → HasValue (group_in paths e.0.group) e.1.text e.1.parsed → IsAddedTo (revisions_in paths es) (revision_in paths e) → IsStore paths (es ++ e ∷ [])
-IsStore-push paths es e s number value added = record {
+    → HasValue (group_in paths e.0.group) e.1.text e.1.parsed → IsNewerIn (revisions_in paths es) e.1.p e.1.parsed → IsAddedTo (revisions_in paths es) (revision_in paths e) → IsStore paths (es ++ e ∷ [])
+IsStore-push paths es e s number value newer added = record {
   apart = s.apart;
   numbers = Each-push (λ x. HasNumber paths x.0.group) es e s.numbers number;
   values = Each-push (λ x. HasValue (group_in paths x.0.group) x.1.text x.1.parsed) es e s.values value;
+  newer =
+      let known = revisions_in paths es in
+      let r = revision_in paths e in
+      subst (λ (rs : List Revision). Each (λ (x : Key × Held). IsNewerIn rs x.1.p x.1.parsed) (es ++ e ∷ [])) (sym (revisions_in-push paths es e))
+      (Each-push (λ (x : Key × Held). IsNewerIn (known ++ r ∷ []) x.1.p x.1.parsed) es e
+      (Each-weaker (λ (x : Key × Held). IsNewerIn known x.1.p x.1.parsed) (λ (x : Key × Held). IsNewerIn (known ++ r ∷ []) x.1.p x.1.parsed) (λ x n. newer-more known r x.1.p x.1.parsed n) es s.newer)
+      (newer-more known r e.1.p e.1.parsed newer));
   added = subst AreAdded (sym (revisions_in-push paths es e)) (AreAddedTo-push [] (revisions_in paths es) (revision_in paths e) s.added added);
 }
 
@@ -81,11 +90,11 @@ module _ (paths : List Bytes) (es : List (Key × Held)) (s : IsStore paths es) (
       ∙ (λ i. knows (view i) (number.is i) r.node) ∙ fresh)
 
   -- a revision that was added is the last one
-  pub kept : (held : Held) → held_revision r.group r.node held ≡ r → HasValue r.group held.text held.parsed → IsAddedTo known r
+  pub kept : (held : Held) → held_revision r.group r.node held ≡ r → HasValue r.group held.text held.parsed → IsNewerIn known held.p held.parsed → IsAddedTo known r
       → IsStore paths (es ++ (record { group = a; node = r.node }, held) ∷ []) × (revisions_in paths (es ++ (record { group = a; node = r.node }, held) ∷ []) ≡ known ++ r ∷ [])
-  kept held is value added =
+  kept held is value newer added =
       let e : Key × Held = (record { group = a; node = r.node }, held) in
       let last : revision_in paths e ≡ r = ap (λ (g : model.Group). held_revision g r.node held) number.is ∙ is in (
-        IsStore-push paths es e s number.within (subst (λ (g : model.Group). HasValue g held.text held.parsed) (sym number.is) value) (subst (λ (x : Revision). IsAddedTo (revisions_in paths es) x) (sym last) (subst (λ (l : List Revision). IsAddedTo l r) (sym view) added)),
+        IsStore-push paths es e s number.within (subst (λ (g : model.Group). HasValue g held.text held.parsed) (sym number.is) value) (subst (λ (l : List Revision). IsNewerIn l held.p held.parsed) (sym view) newer) (subst (λ (x : Revision). IsAddedTo (revisions_in paths es) x) (sym last) (subst (λ (l : List Revision). IsAddedTo l r) (sym view) added)),
         revisions_in-push paths es e ∙ (λ i. view i ++ last i ∷ []),
       )

@@ -4,9 +4,12 @@ use Rattle.std.specs.Prelude.{position, slice_get, option_map}
 use Rattle.std.proofs.lemmas.List.Sums.{position_or_len_is}
 use Rattle.std.proofs.lemmas.Bool.{cases_lt}
 use Rattle.std.proofs.lemmas.Option.{get_or_from_slice_get}
+use Rattle.text_model.specs.Text.{Bytes}
 use Rattle.text_model.specs.Id.{Id, is_null}
+use Rattle.text_model.proofs.Options.{some_is}
 use Rattle.hg_model.specs.Revision.{Revision, Manifests, revision_of}
-use Rattle.hg_model.specs.Manifest.{ManifestEntry, manifest_text}
+use Rattle.hg_model.specs.Manifest.{ManifestEntry, manifest_text, IsManifestText}
+use Rattle.hg_model.proofs.ManifestLemmas.{one_manifest}
 use Rattle.hg_store.specs.Known.{AreAdded, manifest_text_of}
 use Rattle.hg_store.specs.Views.{IsManifestOf}
 use Rattle.hg_store.proofs.Found.{found, not_null}
@@ -23,6 +26,10 @@ pub null-has_none : (known : List Revision) (node : Id) (entries : List Manifest
 unfolding manifest_text
 null-has_none known node entries null none =
     subst (IsManifestOf known node) (sym none) (record { text = []; is_held = rw null refl; spells = ((tt, refl), refl) })
+
+-- a node has one manifest
+pub one-list : (known : List Revision) (node : Id) (es fs : List ManifestEntry) → IsManifestOf known node es → IsManifestOf known node fs → es ≡ fs
+one-list known node es fs a b = one_manifest a.text es fs a.spells (subst (λ (t : Bytes). IsManifestText t fs) (some_is (sym b.is_held ∙ a.is_held)) b.spells)
 
 module _ {X : Type 0} (test : X → Bool) (xs : List X) where
   -- the first place that passes

@@ -5,10 +5,11 @@ use Rattle.text_model.specs.Lists.{Each}
 use Rattle.text_model.specs.Text.{Bytes}
 use Rattle.text_model.specs.Id.{Id}
 use Rattle.hg_model.specs.Changeset.{IsChangesetText}
-use Rattle.hg_model.specs.Manifest.{IsManifestText}
+use Rattle.hg_model.specs.Manifest.{ManifestEntry, IsManifestText}
 use Rattle.hg_model.specs.Revision as model
 use Rattle.hg_model.specs.Revision.{Revision}
 use Rattle.hg_changeset.specs.Values.{changeset_value}
+use Rattle.hg_manifest.specs.Beside.{IsNewer}
 use Rattle.hg_store.specs.declared.group.Group.{Group}
 use Rattle.hg_store.specs.declared.group.Group.TheVariants as group
 use Rattle.hg_store.specs.declared.group.KeyGroup.{KeyGroup}
@@ -19,6 +20,7 @@ use Rattle.hg_store.specs.declared.held.Parsed.{Parsed}
 use Rattle.hg_store.specs.declared.held.Parsed.TheVariants as parsed
 use Rattle.hg_store.specs.declared.addition.Addition.{Addition}
 use Rattle.hg_store.specs.Known.{AreAdded, HasBlob}
+use Rattle.hg_store.specs.Views.{IsManifestOf}
 
 -- the group that a value of the enum stands for
 abbrev pub group_value : Group → model.Group
@@ -82,13 +84,26 @@ revisions_in paths entries = map (revision_in paths) entries
 -- what was parsed is what the text says
 abbrev pub HasValue : model.Group → Bytes → Parsed → Type 0
 HasValue model.Changesets text (parsed.Changeset x) = IsChangesetText text (changeset_value x)
-HasValue model.Manifests text (parsed.Manifest entries) = IsManifestText text entries
+HasValue model.Manifests text (parsed.Manifest entries newer) = IsManifestText text entries
 HasValue (model.FilesAt path) text (parsed.File blob) = HasBlob text blob
 HasValue _ _ _ = ⊥
+
+-- what was parsed of a manifest tells which of its lines another one may lack
+abbrev pub IsNewerThan : List ManifestEntry → Parsed → Type 0
+IsNewerThan others (parsed.Changeset x) = ⊤
+IsNewerThan others (parsed.Manifest entries newer) = IsNewer others newer entries
+IsNewerThan others (parsed.File blob) = ⊤
+
+-- the other one is that of this node, the first parent's
+abbrev pub IsNewerIn : List Revision → Id → Parsed → Type 0
+IsNewerIn known p (parsed.Changeset x) = ⊤
+IsNewerIn known p (parsed.Manifest entries newer) = (others : List ManifestEntry) × IsManifestOf known p others × IsNewer others newer entries
+IsNewerIn known p (parsed.File blob) = ⊤
 
 -- Each path stands once, each number is that of a path, what was parsed is what the texts say, and each revision was added to those before it.
 pub record IsStore (paths : List Bytes) (entries : List (Key × Held)) : Type 0 where
   pub apart : AllPairs (λ x y. x ≢ y) paths
   pub numbers : Each (λ e. HasNumber paths e.0.group) entries
   pub values : Each (λ e. HasValue (group_in paths e.0.group) e.1.text e.1.parsed) entries
+  pub newer : Each (λ e. IsNewerIn (revisions_in paths entries) e.1.p e.1.parsed) entries
   pub added : AreAdded (revisions_in paths entries)

@@ -1,11 +1,12 @@
 ghost use Rattle.std.specs.Prelude.{◌≡◌, ◌≢◌, ◌≤◌, [], None, Err, false, not, ◌&&◌, ◌||◌, length, IfOk, OnOk, OnErr, IfErr, IfSome, IsTrue};
 ghost use Rattle.text_model.specs.Id.{is_null, node_id};
 ghost use Rattle.text_model.specs.Path.{is_fit_path};
-ghost use Rattle.hg_model.specs.Revision.{addition_fault, known_after, ancestry_fault, text_fault, is_known_parent, is_bad_link, knows};
+ghost use Rattle.hg_model.specs.Revision.{Manifests, addition_fault, known_after, ancestry_fault, text_fault, is_known_parent, is_bad_link, knows};
 ghost use Rattle.hg_store.specs.Faults.{IsFault};
 ghost use Rattle.hg_store.specs.declared.fault.AddFault.TheVariants.{Memory};
-ghost use Rattle.hg_store.specs.Groups.{group_value, revision_value, HasValue};
+ghost use Rattle.hg_store.specs.Groups.{group_value, revision_value, HasValue, IsNewerIn};
 ghost use Rattle.hg_store.specs.Known.{AreAdded, changeset_revision, manifest_revision, file_revision, answer_of, text_limit, HasFitPath, HasBlob, knows_same};
+ghost use Rattle.hg_store.specs.Views.{IsManifestOf};
 
 use crate::addition::Addition;
 use crate::fault::AddFault;
@@ -210,9 +211,11 @@ impl HgStore {
     #[tactic(auto, unfolding(hg_model::specs::Revision::text_fault))]
     fn parse_text(&self, addition: &Addition<'_>) -> Result<Parsed, AddFault>
         requires other { knows_same self.now (revision_value addition.now) ≡ false }
+        requires parents { ancestry_fault self.now (revision_value addition.now) ≡ None }
         ensures ok { OnOk result (text_fault self.now (revision_value addition.now) ≡ None) }
         ensures fresh { OnOk result (knows self.now (group_value addition.now.group) addition.now.node ≡ false) }
         ensures value { IfOk result (HasValue (group_value addition.now.group) addition.now.text) }
+        ensures newer { IfOk result (IsNewerIn self.now addition.now.p) }
         ensures fault { IfErr result (IsFault (text_fault self.now (revision_value addition.now))) }
     {
         if node_id(&addition.p, &addition.q, addition.text.as_slice()) != addition.node {
@@ -228,9 +231,11 @@ impl HgStore {
         requires other { knows_same self.now (revision_value addition.now) ≡ false }
         requires its_node { node_id addition.now.p addition.now.q addition.now.text ≡ addition.now.node }
         requires its_blob { IfSome blob (HasBlob addition.now.text) }
+        requires parents { ancestry_fault self.now (revision_value addition.now) ≡ None }
         ensures ok { OnOk result (text_fault self.now (revision_value addition.now) ≡ None) }
         ensures fresh { OnOk result (knows self.now (group_value addition.now.group) addition.now.node ≡ false) }
         ensures value { IfOk result (HasValue (group_value addition.now.group) addition.now.text) }
+        ensures newer { IfOk result (IsNewerIn self.now addition.now.p) }
         ensures fault { IfErr result (IsFault (text_fault self.now (revision_value addition.now))) }
     {
         let near = self.near(addition);
@@ -242,10 +247,16 @@ impl HgStore {
     }
 
     // The lines of the manifest of the first parent, where the addition is a manifest and has one.
-    fn near(&self, addition: &Addition<'_>) -> Near<'_> {
+    fn near(&self, addition: &Addition<'_>) -> Near<'_>
+        requires parents { ancestry_fault self.now (revision_value addition.now) ≡ None }
+        ensures { group_value addition.now.group ≡ Manifests → IsManifestOf self.now addition.now.p result }
+    {
         match addition.group {
             Group::Changesets => Near::none(),
-            Group::Manifests => self.lines(&addition.p).unwrap_or(Near::none()),
+            Group::Manifests => match self.lines(&addition.p) {
+                Some(lines) => lines,
+                None => unreachable!(),
+            },
             Group::FilesAt(_) => Near::none(),
         }
     }

@@ -1,7 +1,7 @@
 use crate::group::KeyGroup;
 use bridge_text::Id;
 use hg_changeset::Changeset;
-use hg_manifest::Manifest;
+use hg_manifest::{Manifest, Newer};
 use shared_text::Text;
 
 /// What tells a revision from the others.
@@ -15,7 +15,8 @@ pub struct Key {
 #[derive(Drop)]
 pub enum Parsed {
     Changeset(Changeset),
-    Manifest(Manifest),
+    /// The manifest, and which of its lines that of its first parent may lack.
+    Manifest(Manifest, Newer),
     /// The id that the body of a file revision has as a Git blob.
     File(Id),
 }

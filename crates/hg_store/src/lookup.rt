@@ -99,7 +99,7 @@ impl HgStore {
         match held.parsed {
             Parsed::File(blob) => Some(blob),
             Parsed::Changeset(_) => None,
-            Parsed::Manifest(_) => None,
+            Parsed::Manifest(_, _) => None,
         }
     }
 }

@@ -2,7 +2,7 @@ ghost use Rattle.std.specs.Prelude.{◌≡◌, false, None, OnOk, IfOk, IfErr, I
 ghost use Rattle.text_model.specs.Fault as name;
 ghost use Rattle.hg_model.specs.FileText.{lacks_second_mark};
 ghost use Rattle.hg_model.specs.Revision.{Changesets, Manifests, named_if, shape_fault};
-ghost use Rattle.hg_store.specs.Groups.{group_value, HasValue};
+ghost use Rattle.hg_store.specs.Groups.{group_value, HasValue, IsNewerThan};
 ghost use Rattle.hg_store.specs.Known.{HasBlob};
 ghost use Rattle.hg_store.specs.Faults.{IsFault};
 
@@ -28,6 +28,7 @@ pub fn parse(
     requires blob { IfSome blob (HasBlob text.now) }
     ensures shape { OnOk result (shape_fault (group_value group.entry) text.now ≡ None) }
     ensures value { IfOk result (HasValue (group_value group.entry) text.now) }
+    ensures newer { IfOk result (IsNewerThan near.entry) }
     ensures fault { IfErr result (IsFault (shape_fault (group_value group.entry) text.now)) }
 {
     match group {
@@ -52,10 +53,11 @@ fn parse_changeset(alloc: Global, text: &[u8]) -> Result<Parsed, AddFault>
 fn parse_manifest(alloc: Global, text: &Text, near: Near<'_>) -> Result<Parsed, AddFault>
     ensures shape { OnOk result (shape_fault Manifests text.now ≡ None) }
     ensures value { IfOk result (HasValue Manifests text.now) }
+    ensures newer { IfOk result (IsNewerThan near.entry) }
     ensures fault { IfErr result (IsFault (shape_fault Manifests text.now)) }
 {
-    match Manifest::read(alloc, text, near) {
-        Ok(manifest) => Ok(Parsed::Manifest(manifest)),
+    match Manifest::read_near(alloc, text, near) {
+        Ok((manifest, newer)) => Ok(Parsed::Manifest(manifest, newer)),
         Err(ManifestFault::Shape(_)) => Err(AddFault::ManifestShape),
         Err(ManifestFault::PathUnfit(_)) => Err(AddFault::PathUnfit),
         Err(ManifestFault::Memory) => Err(AddFault::Memory),

@@ -1,7 +1,7 @@
 ghost use Rattle.std.specs.Prelude.{◌≡◌, ◌≤◌, ◌++◌, [], ◌∷◌, None, false, length, OnOk, OnErr, IfSome, option_map};
 ghost use Rattle.std.specs.Option.{option_copied};
 ghost use Rattle.hg_model.specs.Revision.{revision_of, knows, addition_fault};
-ghost use Rattle.hg_store.specs.Groups.{group_value, revision_value, held_revision, HasValue};
+ghost use Rattle.hg_store.specs.Groups.{group_value, revision_value, held_revision, HasValue, IsNewerIn};
 ghost use Rattle.hg_store.specs.Known.{text_limit, AreAdded, HasFitPath};
 
 use crate::addition::Addition;
@@ -70,6 +70,7 @@ impl HgStore {
         ensures revision { option_map (held_revision (group_value group.entry) node.now) (option_copied result)
             ≡ revision_of self.now (group_value group.entry) node.now }
         ensures value { IfSome result (λ held. HasValue (group_value group.entry) held.now.text held.now.parsed) }
+        ensures newer { IfSome result (λ held. IsNewerIn self.now held.now.p held.now.parsed) }
         ensures known { AreAdded self.now }
     {
         let group = key_group(&self.paths, group)?;
@@ -101,6 +102,7 @@ impl HgStore {
         requires faultless { addition_fault self.old (revision_value addition) ≡ None }
         requires fresh { knows self.old (group_value addition.group) addition.node ≡ false }
         requires value { HasValue (group_value addition.group) addition.text parsed }
+        requires newer { IsNewerIn self.old addition.p parsed }
         requires short { length addition.text ≤ text_limit }
         requires path { HasFitPath (group_value addition.group) }
         ensures ok { OnOk result (self.new ≡ self.old ++ revision_value addition.entry ∷ []) }

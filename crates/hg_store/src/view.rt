@@ -1,7 +1,9 @@
-ghost use Rattle.std.specs.Prelude.{◌≡◌, None, false, option_map, MatchResult, MatchOption};
+ghost use Rattle.std.specs.Prelude.{◌≡◌, None, false, List, option_map, IfSome, MatchResult, MatchOption};
 ghost use Rattle.std.specs.Option.{option_copied};
 ghost use Rattle.hg_model.specs.Revision.{Changesets, knows};
+ghost use Rattle.hg_model.specs.Manifest.{ManifestEntry};
 ghost use Rattle.hg_changeset.specs.Values.{changeset_value};
+ghost use Rattle.hg_manifest.specs.Beside.{IsNewer};
 ghost use Rattle.hg_store.specs.Known.{AreAdded, manifest_text_of};
 ghost use Rattle.hg_store.specs.Views.{IsView, IsViewFault, IsChangesetOf, IsManifestOf, IsManifestOfChangeset, HasNoManifest, first_unknown};
 
@@ -11,7 +13,7 @@ use crate::held::Parsed;
 use crate::store::HgStore;
 use bridge_text::Id;
 use hg_changeset::Changeset;
-use hg_manifest::{Manifest, Near};
+use hg_manifest::{Manifest, Near, Newer};
 
 /// A changeset with its manifest, borrowed from a store.
 #[derive(Drop)]
@@ -62,7 +64,7 @@ impl HgStore {
         let held = self.get(Group::Changesets, node)?;
         match &held.parsed {
             Parsed::Changeset(changeset) => Some((held.p, held.q, changeset)),
-            Parsed::Manifest(_) => None,
+            Parsed::Manifest(_, _) => None,
             Parsed::File(_) => None,
         }
     }
@@ -79,7 +81,7 @@ impl HgStore {
         }
         let held = self.get(Group::Manifests, node)?;
         match &held.parsed {
-            Parsed::Manifest(manifest) => Some(manifest),
+            Parsed::Manifest(manifest, _) => Some(manifest),
             Parsed::Changeset(_) => None,
             Parsed::File(_) => None,
         }
@@ -96,7 +98,7 @@ impl HgStore {
         }
         let held = self.get(Group::Manifests, node)?;
         match &held.parsed {
-            Parsed::Manifest(manifest) => Some(Near::of(manifest, held.text.as_slice())),
+            Parsed::Manifest(manifest, _) => Some(Near::of(manifest, held.text.as_slice())),
             Parsed::Changeset(_) => None,
             Parsed::File(_) => None,
         }
@@ -128,6 +130,21 @@ impl HgStore {
         };
         let lines = self.lines(&changeset.manifest)?;
         Some((changeset.manifest, lines))
+    }
+
+    /// Which lines of the manifest of a node that of another node may lack; told only where this is its first parent.
+    pub fn newer(&self, node: &Id, other: &Id) -> Option<&Newer>
+        ensures { IfSome result (λ newer. (lines others : List ManifestEntry) → IsManifestOf self.now node.now lines → IsManifestOf self.now other.now others → IsNewer others newer.now lines) }
+    {
+        let held = self.get(Group::Manifests, node)?;
+        if held.p != *other {
+            return None;
+        }
+        match &held.parsed {
+            Parsed::Manifest(_, newer) => Some(newer),
+            Parsed::Changeset(_) => None,
+            Parsed::File(_) => None,
+        }
     }
 
     // The first line of a manifest whose file revision is unknown.

@@ -280,15 +280,18 @@ fn lines_beside_others(rt: HostRuntime) -> Result<(), Fail> {
     let after = forty(rt.alloc(), 23)?;
     let old = Manifest::read(rt.alloc(), &before, Near::none()).map_err(|_| "a manifest")?;
     let near = Near::of(&old, before.as_slice());
-    let new = Manifest::read(rt.alloc(), &after, near.again()).map_err(|_| "a manifest")?;
+    let (new, newer) = Manifest::read_near(rt.alloc(), &after, near.again()).map_err(
+        |_| "a manifest",
+    )?;
     let is_appended = is_appended(rt.alloc(), &new, after.as_slice())?;
     assert!(rt; is_appended);
-    let mut walk = Beside {
-        lines: Near::of(&new, after.as_slice()),
-        other: near,
-    };
-    assert!(rt; is_at(walk.next(), b"f07"));
-    assert!(rt; is_at(walk.next(), b"f23"));
-    assert!(rt; walk.next().is_none());
+    let lines = Near::of(&new, after.as_slice());
+    assert!(rt; tells_both(Beside::of(lines.again(), near.again(), None)));
+    assert!(rt; tells_both(Beside::of(lines, near, Some(&newer))));
     Ok(())
+}
+
+// Whether the two lines that differ are told, and no other.
+fn tells_both(mut walk: Beside<'_>) -> bool {
+    is_at(walk.next(), b"f07") && is_at(walk.next(), b"f23") && walk.next().is_none()
 }

@@ -13,7 +13,7 @@ use Rattle.view_model.specs.View.{Row, entry_of_row}
 use Rattle.view_model.specs.Held.{IsFileHeld}
 use Rattle.hg_manifest.specs.Beside.{IsLineOf, IsPassed}
 use Rattle.hg_manifest.specs.Near.{IsLater}
-use Rattle.hg_manifest.specs.declared.beside.Beside.{Beside}
+use Rattle.hg_manifest.specs.declared.ahead.Ahead.{Ahead}
 use Rattle.hg_manifest.proofs.BesideLemmas.{lines-later, later-none, later-more}
 use Rattle.pair_known.proofs.HeldViews.{one_row}
 use Rattle.pair_state.specs.Blocks.{body_blob, IsAgreed}
@@ -85,7 +85,7 @@ module _ (hg : List Revision) (git : List Object) where
   kept-lines lines es are both = Each-weaker (IsLineOf lines) (IsBlobLine hg git) (λ e has. kept-line lines e are has) es both
 
   -- the bodies of the lines up to those that are ahead are blobs of the store
-  pub record AreBlobsTo (lines near : List ManifestEntry) (walk : Beside) : Type 0 where
+  pub record AreBlobsTo (lines near : List ManifestEntry) (walk : Ahead) : Type 0 where
     pub passed : List ManifestEntry
     pub whole : lines ≡ passed ++ walk.lines
     pub later : IsLater near walk.other
@@ -99,7 +99,7 @@ module _ (hg : List Revision) (git : List Object) where
     are = tt;
   }
 
-  module _ (lines near : List ManifestEntry) (walk next : Beside) (e : ManifestEntry) (k : AreBlobsTo lines near walk)
+  module _ (lines near : List ManifestEntry) (walk next : Ahead) (e : ManifestEntry) (k : AreBlobsTo lines near walk)
       (p : IsPassed walk next (e ∷ [])) where
     -- what is told and what is left, behind what was passed
     split : lines ≡ k.passed ++ (p.same ++ (e ∷ next.lines))
@@ -122,7 +122,7 @@ module _ (hg : List Revision) (git : List Object) where
           are = Each-append (IsBlobLine hg git) k.passed told k.are (Each-push (IsBlobLine hg git) p.same e same one);
         }
 
-  pub ends : (lines near : List ManifestEntry) (walk : Beside) → AreBlobs hg git near → AreBlobsTo lines near walk
+  pub ends : (lines near : List ManifestEntry) (walk : Ahead) → AreBlobs hg git near → AreBlobsTo lines near walk
       → Each (IsLineOf walk.other) walk.lines → AreBlobs hg git lines
   ends lines near walk are k both =
       let rest = kept-lines near walk.lines are (lines-later near walk.other walk.lines k.later both) in

@@ -63,10 +63,10 @@ fn walk_of<'a>(hg: &'a HgStore, agreed: &IdSet, parent: &Id) -> Option<Cursor<'a
 }
 
 // Whether the blob of each line's file is its body, where that is so of the lines that are near, and of those of the second parent.
-fn have_blobs(
+fn have_blobs<'a>(
     known: &Known,
-    lines: Near<'_>,
-    near: Near<'_>,
+    lines: Near<'a>,
+    near: Near<'a>,
     mut second: Option<Cursor<'_>>,
 ) -> bool
     requires lines { Each (IsAskedLine known.now.hg known.now.git) lines }
@@ -75,7 +75,7 @@ fn have_blobs(
     ensures yes { result ≡ true → AreBlobs known.now.hg known.now.git lines.entry }
     ensures otherwise { result ≡ false → SomeOf lines.entry (IsElseLine known.now.hg known.now.git) }
 {
-    let mut walk = Beside { lines, other: near };
+    let mut walk = Beside::of(lines, near, None);
     while let Some(line) = walk.next() {
         if !has_blob(known, line, &mut second) {
             return false;

@@ -16,7 +16,7 @@ use Rattle.hg_filelog.proofs.MarkLemmas.{one_pair}
 use Rattle.hg_manifest.specs.Lines.{HasLine}
 use Rattle.hg_manifest.specs.Beside.{IsLineOf, IsPassed}
 use Rattle.hg_manifest.specs.Near.{IsLater}
-use Rattle.hg_manifest.specs.declared.beside.Beside.{Beside}
+use Rattle.hg_manifest.specs.declared.ahead.Ahead.{Ahead}
 use Rattle.hg_manifest.proofs.BesideLemmas.{lines-later, passed-parts, all-parts}
 use Rattle.hg_store.specs.Known.{AreFileParents}
 use Rattle.view_model.specs.View.{ChangesetView, Row, entry_of_row, file_node, changeset_node}
@@ -121,7 +121,7 @@ module _ (known : List Revision) (blocks : List Block) where
     pub is_held : IsFileHeld known file
     pub are : map entry_of_row rest ≡ ahead
 
-  pub next-file : (files : List Row) (walk next : Beside) (e : ManifestEntry) (near : List ManifestEntry) → Each (IsFileHeld known) files → Each (IsLineInTime known blocks) near → IsLater near walk.other
+  pub next-file : (files : List Row) (walk next : Ahead) (e : ManifestEntry) (near : List ManifestEntry) → Each (IsFileHeld known) files → Each (IsLineInTime known blocks) near → IsLater near walk.other
       → AreInTimeTo blocks files walk.lines → IsPassed walk next (e ∷ []) → NextFile files e next.lines
   next-file files walk next e near held all later t passed =
       let p = passed-parts entry_of_row t.rest walk next e t.are passed in
@@ -152,7 +152,7 @@ module _ (known : List Revision) (blocks : List Block) where
     none = late-append blocks n.front (n.file ∷ []) ∙ or_neither (has_late_file blocks n.front) (is_late_row blocks n.file || false) n.none (or_neither (is_late_row blocks n.file) false none refl);
   }
 
-  pub all-in_time : (files : List Row) (walk : Beside) (near : List ManifestEntry) → Each (IsFileHeld known) files → Each (IsLineInTime known blocks) near → IsLater near walk.other → AreInTimeTo blocks files walk.lines
+  pub all-in_time : (files : List Row) (walk : Ahead) (near : List ManifestEntry) → Each (IsFileHeld known) files → Each (IsLineInTime known blocks) near → IsLater near walk.other → AreInTimeTo blocks files walk.lines
       → Each (IsLineOf walk.other) walk.lines → has_late_file blocks files ≡ false
   all-in_time files walk near held all later t both =
       let rest-held = Each-rest (IsFileHeld known) t.front t.rest (subst (Each (IsFileHeld known)) t.whole held) in

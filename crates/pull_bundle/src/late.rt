@@ -70,11 +70,11 @@ fn lines_near<'a>(taking: &'a Taking, h: &HgDraft) -> Near<'a>
 }
 
 // Whether a parent of a file revision that one of the lines names comes too late, where each of the lines that are near is in time.
-fn has_late_file(taking: &Taking, lines: Near<'_>, near: Near<'_>) -> bool
+fn has_late_file<'a>(taking: &Taking, lines: Near<'a>, near: Near<'a>) -> bool
     ensures { (blocks : List Block) (files : List Row) → IsTaking taking.now blocks → map entry_of_row files ≡ lines.entry → Each (IsFileHeld (taking.now.state).known.hg) files
         → Each (IsLineInTime (taking.now.state).known.hg blocks) near.entry → result ≡ has_late_file blocks files }
 {
-    let mut walk = Beside { lines, other: near };
+    let mut walk = Beside::of(lines, near, None);
     while let Some(line) = walk.next() {
         if has_late_parent(&taking.state.known.hg, &taking.referred, line) {
             return true;

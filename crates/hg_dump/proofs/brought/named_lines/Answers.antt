@@ -9,8 +9,8 @@ pub unreachable-requires : goal.unreachable-requires
 unreachable-requires c =
     held-names_manifest c.args.store.now c.in-None.ensures.known c.args.node.now c.requires.held.0 c.requires.held.1 c.in-None.ensures.value
 
-pub returns : goal.returns
-returns c = λ h held.
+pub returns-clause-marks : goal.returns-clause-marks
+returns-clause-marks c = λ h held.
     let known = c.args.store.now in
     let node = c.args.node.now in
     let es = c.in-Some.found.1 in

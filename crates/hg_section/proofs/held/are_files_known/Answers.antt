@@ -1,8 +1,17 @@
-use Rattle.std.proofs.Common.{List, subst}
+use Rattle.std.proofs.Common.{List, sym, subst}
+use Rattle.std.proofs.lemmas.Option.{IfSome_then}
 use Rattle.hg_model.specs.Manifest.{ManifestEntry}
+use Rattle.hg_manifest.specs.declared.ahead.Ahead.{Ahead}
 use Rattle.hg_section.specs.Held.{AreLinesKnown}
-use Rattle.hg_section.proofs.HeldLines.{none-unknown, one-list}
+use Rattle.hg_store.proofs.ViewLemmas.{one-list}
+use Rattle.hg_section.proofs.HeldLines.{none-unknown}
 use Rattle.hg_section.proofs.held.are_files_known.Goals as goal
+
+pub of-walk-requires : goal.of-walk-requires
+of-walk-requires c = IfSome_then c.newer.result c.newer.ensures (λ newer told. told c.in-Some.lines c.args.near c.in-Some.ensures.value c.requires.before)
+
+pub are_known_beside-requires : goal.are_known_beside-requires
+are_known_beside-requires c = record { near = subst (λ (walk : Ahead). AreLinesKnown c.args.store.now walk.other) (sym c.of-walk.ensures) c.requires.near }
 
 pub returns-in-Some : goal.returns-in-Some
 returns-in-Some c = λ yes.
@@ -10,4 +19,4 @@ returns-in-Some c = λ yes.
     let lines = c.in-Some.lines in
     let entries = c.args.manifest.now in
     let same = one-list known c.args.node.now lines entries c.in-Some.ensures.value c.requires.manifest in
-    none-unknown known entries (subst (λ (es : List ManifestEntry). AreLinesKnown known es) same (c.are_known_beside.ensures yes))
+    none-unknown known entries (subst (λ (es : List ManifestEntry). AreLinesKnown known es) same (subst (λ (walk : Ahead). AreLinesKnown known walk.lines) c.of-walk.ensures (c.are_known_beside.ensures yes)))

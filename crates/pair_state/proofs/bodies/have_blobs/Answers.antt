@@ -9,7 +9,7 @@ use Rattle.pair_state.proofs.bodies.have_blobs.Goals as goal
 pub loop-line-init : goal.loop-line-init
 loop-line-init c = record {
   same = refl;
-  to = starts c.args.known.now.hg c.args.known.now.git c.args.lines c.args.near;
+  to = rw c.of-walk.ensures (starts c.args.known.now.hg c.args.known.now.git c.args.lines c.args.near);
 }
 
 pub has_blob-requires : goal.has_blob-requires

@@ -6,8 +6,8 @@ use Rattle.pull_bundle.proofs.late.has_late_file.Goals as goal
 
 pub loop-line-init : goal.loop-line-init
 loop-line-init c = record {
-  none = λ blocks files taking are held near. none-late blocks files c.args.lines are;
-  later = later-none c.args.near;
+  none = λ blocks files taking are held near. rw c.of-walk.ensures (none-late blocks files c.args.lines are);
+  later = rw c.of-walk.ensures (later-none c.args.near);
 }
 
 pub returns-then-has_late_parent : goal.returns-then-has_late_parent

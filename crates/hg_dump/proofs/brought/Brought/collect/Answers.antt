@@ -1,4 +1,4 @@
-use Rattle.std.proofs.Common.{◌≡◌, ◌-◌, ℕ, List, [], length, take, drop, sym, subst, arith, length-drop}
+use Rattle.std.proofs.Common.{◌≡◌, ◌-◌, ℕ, List, [], length, take, drop, refl, sym, subst, arith, length-drop}
 use Rattle.std.specs.Prelude.{false}
 use Rattle.text_model.specs.Lists.{Each}
 use Rattle.hg_model.specs.Manifest.{ManifestEntry}
@@ -6,6 +6,7 @@ use Rattle.hg_dump.specs.State.{IsLineMet}
 use Rattle.std.proofs.lemmas.List.{take_all}
 use Rattle.text_model.specs.Id.{Id}
 use Rattle.hg_model.specs.Revision.{Revision}
+use Rattle.hg_store.proofs.ViewLemmas.{null-has_none}
 use Rattle.view_model.specs.View.{ChangesetView}
 use Rattle.view_model.specs.Held.{AreChangesetsHeld}
 use Rattle.hg_dump.specs.Marks.{Met, none, marks_in, meets}
@@ -20,10 +21,16 @@ rest-held : (known : List Revision) (nodes : List Id) (from : ℕ) (hs : List Ch
 rest-held known nodes from hs are = subst (λ (l : List Id). AreChangesetsHeld known l (drop from hs)) (sym (rest nodes from)) (held-drop known nodes hs from are)
 
 pub refer_all-requires : goal.refer_all-requires
-refer_all-requires c = record { held = (take c.args.from c.requires.held.0, held-take c.args.store.now c.args.nodes.now c.requires.held.0 c.args.from c.requires.held.1) }
+refer_all-requires c = record {
+  held = (take c.args.from c.requires.held.0, held-take c.args.store.now c.args.nodes.now c.requires.held.0 c.args.from c.requires.held.1);
+  before = null-has_none c.args.store.now _ c.none.result refl c.none.ensures;
+}
 
 pub refer_all-requires-2 : goal.refer_all-requires-2
-refer_all-requires-2 c = record { held = (drop c.args.from c.requires.held.0, rest-held c.args.store.now c.args.nodes.now c.args.from c.requires.held.0 c.requires.held.1) }
+refer_all-requires-2 c = record {
+  held = (drop c.args.from c.requires.held.0, rest-held c.args.store.now c.args.nodes.now c.args.from c.requires.held.0 c.requires.held.1);
+  before = null-has_none c.args.store.now _ c.none-2.result refl c.none-2.ensures;
+}
 
 pub returns : goal.returns
 returns c = λ hs are.

@@ -1,7 +1,10 @@
 use Rattle.std.proofs.Common.{◌≤◌, List, length, take, sym, ap, subst, ◌∙◌, arith}
 use Rattle.std.proofs.lemmas.List.{take_all}
+use Rattle.std.proofs.lemmas.Option.{IfSome_then}
 use Rattle.text_model.specs.Lists.{Each}
 use Rattle.hg_model.specs.Manifest.{ManifestEntry}
+use Rattle.hg_manifest.specs.declared.ahead.Ahead.{Ahead}
+use Rattle.hg_store.specs.Views.{IsManifestOf}
 use Rattle.view_model.specs.View.{ChangesetView}
 use Rattle.hg_dump.specs.Marks.{Met, IsMet, marks_of, marks_in, meets, view_marks}
 use Rattle.hg_dump.specs.State.{StepsAfter, IsLineMet, referred_in}
@@ -13,7 +16,13 @@ pub loop-node-init : goal.loop-node-init
 loop-node-init c = record {
   steps = λ hs are s is lines. is;
   lines = λ hs are s lines. lines;
+  manifest = c.requires.before;
 }
+
+pub of-walk-requires : goal.of-walk-requires
+of-walk-requires c =
+    let lines-is = subst (λ (es : List ManifestEntry). IsManifestOf c.args.store.now c.named_lines-manifest_node.result.0 es) (sym c.again.ensures) c.named_lines-manifest_node.ensures.manifest in
+    IfSome_then c.newer-newer.result c.newer-newer.ensures (λ newer told. told c.again.result c.loop-node.previous lines-is c.loop-node.invariant.manifest)
 
 pub named_lines-manifest_node-requires : goal.named_lines-manifest_node-requires
 named_lines-manifest_node-requires c =
@@ -30,19 +39,21 @@ loop-node-preserved c =
     let manifest_node = c.named_lines-manifest_node.result.0 in
     let es = c.named_lines-manifest_node.result.1 in
     let step : StepsAfter c.loop-node.previous is_new (view_marks node manifest_node es) c.loop-node.self c.refer_view.new.self =
-    subst (λ (lines : List ManifestEntry). StepsAfter c.loop-node.previous is_new (view_marks node manifest_node lines) c.loop-node.self c.refer_view.new.self) c.again.ensures c.in_ok-refer_view.ensures in
+    subst (λ (lines : List ManifestEntry). StepsAfter c.loop-node.previous is_new (view_marks node manifest_node lines) c.loop-node.self c.refer_view.new.self) c.again.ensures
+    (subst (λ (walk : Ahead). StepsAfter walk.other is_new (view_marks node manifest_node walk.lines) c.loop-node.self c.refer_view.new.self) c.of-walk.ensures c.in_ok-refer_view.ensures) in
     record {
       steps = λ hs are s is before.
           let at = held-at known nodes hs are i node node c.loop-node-test.true c.node-item.is in
           let so_far = meets is_new s (marks_in (take i hs)) in
-          let same = c.named_lines-manifest_node.ensures at.view at.held in
+          let same = c.named_lines-manifest_node.ensures.marks at.view at.held in
           subst (λ (t : Met). IsMet t (referred_in c.refer_view.new.self))
           (ap (meets is_new so_far) (sym same) ∙ sym (meets-append is_new s (marks_in (take i hs)) (marks_of at.view)) ∙ ap (meets is_new s) (sym (marks-push hs i at.view at.at_place)))
           (step so_far (c.loop-node.invariant.steps hs are s is before) (c.loop-node.invariant.lines hs are s before));
+      manifest = c.named_lines-manifest_node.ensures.manifest;
       lines = λ hs are s before.
           let at = held-at known nodes hs are i node node c.loop-node-test.true c.node-item.is in
           let so_far = meets is_new s (marks_in (take i hs)) in
-          let same = c.named_lines-manifest_node.ensures at.view at.held in
+          let same = c.named_lines-manifest_node.ensures.marks at.view at.held in
           subst (λ (t : Met). Each (IsLineMet t) es)
           (ap (meets is_new so_far) (sym same) ∙ sym (meets-append is_new s (marks_in (take i hs)) (marks_of at.view)) ∙ ap (meets is_new s) (sym (marks-push hs i at.view at.at_place)))
           (view-lines is_new so_far node manifest_node es);

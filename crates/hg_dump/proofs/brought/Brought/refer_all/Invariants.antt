@@ -1,5 +1,6 @@
 use Rattle.std.proofs.Common.{List, take}
 use Rattle.text_model.specs.Lists.{Each}
+use Rattle.hg_store.specs.Views.{IsManifestOf}
 use Rattle.view_model.specs.View.{ChangesetView}
 use Rattle.view_model.specs.Held.{AreChangesetsHeld}
 use Rattle.hg_dump.specs.Marks.{Met, marks_in, meets}
@@ -10,4 +11,5 @@ abbrev pub invariant-loop-node : goal.invariant-loop-node
 invariant-loop-node l = record {
   steps : (hs : List ChangesetView) → AreChangesetsHeld l.store l.nodes hs → StepsAfter l.fn.previous l.is_new (marks_in (take l.node-index hs)) l.fn.self l.self;
   lines : (hs : List ChangesetView) → AreChangesetsHeld l.store l.nodes hs → (s : Met) → Each (IsLineMet s) l.fn.previous → Each (IsLineMet (meets l.is_new s (marks_in (take l.node-index hs)))) l.previous;
+  manifest : IsManifestOf l.store l.before l.previous;
 }

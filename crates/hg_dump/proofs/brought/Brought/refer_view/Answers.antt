@@ -7,11 +7,11 @@ use Rattle.hg_dump.proofs.brought.Brought.refer_view.Goals as goal
 pub returns : goal.returns
 returns c =
     let is_new = c.args.is_new in
-    let before = c.args.previous in
+    let before = c.args.walk.other in
     let link = c.args.node.now in
     let own = own_mark link ∷ [] in
     let manifest = manifest_marks link c.args.manifest_node.now in
-    let files = map (file_mark link) c.args.lines in
+    let files = map (file_mark link) c.args.walk.lines in
     let a = c.args.self.now in
     let b = c.refer.new.self in
     let d = c.refer_manifest.new.self in

@@ -21,8 +21,8 @@ invariant_of-result c =
     let at = is_cut_at c.self.inside.lines.now (map manifest_entry c.split_at.result.0.now) (map manifest_entry c.split_at.result.1.now) c.len_behind-behind.result cut (c.len_behind-behind.ensures (manifest_text (map manifest_entry c.split_at.result.1.now)) cut.starts) in
     rw (c.split_at-2.ensures.back) at.rest
 
-pub returns : goal.returns
-returns c =
+pub returns-clause-some : goal.returns-clause-some
+returns-clause-some c =
     let cut = cut_parts c.self.inside.entries.now c.self.inside.lines.now c.args.count c.self.invariant c.split_at.result.0.now c.split_at.result.1.now c.split_at.ensures.front c.split_at.ensures.back in
     let at = is_cut_at c.self.inside.lines.now (map manifest_entry c.split_at.result.0.now) (map manifest_entry c.split_at.result.1.now) c.len_behind-behind.result cut (c.len_behind-behind.ensures (manifest_text (map manifest_entry c.split_at.result.1.now)) cut.starts) in
     record {

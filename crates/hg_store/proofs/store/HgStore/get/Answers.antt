@@ -6,6 +6,7 @@ use Rattle.hg_store.specs.contracts.held.KeyPartialEq.TheImpl as key_eq
 use Rattle.hg_store.specs.Groups.{group_value, paths_in, held_revision, HasValue}
 use Rattle.hg_store.proofs.KeyLemmas.{key_group-Some, find-by_key, value-by_key, value-lent, find-no_number}
 use Rattle.hg_store.proofs.EqLemmas.{tests}
+use Rattle.hg_store.proofs.NewerLemmas.{newer-lent}
 use Rattle.hg_store.proofs.store.HgStore.get.Goals as goal
 
 pub returns-clause-revision : goal.returns-clause-revision
@@ -26,6 +27,10 @@ returns-clause-value c =
     let value = value-by_key (paths_in keys) c.self.invariant.0.apart c.in_ok-group.group number.within node
     (key_eq.eq-value.it (record { group = c.in_ok-group.group; node = node })) (tests c.in_ok-group.group node) c.self.inside.revisions.entries c.self.invariant.0.numbers c.self.invariant.0.values in
     value-lent (group_value c.args.group) c.get.result _ c.get.ensures.value (λ h at. subst (λ (g : Group). HasValue g h.text h.parsed) number.is (value h at))
+
+pub returns-clause-newer : goal.returns-clause-newer
+returns-clause-newer c =
+    newer-lent c.args.self.now _ (key_eq.eq-value.it (record { group = c.in_ok-group.group; node = c.args.node.now })) c.self.inside.revisions.entries c.get.result c.self.view_is c.self.invariant.0.newer c.get.ensures.value
 
 pub returns-in_err-group-clause-revision : goal.returns-in_err-group-clause-revision
 returns-in_err-group-clause-revision c =

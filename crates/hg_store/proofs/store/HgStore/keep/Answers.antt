@@ -57,7 +57,7 @@ after_insert c =
       path_bytes = c.is_of_bytes.ensures.path;
     } in
     let entries : c.insert.new.self.entries ≡ es ++ (key, held) ∷ [] = c.in_ok-insert.ensures.entries ∙ insert_entry-new key_eq.eq-value.it c.self.inside.revisions key held none in
-    let all = kept new es s c.args.self.now view r c.in_ok-group.group number held refl c.requires.value added in
+    let all = kept new es s c.args.self.now view r c.in_ok-group.group number held refl c.requires.value c.requires.newer added in
     (subst (IsStore new) (sym entries) all.0, ap (revisions_in new) entries ∙ all.1)
 
 pub invariant_of-self-2 : goal.invariant_of-self-2

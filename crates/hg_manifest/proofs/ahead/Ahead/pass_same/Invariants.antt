@@ -1,6 +1,6 @@
 use Rattle.std.proofs.Common.{[], length}
 use Rattle.hg_manifest.specs.Beside.{IsPassed}
-use Rattle.hg_manifest.proofs.beside.Beside.pass_same.Given as goal
+use Rattle.hg_manifest.proofs.ahead.Ahead.pass_same.Given as goal
 
 abbrev pub invariant-loop-text : goal.invariant-loop-text
 invariant-loop-text l = IsPassed l.fn.self l.self []
