@@ -9,7 +9,7 @@ use Rattle.bridge_io.specs.Slot.{FetchGives}
 use Rattle.pair_state.specs.declared.state.State.{State}
 use Rattle.pair_state.specs.AllBlocks.{HasAllBlocks}
 use Rattle.pull_engine.proofs.Empty.{empty-is-read}
-use Rattle.bridge_cli.specs.Fetched.{IsFetched, IsFetchedWith, IsNotFetched, IsNoText, ReadsText, FetchesWith}
+use Rattle.bridge_cli.specs.Fetched.{IsFetched, IsFetchedWith, IsNotFetched, IsNoText, ReadsText, FetchesWith, HasHeldText}
 use Rattle.bridge_cli.specs.declared.fetch.Fetched.{Fetched}
 use Rattle.bridge_cli.specs.Makes.{LeavesSlotCount}
 use Rattle.bridge_cli.specs.Report.{bad_value}
@@ -62,6 +62,18 @@ pub text-fetched : (slot : Option (Option Bytes)) (max : ℕ) (text : Bytes) (fo
 text-fetched slot max text found (Ok f) gives is are (m, read, text-is, has) =
     (m, read, subst IsBytes text-is.1 are, held-text slot text m (gives-text slot max text found gives is) text-is, subst (λ (t : Option Bytes). IfSome t (λ own. IsStateText own m)) (sym has) text-is)
 text-fetched slot max text found (Err report) gives is are unread = no-state slot text report (gives-text slot max text found gives is) unread
+
+-- the text that was fetched is the state's
+pub text-held : (slot : Option (Option Bytes)) (max : ℕ) (text : Bytes) (found : Bool) (result : Result Fetched Report) → FetchGives slot max (Ok found) text → found ≡ true
+    → ReadsText text result → HasHeldText slot result
+text-held slot max text found (Ok f) gives is (m, read, text-is, has) = subst (λ (t : Option Bytes). IfSome slot (λ held. held ≡ t)) (sym has) (gives-text slot max text found gives is)
+text-held slot max text found (Err report) gives is unread = tt
+
+-- nothing is held, and there is no text
+pub none-held : (slot : Option (Option Bytes)) (max : ℕ) (into : Bytes) (found : Bool) → FetchGives slot max (Ok found) into → found ≡ false → IfSome slot (λ held. held ≡ None)
+none-held None max into found gives is = tt
+none-held (Some None) max into found gives is = refl
+none-held (Some (Some bytes)) max into found gives is = absurd (true-false (sym gives.0 ∙ is))
 
 -- nothing is held: the empty state
 pub nothing-fetched : (slot : Option (Option Bytes)) (max : ℕ) (into : Bytes) (found : Bool) (s : State) → FetchGives slot max (Ok found) into → found ≡ false

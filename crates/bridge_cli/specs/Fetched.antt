@@ -1,5 +1,5 @@
 -- The state that a slot gives.
-use Rattle.std.specs.Prelude.{◌≡◌, Option, Some, IfSome, Result, MatchResult, ⊤}
+use Rattle.std.specs.Prelude.{◌≡◌, Option, Some, IfSome, IfOk, Result, MatchResult, ⊤}
 use Rattle.text_model.specs.Text.{Bytes, IsBytes}
 use Rattle.state_model.specs.Kept as model
 use Rattle.state_model.specs.Text.{state_text}
@@ -48,3 +48,7 @@ Fetches slot result = MatchResult result (IsFetched slot) (IsNotFetched slot)
 
 abbrev pub FetchesWith : Option (Option Bytes) → Result Fetched Report → Type 0
 FetchesWith slot result = MatchResult result (IsFetchedWith slot) (IsNotFetched slot)
+
+-- the text is the one that the slot holds, where it tells it
+abbrev pub HasHeldText : Option (Option Bytes) → Result Fetched Report → Type 0
+HasHeldText slot result = IfOk result (λ f. IfSome slot (λ held. held ≡ f.text))

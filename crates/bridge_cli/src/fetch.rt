@@ -2,7 +2,7 @@
 ghost use Rattle.std.specs.Prelude.{◌≡◌, ◌≤◌, length, OnOk};
 ghost use Rattle.text_model.specs.Text.{IsBytes};
 ghost use Rattle.state_model.specs.Limits.{slot_limit};
-ghost use Rattle.bridge_cli.specs.Fetched.{Fetches, FetchesWith, ReadsText};
+ghost use Rattle.bridge_cli.specs.Fetched.{Fetches, FetchesWith, HasHeldText, ReadsText};
 ghost use Rattle.bridge_cli.specs.Makes.{LeavesSlotCount};
 
 use crate::report::{BadState, Report};
@@ -50,6 +50,7 @@ pub fn fetch_state<K: Slot>(alloc: Global, slot: &mut K) -> Result<State, Report
 /// `StateBad` where what it holds is the text of no state or is too long for one, and `Memory` where memory is wanted.
 pub fn fetch<K: Slot>(alloc: Global, slot: &mut K) -> Result<Fetched, Report>
     ensures state { FetchesWith (K.held slot.old) result }
+    ensures text { HasHeldText (K.held slot.old) result }
     ensures held { K.held slot.new ≡ K.held slot.old }
     ensures cause { LeavesSlotCount (K.faults slot.old) (K.faults slot.new) result }
 {
