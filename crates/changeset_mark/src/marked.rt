@@ -32,8 +32,6 @@ pub fn mark_changeset(alloc: Global, known: &Known, c: &GitDraft) -> Result<HgDr
     ensures limit { result ≡ Err PairLimit → (blocks : List Block) (v : CommitView) → IsCommitOver known.now blocks c.now v
         → ChangesetFits (mark.mark_changeset blocks v) → ⊥ }
 {
-    known.hg.check();
-    known.partners.check();
     let given = user_of_line(alloc, c.commit.author.as_slice())?;
     let extras = marks_of(alloc, known, c, &given)?.to_extras(alloc)?;
     extras.are_extras();

@@ -30,7 +30,6 @@ fn first_residue(alloc: Global, known: &Known, c: &GitDraft) -> Result<Residue, 
     ensures { IfOk result (λ residue. (blocks : List Block) (v : CommitView) → IsCommitOver known.now blocks c.now v
         → residue ≡ first_residue blocks (v.value).parents) }
 {
-    known.git.check();
     let Some(first) = c.commit.parents.as_slice().first() else {
         return Ok(Residue::new(alloc));
     };

@@ -11,7 +11,7 @@ use Rattle.text_model.proofs.Options.{none_some, some_is}
 use Rattle.hg_model.specs.FileText.{IsFileText, file_order, plain_meta}
 use Rattle.hg_model.specs.Manifest.{ManifestEntry}
 use Rattle.hg_model.specs.Revision.{Revision, FilesAt, revision_of, is_of}
-use Rattle.hg_store.specs.Known.{AreAdded, AreFileParents}
+use Rattle.hg_store.specs.Known.{AreFileParents}
 use Rattle.view_model.specs.View.{FileRevision, file_node, Row, Compared, compared_revision, SameRow}
 use Rattle.view_model.specs.Held.{IsFileHeld, IsBlobHeld, file_row_of}
 use Rattle.pair_model.specs.Rule.{with_body, node_or_null, one_or_two, new_revision, ruled_revision, tree_row_of}
@@ -25,7 +25,7 @@ use Rattle.file_rule.proofs.NewRow.{entry_node, ordered}
 use Rattle.file_rule.proofs.RowLemmas as rows
 use Rattle.changeset_unmark.specs.Rows.{IsDraftRow, IsFreshRow}
 
-module _ (known : List Revision) (added : AreAdded known) (file : Revision) (row : RowValue) (first second : Option ManifestEntry) (r s : Option FileRevision) (w : Row) (is : IsFreshRow known file row first second r s w) where
+module _ (known : List Revision) (file : Revision) (row : RowValue) (first second : Option ManifestEntry) (r s : Option FileRevision) (w : Row) (is : IsFreshRow known file row first second r s w) where
   blob_is : row.blob ≡ blob_id (w.revision).body
   blob_is = ap (λ (x : RowValue). x.blob) is.of_row
 
@@ -48,7 +48,7 @@ module _ (known : List Revision) (added : AreAdded known) (file : Revision) (row
   kept_back node at parents order meta m t u test held = (there, back)
     where
       found : (rev : FileRevision) × (ruled_revision r s (tree_row_of w) ≡ rev) × (node ≡ file_node rev) × (blob_id rev.body ≡ blob_id (w.revision).body) × IsFileHeld known (row_with w.path w.flag rev)
-      found = rows.kept known added _ (file_row_of (tree_row_of w)) w.flag first second r s (tree_row_of w) of_row node (at ∙ ap (λ (x : Id). option_map file_node (option_or (with_body x r) (with_body x s))) blob_is)
+      found = rows.kept known _ (file_row_of (tree_row_of w)) w.flag first second r s (tree_row_of w) of_row node (at ∙ ap (λ (x : Id). option_map file_node (option_or (with_body x r) (with_body x s))) blob_is)
 
       says : t ≡ true → (IsTrue u ↔ ((((found.0).p, (found.0).q) ≡ parents) × ((found.0).meta ≡ meta)))
       says e = held e (row_with w.path w.flag found.0) (sym path_of_row) (sym found.2 ∙ (bytes_eq-Decides node row.node).0 (sym test ∙ e)) found.4

@@ -66,7 +66,6 @@ fn is_fresh_ruled(
     ensures { (r s : Option FileRevision) (w : Row) → IsFreshRow store.now (fresh_revision file.now) row.now (option_map manifest_entry (option_copied first.entry)) (option_map manifest_entry (option_copied second.entry)) r s w
         → (IsTrue result ↔ SameRow (row_again r s w) w) }
 {
-    store.check();
     let Ok((meta, body)) = split(file.text.as_slice()) else {
         return false;
     };

@@ -1,6 +1,7 @@
 ghost use Rattle.std.specs.Prelude.{◌≡◌, ◌≤◌, List, length, IfOk, MatchOption, None, Some};
 ghost use Rattle.text_model.specs.Id as id;
 ghost use Rattle.text_model.specs.Lists.{Each};
+ghost use Rattle.git_store.specs.Known.{AreKnown};
 ghost use Rattle.hg_changeset.specs.Values.{date_value};
 ghost use Rattle.view_model.specs.View.{ChangesetView, CommitView};
 ghost use Rattle.pair_model.specs.Block.{Block, Parents};
@@ -81,8 +82,6 @@ fn unmark_two(
         (λ d. (c : CommitView) × UnmarksChangeset blocks (IsHeldView known.now.hg) v c × IsBuiltCommit known.now.git d c
         × (AreShortBodies v.rows → IsMadeCommit known.now.git d c))) }
 {
-    known.hg.check();
-    known.git.check();
     let nodes = [h.p1, h.p2];
     let Some(parents) = partners_of(alloc, &known.partners, &nodes)? else {
         return Ok(None);
@@ -108,8 +107,6 @@ fn unmark_octopus(
         (λ d. (c : CommitView) × UnmarksChangeset blocks (IsHeldView known.now.hg) v c × IsBuiltCommit known.now.git d c
         × (AreShortBodies v.rows → IsMadeCommit known.now.git d c))) }
 {
-    known.hg.check();
-    known.git.check();
     let Some(nodes) = nodes_named(alloc, known, h, count)? else {
         return Ok(None);
     };
@@ -162,8 +159,6 @@ fn unmark_through(
         (λ d. (c : CommitView) × UnmarksChangeset blocks (IsHeldView known.now.hg) v c × IsBuiltCommit known.now.git d c
         × (AreShortBodies v.rows → IsMadeCommit known.now.git d c))) }
 {
-    known.hg.check();
-    known.git.check();
     let first = nodes.at(0);
     let Some(made) = unmark_over(alloc, known, h, marks, parents, first, near)? else {
         return Ok(None);
@@ -195,14 +190,14 @@ fn unmark_over(
     requires over { (blocks : List Block) × (v : ChangesetView) × (ps : Parents) × IsNamedOver known.now blocks h.now v parents node.now ps }
     requires date { IsDateOf (date_value h.now.changeset.date) (changeset_marks marks) }
     requires near { Each (HasStoredBlob known.now.git) near.now }
-    ensures { IfOk result (λ found. (blocks : List Block) (v : ChangesetView) (ps : Parents) → IsNamedOver known.now blocks h.now v parents node.now ps
+    ensures found { IfOk result (λ found. (blocks : List Block) (v : ChangesetView) (ps : Parents) → IsNamedOver known.now blocks h.now v parents node.now ps
         → MatchOption found (¬ (IsNamed blocks parents ps v (changeset_marks marks)))
         (λ d. IsNamed blocks parents ps v (changeset_marks marks)
         × IsBuiltCommit known.now.git d (commit_named blocks parents v (changeset_marks marks))
         × (AreShortBodies v.rows → IsMadeCommit known.now.git d (commit_named blocks parents v (changeset_marks marks))))) }
+    ensures known { AreKnown known.now.git }
 {
     known.git.check();
-    known.hg.check();
     let first = parent_of(&known.hg, node);
     let second = parent_of(&known.hg, &h.p2);
     if !lists_come_back(alloc, &known.hg, h, &first, &second)? {

@@ -20,7 +20,6 @@ pub fn marks_of(alloc: Global, known: &Known, h: &HgDraft) -> Result<CommitMarks
     ensures { IfOk result (λ marks. (blocks : List Block) (v : ChangesetView) → IsChangesetOver known.now blocks h.now v
         → marks ≡ commit_marks (parents_of_changeset blocks v) v) }
 {
-    known.hg.check();
     let first = parent_of(&known.hg, &h.p1);
     let second = parent_of(&known.hg, &h.p2);
     let over = Over {

@@ -1,7 +1,7 @@
 -- What was made of a draft is the commit that the rule gives.
 use Rattle.std.proofs.Common.{◌≡◌, ◌≤◌, ◌+◌, ℕ, Bool, true, false, List, [], ◌∷◌, ◌++◌, map, length, Option, Some, None, refl, sym, ap, subst, ◌∙◌, inl, inr, arith}
 use Rattle.std.proofs.lemmas.Int.{ints}
-use Rattle.std.specs.Prelude.{IsTrue, is_some, option_map, unwrap_or, bytes_eq, MatchOption, ℤ, pos, negsuc, neg_ℤ, ◌≤ℤ◌, FitsSigned, sum_by, ◌^◌}
+use Rattle.std.specs.Prelude.{IsTrue, is_some, option_map, unwrap_or, bytes_eq, IfSome, MatchOption, ℤ, pos, negsuc, neg_ℤ, ◌≤ℤ◌, FitsSigned, sum_by, ◌^◌}
 use Rattle.std.specs.Int.{w64}
 use Rattle.std.proofs.lemmas.List.Sums.{sum_by-cons}
 use Rattle.std.proofs.lemmas.Option.{same_Some, none-some}
@@ -197,6 +197,30 @@ module _ (k : Known) (blocks : List Block) (held : AreBlocksHeld k blocks) (are 
       by None e = (None, e)
       by (Some b) e = (Some ((b.commit).value).tree_id, (b, e, refl))
 
+-- the same where the store is asked only for a tree that is there
+abbrev pub AreAsked : Known → Option Id → Type 0
+AreAsked k old = IfSome old (λ _. AreKnown k.git)
+
+module _ (k : Known) (blocks : List Block) (held : AreBlocksHeld k blocks) (node : Id) where
+  pub walks-through : (old : Option Id) → IsOld blocks node old → AreAsked k old → WalksThrough k.git old
+  walks-through None is are = tt
+  walks-through (Some root) is are = walks-old k blocks held are node (Some root) is
+
+  old-rows : (old : Option Id) → IsOld blocks node old → AreAsked k old → AreOld (rows_below k.git old)
+  unfolding rows_below
+  old-rows None is are = record { files = record { each = tt; in_order = refl }; apart = λ a b i j. absurd i }
+  old-rows (Some root) is are = are-old k blocks held are node (Some root) is
+
+  residue-rows : (old : Option Id) → IsOld blocks node old → AreAsked k old → old_residue blocks node ≡ residue_of (rows_below k.git old)
+  unfolding rows_below
+  residue-rows None is are = ap (λ (o : Option Block). unwrap_or (option_map (λ b. residue_of (map file_row_of (b.commit).rows)) o) []) is
+  residue-rows (Some root) is are = residue-old k blocks held are node (Some root) is ∙ residue-below k blocks held are node (Some root)
+
+below-rows : (known : List Object) (old : Option Id) → residue_below known old ≡ residue_of (rows_below known old)
+unfolding rows_below
+below-rows known None = refl
+below-rows known (Some root) = refl
+
 -- the block of a node, by the partner that a look-up finds
 pub no-block : (blocks : List Block) (node : Id) → None ≡ option_map id_of (block_of_node blocks node) → block_of_node blocks node ≡ None
 no-block blocks node e = by (block_of_node blocks node) e
@@ -265,13 +289,13 @@ module _ (k : Known) (blocks : List Block) (d : HgDraft) (v : ChangesetView) (ov
       subst (λ (p : Id). IsTrue (is_some (git_at k.partners p))) draft.parents.1
       (has-partner k.partners blocks (v.p ∷ v.q ∷ []) v.q held.partners over.parents (inr (inl refl)) (ap is_null draft.parents.1 ∙ some))
 
-  module _ (are : AreKnown k.git) (clear : has_clash (paths_of v.rows) ≡ false) (old : Option Id) (is-old : IsOld blocks d.p1 old) where
+  module _ (old : Option Id) (are : AreAsked k old) (clear : has_clash (paths_of v.rows) ≡ false) (is-old : IsOld blocks d.p1 old) where
     handed : carried_to blocks v ≡ carried (residue_of (rows_below k.git old)) (map file_row_of (map tree_row_of v.rows))
     handed = ap (λ (items : List ResidueItem). carried items (map file_row_of (map tree_row_of v.rows)))
-        (ap (old_residue blocks) draft.parents.0 ∙ residue-old k blocks held are d.p1 old is-old ∙ residue-below k blocks held are d.p1 old)
+        (ap (old_residue blocks) draft.parents.0 ∙ residue-rows k blocks held d.p1 old is-old are)
 
     rows-right : AreRows (rows_below k.git old) v.rows
-    rows-right = are-rows (rows_below k.git old) (are-old k blocks held are d.p1 old is-old) v.rows (tree-rows v.rows over.inside.view.rows)
+    rows-right = are-rows (rows_below k.git old) (old-rows k blocks held d.p1 old is-old are) v.rows (tree-rows v.rows over.inside.view.rows)
         (view-files v over.inside.view) (ap has_clash (same-paths v.rows) ∙ clear)
 
     each-row : Each IsRow (rule_commit blocks v).rows
@@ -295,7 +319,7 @@ module _ (k : Known) (blocks : List Block) (d : HgDraft) (v : ChangesetView) (ov
     made-rows : rows_with (carried (residue_below k.git old) (map file_of_row d.rows)) (map file_of_row d.rows) ≡ map file_row_of (rule_commit blocks v).rows
     made-rows =
         ap (λ (fs : List FileRow). rows_with (carried (residue_below k.git old) fs) fs) files-of
-        ∙ ap (λ (items : List ResidueItem). rows_with (carried items (map file_row_of (map tree_row_of v.rows))) (map file_row_of (map tree_row_of v.rows))) (residue-below k blocks held are d.p1 old)
+        ∙ ap (λ (items : List ResidueItem). rows_with (carried items (map file_row_of (map tree_row_of v.rows))) (map file_row_of (map tree_row_of v.rows))) (below-rows k.git old)
         ∙ sym bare-rows
 
     pub files-right : IsFiles (rows_with (carried (residue_below k.git old) (map file_of_row d.rows)) (map file_of_row d.rows))
@@ -305,9 +329,9 @@ module _ (k : Known) (blocks : List Block) (d : HgDraft) (v : ChangesetView) (ov
     files-apart = ap first_clash made-rows ∙ right-apart
 
     -- where the commit is within its limits, each body is
-    pub bodies-short : CommitFits (rule_commit blocks v) → AreShortBodies v.rows
+    short-bodies : CommitFits (rule_commit blocks v) → AreShortBodies v.rows
     unfolding rule_commit commit_objects
-    bodies-short fits = each_from (λ (row : Row). length (row.revision).body ≤ text_limit) v.rows (λ row i.
+    short-bodies fits = each_from (λ (row : Row). length (row.revision).body ≤ text_limit) v.rows (λ row i.
         content-short (rule_commit blocks v).rows right-files right-apart
         (Each-front (λ (o : Object). length o.content ≤ text_limit) (shape_objects shape_depth (map leaf_of_row (rule_commit blocks v).rows)) (object_of commit (commit_text (rule_commit blocks v).value) ∷ []) fits.objects)
         (tree_row_with (carried_to blocks v) (tree_row_of row)) (row-in (carried_to blocks v) v.rows row i) (blob-row (carried_to blocks v) row))
@@ -386,3 +410,10 @@ module _ (k : Known) (blocks : List Block) (d : HgDraft) (v : ChangesetView) (ov
         short = short-of short;
         view = view-of bytes;
       })
+
+  pub bodies-short : AreKnown k.git → has_clash (paths_of v.rows) ≡ false → (old : Option Id) → IsOld blocks d.p1 old → CommitFits (rule_commit blocks v) → AreShortBodies v.rows
+  bodies-short are clear old is-old = short-bodies old (by old) clear is-old
+    where
+      by : (o : Option Id) → AreAsked k o
+      by None = tt
+      by (Some root) = are

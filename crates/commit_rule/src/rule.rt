@@ -23,7 +23,6 @@ pub fn make_commit(alloc: Global, known: &Known, h: &HgDraft) -> Result<GitDraft
     ensures { IfOk result (λ d. (blocks : List Block) (v : ChangesetView) → IsChangesetOver known.now blocks h.now v → AreShortBodies v.rows
         → IsMadeCommit known.now.git d (rule.rule_commit blocks v)) }
 {
-    known.git.check();
     let old = tree_of_partner(known, &h.p1);
     let files = hand_on(alloc, &known.git, old, files_of(alloc, &h.rows)?)?;
     let trees = trees_over(alloc, &known.git, old, &files)?;

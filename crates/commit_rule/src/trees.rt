@@ -1,7 +1,8 @@
 // The trees of a commit.
-ghost use Rattle.std.specs.Prelude.{◌≡◌, ◌++◌, List, None, IfOk, MatchOption};
+ghost use Rattle.std.specs.Prelude.{◌≡◌, ◌++◌, List, None, IfOk, IfSome, MatchOption};
 ghost use Rattle.text_model.specs.Lists.{In, Each};
 ghost use Rattle.git_model.specs.Shape.{root_of, trees_of, first_clash};
+ghost use Rattle.git_store.specs.Known.{AreKnown};
 ghost use Rattle.pair_model.specs.Block.{Block, block_of_node};
 ghost use Rattle.pair_known.specs.Blocks.{AreBlocksHeld};
 ghost use Rattle.commit_rule.specs.Parts.{IsTreeOf, WalksThrough};
@@ -15,8 +16,9 @@ use tree_shape::{Files, Trees, build_apart};
 
 /// The tree of the commit that is the partner of a changeset; `None` exactly where this has no partner.
 pub fn tree_of_partner(known: &Known, node: &Id) -> Option<Id>
-    ensures { (blocks : List Block) → AreBlocksHeld known.now blocks
+    ensures tree { (blocks : List Block) → AreBlocksHeld known.now blocks
         → MatchOption result (block_of_node blocks node.now ≡ None) (IsTreeOf blocks node.now) }
+    ensures known { IfSome result (λ _. AreKnown known.now.git) }
 {
     let Some(partner) = known.partners.git_of(node) else {
         return None;

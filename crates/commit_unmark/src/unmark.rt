@@ -57,7 +57,6 @@ fn unmark_plain(
     if !is_plain_commit(alloc, known, c)? {
         return Ok(None);
     }
-    known.partners.check();
     let changeset = make_changeset(alloc, known, c, near)?;
     Ok(Some(changeset))
 }

@@ -3,6 +3,7 @@ use Rattle.std.proofs.Common.{◌≡◌, inl, inr, Bool, true, false, true≢fal
 use Rattle.std.specs.Prelude.{bytes_eq, filter}
 use Rattle.std.specs.List.{flat_map, filter_map}
 use Rattle.std.proofs.lemmas.Slice.Eq.{bytes_eq-Decides}
+use Rattle.text_model.proofs.Options.{none_some, some_is}
 use Rattle.text_model.specs.Lists.{In, first_of_each}
 use Rattle.text_model.specs.Text.{Bytes, is_below}
 use Rattle.text_model.proofs.OrderLemmas.{is_below-irreflexive}
@@ -29,12 +30,6 @@ pub in-filter_map : {X Y : Type 0} (f : X → Option Y) (x : X) (y : Y) (xs : Li
 in-filter_map f x y [] i h = absurd i
 in-filter_map {X = X} {Y = Y} f x y (z ∷ xs) i h = by (f z) refl i (λ j. in-filter_map f x y xs j h)
   where
-    some_is : {a b : Y} → Some a ≡ Some b → a ≡ b
-    some_is e = cc
-
-    none_some : {a : Y} → None ≡ Some a → ⊥
-    none_some e = cc
-
     by : (o : Option Y) → f z ≡ o → In x (z ∷ xs) → (In x xs → In y (filter_map f xs)) → In y (filter_map f (z ∷ xs))
     by None e (inl q) go = absurd (none_some (sym e ∙ ap f (sym q) ∙ h))
     by None e (inr j) go = rw e (go j)

@@ -13,7 +13,7 @@ use Rattle.text_model.proofs.LackLemmas.{Lacks-by_test}
 use Rattle.text_model.proofs.TestLemmas.{bytes_eq-self}
 use Rattle.text_model.proofs.Digests.{IsId-object_id}
 use Rattle.text_model.proofs.Elements.{each_from, in_left, in_right, in_map}
-use Rattle.text_model.proofs.Options.{some_is, none_some}
+use Rattle.text_model.proofs.Options.{none_some, some_is, some_none}
 use Rattle.git_model.specs.Tree.{Mode, File, GroupFile, Exec, Link, Directory, Gitlink, mode_text, mode_of, is_directory, is_blob_mode, TreeEntry, tree_entry_text, tree_text, is_entry_below}
 use Rattle.git_model.specs.Object.{Object, object_at, object_of}
 use Rattle.git_model.specs.Shape.{Leaf, first_name_of, first_names, cut_name, leaves_below, is_named, leaf_named, shape_entries, leaf_object, shape_objects}
@@ -93,9 +93,6 @@ absent_is : {X : Type 0} (p : X → Bool) (x : X) (xs : List X) → find p xs �
 absent_is p x [] h i t = i
 absent_is {X = X} p x (y ∷ xs) h i t = by (p y) refl i (λ n j. absent_is p x xs n j t)
   where
-    some_none : Some y ≡ None → ⊥
-    some_none e = cc
-
     by : (u : Bool) → p y ≡ u → In x (y ∷ xs) → (find p xs ≡ None → In x xs → ⊥) → ⊥
     by true e j go = some_none (rw e at h)
     by false e (inl q) go = true≢false (sym t ∙ ap p q ∙ e)

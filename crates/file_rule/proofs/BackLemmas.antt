@@ -13,7 +13,7 @@ use Rattle.hg_model.specs.FileText.{IsFileText, plain_meta}
 use Rattle.hg_model.specs.Manifest.{ManifestEntry, Flag, Regular, Executable, Symlink}
 use Rattle.hg_model.specs.Revision.{Revision, FilesAt, revision_of}
 use Rattle.hg_filelog.proofs.MarkLemmas.{one_pair}
-use Rattle.hg_store.specs.Known.{AreAdded, AreFileParents}
+use Rattle.hg_store.specs.Known.{AreFileParents}
 use Rattle.view_model.specs.View.{FileRevision, file_node, Row, TreeRow, files_among, Compared, compared_revision, SameRow, SameRows}
 use Rattle.view_model.specs.Held.{IsFileHeld}
 use Rattle.pair_model.specs.Block.{Parents}
@@ -23,7 +23,7 @@ use Rattle.pair_known.proofs.HeldViews.{one_row}
 use Rattle.file_rule.specs.Parents.{row_with, IsRevisionAt}
 use Rattle.file_rule.specs.Back.{IsHeldRow, row_again}
 use Rattle.file_rule.proofs.OrderLemmas.{plain-order}
-use Rattle.file_rule.proofs.RowLemmas.{kept-one, one_parents}
+use Rattle.file_rule.proofs.RowLemmas.{kept-row, one_parents}
 use Rattle.file_rule.proofs.RowLemmas as rows
 use Rattle.file_rule.proofs.NewRow.{entry_node, ordered}
 
@@ -36,7 +36,7 @@ flag-back Symlink = refl
 same-row : (r s : Option FileRevision) (w : Row) → ruled_revision r s (tree_row_of w) ≡ w.revision → SameRow (row_again r s w) w
 same-row r s w is = (refl, flag-back w.flag, ap compared_revision is)
 
-module _ (known : List Revision) (added : AreAdded known) (row : RowValue) (first second : Option ManifestEntry) (r s : Option FileRevision) (w : Row) (is : IsHeldRow known row first second r s w) where
+module _ (known : List Revision) (row : RowValue) (first second : Option ManifestEntry) (r s : Option FileRevision) (w : Row) (is : IsHeldRow known row first second r s w) where
   rule-kept : (o : Option FileRevision) → option_or (with_body row.blob r) (with_body row.blob s) ≡ o → ruled_revision r s (tree_row_of w) ≡ unwrap_or o (new_revision r s (w.revision).body)
   unfolding ruled_revision
   rule-kept o e =
@@ -47,8 +47,8 @@ module _ (known : List Revision) (added : AreAdded known) (row : RowValue) (firs
   held-kept rev e = by (with_body row.blob r) (with_body row.blob s) refl refl e
     where
       by : (a b : Option FileRevision) → with_body row.blob r ≡ a → with_body row.blob s ≡ b → option_or a b ≡ Some rev → IsFileHeld known (row_with w.path w.flag rev)
-      by (Some x) b ea eb at = (kept-one known added w.path w.flag row.blob first r rev is.in_first (ea ∙ at)).1
-      by None (Some x) ea eb at = (kept-one known added w.path w.flag row.blob second s rev is.in_second (eb ∙ at)).1
+      by (Some x) b ea eb at = (kept-row known w.path w.flag row.blob first r rev is.in_first (ea ∙ at)).1
+      by None (Some x) ea eb at = (kept-row known w.path w.flag row.blob second s rev is.in_second (eb ∙ at)).1
       by None None ea eb at = absurd (none-some _ at)
 
   -- a parent's revision with the body: it is the row's where it has its node

@@ -65,13 +65,13 @@ object-behind (x ∷ xs) ys id h = by (has_id id x) refl (object-behind xs ys id
 
 -- ---- a kept revision
 
-module _ (known : List Revision) (added : AreAdded known) where
-  pub kept-one : (path : Bytes) (flag : Flag) (blob : Id) (e : Option ManifestEntry) (r : Option FileRevision) (rev : FileRevision) → IsRevisionAt known path e r → with_body blob r ≡ Some rev
+module _ (known : List Revision) where
+  pub kept-row : (path : Bytes) (flag : Flag) (blob : Id) (e : Option ManifestEntry) (r : Option FileRevision) (rev : FileRevision) → IsRevisionAt known path e r → with_body blob r ≡ Some rev
       → (blob_id rev.body ≡ blob) × IsFileHeld known (row_with path flag rev)
-  kept-one path flag blob None None rev h is = absurd (none-some _ is)
-  kept-one path flag blob None (Some r) rev h is = absurd h
-  kept-one path flag blob (Some e) None rev h is = absurd h
-  kept-one path flag blob (Some e) (Some r) rev h is = by (bytes_eq (blob_id r.body) blob) refl
+  kept-row path flag blob None None rev h is = absurd (none-some _ is)
+  kept-row path flag blob None (Some r) rev h is = absurd h
+  kept-row path flag blob (Some e) None rev h is = absurd h
+  kept-row path flag blob (Some e) (Some r) rev h is = by (bytes_eq (blob_id r.body) blob) refl
     where
       by : (t : Bool) → bytes_eq (blob_id r.body) blob ≡ t → (blob_id rev.body ≡ blob) × IsFileHeld known (row_with path flag rev)
       by true t =
@@ -96,10 +96,10 @@ module _ (known : List Revision) (added : AreAdded known) where
       by : (a b : Option FileRevision) → with_body file.id r ≡ a → with_body file.id s ≡ b → Some node ≡ option_map file_node (option_or a b)
           → (rev : FileRevision) × (ruled_revision r s t ≡ rev) × (node ≡ file_node rev) × (blob_id rev.body ≡ file.id) × IsFileHeld known (row_with file.path flag rev)
       by (Some rev) b e f at =
-          let k = kept-one file.path flag file.id first r rev is.in_first e in
+          let k = kept-row file.path flag file.id first r rev is.in_first e in
           (rev, rule_is (Some rev) b e f, same_Some _ _ at, k.0, k.1)
       by None (Some rev) e f at =
-          let k = kept-one file.path flag file.id second s rev is.in_second f in
+          let k = kept-row file.path flag file.id second s rev is.in_second f in
           (rev, rule_is None (Some rev) e f, same_Some _ _ at, k.0, k.1)
       by None None e f at = absurd (none-some _ (sym at))
 
@@ -114,6 +114,10 @@ module _ (known : List Revision) (added : AreAdded known) where
         held = subst (λ (f : Option FreshFile). IsFileHeld (fresh_list f ++ known) (row_with file.path flag (ruled_revision r s t))) (sym none) held;
         of_row = subst (λ (f : Option FreshFile). Each (λ x. x ≡ file_revision null (row_with file.path flag (ruled_revision r s t))) (fresh_list f)) (sym none) tt;
       }
+
+pub kept-one : (known : List Revision) → AreAdded known → (path : Bytes) (flag : Flag) (blob : Id) (e : Option ManifestEntry) (r : Option FileRevision) (rev : FileRevision) → IsRevisionAt known path e r → with_body blob r ≡ Some rev
+    → (blob_id rev.body ≡ blob) × IsFileHeld known (row_with path flag rev)
+kept-one known added = kept-row known
 
 -- the first is kept
 pub first-kept : (a b : Option FileRevision) (node : Id) → Some node ≡ option_map file_node a → Some node ≡ option_map file_node (option_or a b)

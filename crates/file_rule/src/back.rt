@@ -19,7 +19,6 @@ pub fn is_ruled(store: &HgStore, row: &HgRow, first: Option<&Entry>, second: Opt
     ensures { (r s : Option FileRevision) (w : Row) → IsHeldRow store.now row.now (option_map manifest_entry (option_copied first.entry)) (option_map manifest_entry (option_copied second.entry)) r s w
         → (IsTrue result ↔ SameRow (row_again r s w) w) }
 {
-    store.check();
     if has_node(first, &row.node) {
         return true;
     }

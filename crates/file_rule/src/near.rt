@@ -37,7 +37,6 @@ pub(crate) fn make_near_row(
     ensures fresh { IfOk result (λ made. IsFresh known.now.hg file.now.path made.fresh) }
     ensures same { near.new ≡ near.old }
 {
-    known.hg.check();
     let Some(node) = near_node(first, near, file.blob()) else {
         return make_row(alloc, known, c, file, first, second);
     };

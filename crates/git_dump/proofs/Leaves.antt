@@ -9,7 +9,7 @@ use Rattle.text_model.specs.Lists.{In, Each}
 use Rattle.text_model.specs.Text.{Bytes}
 use Rattle.text_model.specs.Id.{Id}
 use Rattle.text_model.proofs.TestLemmas.{both, or_true}
-use Rattle.text_model.proofs.Options.{not_true}
+use Rattle.text_model.proofs.Options.{not_true, some_none}
 use Rattle.git_model.specs.Tree.{is_directory, TreeEntry, has_distinct}
 use Rattle.git_model.specs.Object.{Object, tree_at}
 use Rattle.git_model.specs.Shape.{Leaf, cut_name, leaves_below, is_named, leaf_named}
@@ -55,12 +55,9 @@ module _ (known : List Object) (below : Id → List Leaf) (named : (id : Id) →
   named-append name [] ys h = refl
   named-append name (x ∷ xs) ys h = by (is_named name x.names) h (named-append name xs ys)
     where
-      some_none : {X : Type 0} (x : X) → Some x ≡ None → ⊥
-      some_none x q = cc
-
       by : (t : Bool) → (if t then Some x else leaf_named name xs) ≡ None → (leaf_named name xs ≡ None → leaf_named name (xs ++ ys) ≡ leaf_named name ys)
           → (if t then Some x else leaf_named name (xs ++ ys)) ≡ leaf_named name ys
-      by true i rest = absurd (some_none x i)
+      by true i rest = absurd (some_none {x = x} i)
       by false i rest = rest i
 
   below-append : (name : Bytes) (xs ys : List Leaf) → leaves_below name (xs ++ ys) ≡ leaves_below name xs ++ leaves_below name ys

@@ -158,12 +158,9 @@ body_takes : (at size : ℕ) (rest : Bytes) → body_fault at size rest ≡ None
 unfolding body_fault
 body_takes at size rest none = by (reach (at + length rest) (at + size + 1)) (slice_index rest size == lf) refl refl none
   where
-    some_none : (why : Refusal) → Some why ≡ None → ⊥
-    some_none why e = cc
-
     by : (why : Option Refusal) (is_lf : Bool) → reach (at + length rest) (at + size + 1) ≡ why → (slice_index rest size == lf) ≡ is_lf → or_line (at + size) is_lf why ≡ None → Body at size rest
-    by (Some why) is_lf r i e = absurd (some_none why e)
-    by None false r i e = absurd (some_none (refusal_at fault.Line (at + size)) e)
+    by (Some why) is_lf r i e = absurd (some_none {x = why} e)
+    by None false r i e = absurd (some_none {x = refusal_at fault.Line (at + size)} e)
     by None true r i e =
         let w = within-reach (at + length rest) (at + size + 1) r in
         record { there = omega (arith, w.0); fits = w.1; ends = eqb-true (slice_index rest size) lf i }

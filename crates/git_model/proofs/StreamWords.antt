@@ -9,7 +9,7 @@ use Rattle.text_model.specs.Fault.{Refusal, refusal, refusal_at}
 use Rattle.text_model.specs.Fault as fault
 use Rattle.text_model.proofs.TestLemmas.{both, differs, bytes_eq-is}
 use Rattle.text_model.proofs.CutLemmas.{cut_of-takes, cut_of-none}
-use Rattle.text_model.proofs.Options.{some_is, none_some}
+use Rattle.text_model.proofs.Options.{none_some, some_is, some_none}
 use Rattle.git_model.specs.Stream.{BadLine, header_of, header_by, is_kind_word, find_kind, kind_of, size_limit}
 
 -- the words between the spaces
@@ -61,11 +61,8 @@ header_said at digits word size id named form = by (is_hex_id digits) refl
 pub header_no_id : (at : ℕ) (digits word size : Bytes) → id_of_hex digits ≡ None → header_of at (digits ∷ word ∷ size ∷ []) ≡ BadLine (refusal_at fault.Line at)
 header_no_id at digits word size named = by (is_hex_id digits) refl
   where
-    some_none : (y : Id) → Some y ≡ None → ⊥
-    some_none y h = cc
-
     by : (t : Bool) → is_hex_id digits ≡ t → header_of at (digits ∷ word ∷ size ∷ []) ≡ BadLine (refusal_at fault.Line at)
-    by true t = absurd (some_none (bytes_of_digits digits) (sym (rw t refl) ∙ named))
+    by true t = absurd (some_none {x = bytes_of_digits digits} (sym (rw t refl) ∙ named))
     by false t = rw t refl
 
 -- a kind's word, or a size, of another form
@@ -83,9 +80,6 @@ pub header_over : (at : ℕ) (id : Id) (size : Bytes) (kind : ObjectKind) → is
     → header_by at id (number_of size) (Some kind) ≡ BadLine (refusal_at fault.Limit at)
 header_over at id size kind is none = by (nat_lt (number_of size) (2 ^ 64)) refl
   where
-    some_none : (y : ℕ) → Some y ≡ None → ⊥
-    some_none y h = cc
-
     small : (k : ObjectKind) → size_limit k < 2 ^ 64
     small blob = omega arith
     small tree = omega arith
@@ -93,7 +87,7 @@ header_over at id size kind is none = by (nat_lt (number_of size) (2 ^ 64)) refl
     small tag = omega arith
 
     by : (t : Bool) → nat_lt (number_of size) (2 ^ 64) ≡ t → header_by at id (number_of size) (Some kind) ≡ BadLine (refusal_at fault.Limit at)
-    by true t = absurd (some_none (number_of size) (sym (rw (is, t) refl) ∙ none))
+    by true t = absurd (some_none {x = number_of size} (sym (rw (is, t) refl) ∙ none))
     by false t = rw (lt-ltb (size_limit kind) (number_of size) (omega (arith, ltb-false _ _ t, small kind))) refl
 
 found_kind : (word : Bytes) (kinds : List ObjectKind) (kind : ObjectKind) → find_kind word kinds ≡ Some kind → word ≡ kind_word kind

@@ -3,6 +3,7 @@ use Rattle.std.proofs.Common.{◌≡◌, ℕ, suc, ◌+◌, ◌<◌, Bool, true,
 use Rattle.std.specs.List.{starts_with}
 use Rattle.std.specs.Cmp.Lexicographic.{pointwise}
 use Rattle.std.proofs.lemmas.Bool.{cases_Bool, and_parts, or_parts, or_from, or_right, eqb-true, false≢true}
+use Rattle.text_model.proofs.Options.{none_some}
 use Rattle.memchr.specs.Find.{OccursAt}
 use Rattle.text_model.specs.Text.{IsBytes, has_piece}
 use Rattle.text_model.proofs.ByteLemmas.{IsBytes-drop, IsBytes-take}
@@ -104,9 +105,6 @@ lacks-after bytes rest found e f = ap lacks_second_mark e ∙ ap not f
 pub lacks-never : (meta : Option (List ℕ)) (body : List ℕ) → IsFile meta body → lacks_second_mark (file_text meta body) ≡ false
 lacks-never None body is = ap (λ (b : Bool). b && not (has_piece mark (drop 2 body))) is.1
 lacks-never (Some meta) body is = ap not (has_piece-at meta body)
-
-none_some : (x : List ℕ) → None ≡ Some x → ⊥
-none_some x e = cc
 
 -- a text that begins with a mark is that of no body alone
 wrapped : (meta body rest : List ℕ) → begins_with_mark body ≡ false → body ≡ file_text (Some meta) rest → ⊥

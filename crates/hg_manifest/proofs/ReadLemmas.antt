@@ -8,7 +8,9 @@ use Rattle.hg_model.specs.Manifest.{ManifestEntry, flag_text, entry_text, manife
 use Rattle.text_model.specs.Id.{IsId, hex}
 use Rattle.text_model.specs.Path.{is_fit_path}
 use Rattle.hg_manifest.specs.declared.entry.Entry.{Entry}
-use Rattle.hg_manifest.specs.Values.{manifest_entry}
+use Rattle.hg_manifest.specs.declared.fault.ManifestFault.{ManifestFault as Fault}
+use Rattle.hg_manifest.specs.declared.fault.ManifestFault.TheVariants.{Shape, PathUnfit, Memory}
+use Rattle.hg_manifest.specs.Values.{manifest_entry, IsNamed, IsFault}
 use Rattle.text_model.specs.Lists.{Each}
 use Rattle.text_model.proofs.EachLemmas.{Each-rest}
 use Rattle.text_model.proofs.Elements.{drop_next, map_take_push}
@@ -55,14 +57,11 @@ module _ (text : Bytes) (last : Option Bytes) (entries : List ManifestEntry) (re
       let at : ℕ = length text - length rest in
       r.fault ∙ ap (lines_fault last (length text - length rest)) l.lines ∙ lines_fault-bad last (length text - length rest) line (whole_lines after) why h
 
-  pub no_entry : None ≡ entry_of_line line → manifest_fault text ≡ Some (BadLine (length text - length rest))
-  no_entry none = fault_at (BadLine (length text - length rest)) (ap (entry_fault last (length text - length rest)) (sym none))
-
-  pub falls : (e : ManifestEntry) → Some e ≡ entry_of_line line → rises_above last e.path ≡ false → manifest_fault text ≡ Some (BadLine (length text - length rest))
-  falls e reads below = fault_at (BadLine (length text - length rest)) (ap (entry_fault last (length text - length rest)) (sym reads) ∙ entry_fault-falls last (length text - length rest) e below)
-
-  pub unfit : (e : ManifestEntry) → Some e ≡ entry_of_line line → rises_above last e.path ≡ true → is_fit_path e.path ≡ false → manifest_fault text ≡ Some (UnfitPath (length text - length rest))
-  unfit e reads above bad = fault_at (UnfitPath (length text - length rest)) (ap (entry_fault last (length text - length rest)) (sym reads) ∙ entry_fault-unfit last (length text - length rest) e above bad)
+  -- a fault of the line is the text's
+  pub line_fault : (f : Fault) → IsNamed (entry_fault last (length text - length rest) (entry_of_line line)) f → IsFault text f
+  line_fault (Shape place) h = fault_at (BadLine place) h
+  line_fault (PathUnfit place) h = fault_at (UnfitPath place) h
+  line_fault Memory h = tt
 
   -- one entry more
   pub goes_on : (e : ManifestEntry) → Some e ≡ entry_of_line line → rises_above last e.path ≡ true → is_fit_path e.path ≡ true → IsReadTo text (Some e.path) (entries ++ e ∷ []) after

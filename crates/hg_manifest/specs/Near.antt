@@ -1,10 +1,10 @@
 -- The first lines of a manifest or of a text.
-use Rattle.std.specs.Prelude.{◌≡◌, ◌<◌, [], ◌∷◌, ◌++◌, ℕ, Bool, true, List, length, Option, IsTrue}
+use Rattle.std.specs.Prelude.{◌≡◌, ◌<◌, [], ◌∷◌, ◌++◌, ℕ, Bool, true, List, length, Option, Some, IsTrue}
 use Rattle.text_model.specs.Text.{Bytes, IsBytes}
 use Rattle.text_model.specs.Id.{IsId}
 use Rattle.text_model.specs.Path.{is_fit_path}
 use Rattle.text_model.specs.Lists.{Each}
-use Rattle.hg_model.specs.Manifest.{ManifestEntry, entry_text, manifest_text, IsManifest, IsManifestText, rises_above}
+use Rattle.hg_model.specs.Manifest.{ManifestEntry, entry_text, manifest_text, IsManifest, IsManifestText, rises_above, entry_of_line}
 use Rattle.hg_manifest.specs.declared.entry.Entry.{Entry}
 use Rattle.hg_manifest.specs.Values.{manifest_entry}
 
@@ -36,6 +36,12 @@ pub record AreFirstLines (text : Bytes) (entries : List ManifestEntry) (after : 
   pub some : 0 < length entries
   pub are : IsManifest entries
   pub whole : text ≡ manifest_text entries ++ after
+
+-- the line says this, which may follow a line with this path, if there is one
+pub record IsEntryOf (line : Bytes) (last : Option Bytes) (e : ManifestEntry) : Type 0 where
+  pub reads : Some e ≡ entry_of_line line
+  pub above : rises_above last e.path ≡ true
+  pub fit : is_fit_path e.path ≡ true
 
 -- the path of the first of the entries is above that of the line before, if there is one
 abbrev pub first_rises : Option Bytes → List ManifestEntry → Bool

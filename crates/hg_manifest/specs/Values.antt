@@ -1,5 +1,5 @@
 -- What this crate's entries, flags and faults are in the words of the format.
-use Rattle.std.specs.Prelude.{◌≡◌, Some, ⊤}
+use Rattle.std.specs.Prelude.{◌≡◌, Option, Some, ⊤}
 use Rattle.text_model.specs.Text.{Bytes}
 use Rattle.hg_model.specs.Manifest.{Regular, Executable, Symlink, ManifestEntry, BadLine, UnfitPath, manifest_fault}
 use Rattle.hg_model.specs.Manifest as manifest
@@ -27,8 +27,12 @@ abbrev pub manifest_value : ManifestRev → view.ManifestParents
 manifest_value Null = view.NoManifest
 manifest_value (Over p q) = view.Over p q
 
+-- a fault other than want of memory is this one
+abbrev pub IsNamed : Option manifest.ManifestFault → ManifestFault → Type 0
+IsNamed fault (Shape place) = fault ≡ Some (BadLine place)
+IsNamed fault (PathUnfit place) = fault ≡ Some (UnfitPath place)
+IsNamed fault Memory = ⊤
+
 -- why the text is no manifest's: a fault other than want of memory is exactly the first of the text
 abbrev pub IsFault : Bytes → ManifestFault → Type 0
-IsFault text (Shape place) = manifest_fault text ≡ Some (BadLine place)
-IsFault text (PathUnfit place) = manifest_fault text ≡ Some (UnfitPath place)
-IsFault text Memory = ⊤
+IsFault text fault = IsNamed (manifest_fault text) fault

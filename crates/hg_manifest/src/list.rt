@@ -1,16 +1,16 @@
-ghost use Rattle.std.specs.Prelude.{◌≡◌, ◌==◌, ◌<◌, ◌++◌, [], ◌∷◌, length, slice_get, Some, MatchResult, OnOk, OnErr, IfOk, IsTrue, map, option_map, find, bytes_eq};
+ghost use Rattle.std.specs.Prelude.{◌≡◌, ◌==◌, ◌<◌, ◌++◌, [], ◌∷◌, length, slice_get, Some, MatchResult, OnOk, OnErr, IfOk, IfErr, IsTrue, map, option_map, find, bytes_eq};
 ghost use Rattle.std.specs.Option.{option_copied};
 ghost use Rattle.std.specs.Ordering.{nat_cmp};
 ghost use Rattle.std.specs.Cmp.Lexicographic.{slice_cmp};
 ghost use Rattle.text_model.specs.Path.{is_fit_path};
-ghost use Rattle.hg_model.specs.Manifest.{IsManifest, IsManifestText, manifest_text, rises_above, last_path};
-ghost use Rattle.hg_manifest.specs.Values.{manifest_entry, IsFault};
+ghost use Rattle.hg_model.specs.Manifest.{IsManifest, IsManifestText, manifest_text, rises_above, last_path, entry_of_line, entry_fault};
+ghost use Rattle.hg_manifest.specs.Values.{file_flag, manifest_entry, IsFault, IsNamed};
 ghost use Rattle.hg_manifest.specs.Beside.{IsNewer};
-ghost use Rattle.hg_manifest.specs.Near.{first_rises};
+ghost use Rattle.hg_manifest.specs.Near.{first_rises, IsEntryOf};
 
 use crate::entry::{Entry, SharedEntry};
 use crate::fault::ManifestFault;
-use crate::line::read_line;
+use crate::line::{Line, read_line};
 use crate::lines::put_lines;
 use crate::near::Near;
 use crate::newer::Newer;
@@ -59,7 +59,8 @@ impl Manifest {
         Ok(manifest)
     }
 
-    /// The manifest whose text this is, and which of its lines another one may lack, near which it is read. The lines are a path, NUL, the 40 lower case hex digits of a node, nothing or `x` or `l`, and LF;
+    /// The manifest whose text this is, and which of its lines another one may lack, near which it is read. The lines are a path, NUL, the 40
+    /// lower case hex digits of a node, nothing or `x` or `l`, and LF;
     /// their paths rise strictly as bytes and are fit. The first line that doesn't fit decides the fault, and on one line Shape comes before PathUnfit.
     /// Memory comes where memory runs out. Where most lines are those of another manifest, as of a parent's, they are read the faster near that one.
     pub fn read_near(
@@ -86,15 +87,10 @@ impl Manifest {
                 rest = after;
             } else {
                 let (line, after) = first_line(rest);
-                let Some(line) = read_line(line) else {
-                    return Err(ManifestFault::Shape(place));
+                let line = match judged_line(line, last, place) {
+                    Ok(line) => line,
+                    Err(fault) => return Err(fault),
                 };
-                if !rises_above(last, line.path) {
-                    return Err(ManifestFault::Shape(place));
-                }
-                if !fit_path(line.path) {
-                    return Err(ManifestFault::PathUnfit(place));
-                }
                 near.pass(line.path);
                 newer.push(manifest.len() - told)?;
                 manifest.push(Entry {
@@ -220,6 +216,27 @@ fn room_for(alloc: Global, text: &[u8]) -> Result<Manifest, NoMemory>
     Ok(Manifest {
         entries: Vec::with_capacity(alloc, text.len() / SHORTEST_LINE)?,
     })
+}
+
+// What the line at this place says, which follows one with this path, if there is one.
+fn judged_line<'a>(
+    line: &'a [u8],
+    last: Option<&[u8]>,
+    place: usize,
+) -> Result<Line<'a>, ManifestFault>
+    ensures line { IfOk result (λ x. IsEntryOf line.entry.now (option_copied last.entry) (record { path = x.path.now; node = x.node; flag = file_flag x.flag })) }
+    ensures fault { IfErr result (IsNamed (entry_fault (option_copied last.entry) place (entry_of_line line.entry.now))) }
+{
+    let Some(line) = read_line(line) else {
+        return Err(ManifestFault::Shape(place));
+    };
+    if !rises_above(last, line.path) {
+        return Err(ManifestFault::Shape(place));
+    }
+    if !fit_path(line.path) {
+        return Err(ManifestFault::PathUnfit(place));
+    }
+    Ok(line)
 }
 
 // Whether a path stands after that of the line before, if there is one.

@@ -16,7 +16,7 @@ use Rattle.text_model.specs.Lists.{Each}
 use Rattle.text_model.specs.Text.{Bytes}
 use Rattle.text_model.specs.Id.{Id}
 use Rattle.text_model.proofs.TestLemmas.{both}
-use Rattle.text_model.proofs.Options.{not_true}
+use Rattle.text_model.proofs.Options.{not_true, some_is, some_none}
 use Rattle.hg_model.proofs.RevisionLemmas.{same_group-is}
 use Rattle.hg_model.specs.Revision as model
 use Rattle.hg_model.specs.Revision.{Revision, same_group, is_of, revision_of}
@@ -59,11 +59,8 @@ its_own paths apart i j within within' =
 no_path : (paths : List Bytes) (path : Bytes) → position (bytes_eq path) paths ≡ None → (j : ℕ) → j < length paths → bytes_eq path (get_or paths j []) ≡ false
 no_path paths path none j within = by (ltb (position_or_len (bytes_eq path) paths) (length paths)) refl
   where
-    some_none : (i : ℕ) → Some i ≡ None → ⊥
-    some_none i e = cc
-
     by : (t : Bool) → ltb (position_or_len (bytes_eq path) paths) (length paths) ≡ t → bytes_eq path (get_or paths j []) ≡ false
-    by true t = absurd (some_none (position_or_len (bytes_eq path) paths) (sym (rw t refl) ∙ none))
+    by true t = absurd (some_none {x = position_or_len (bytes_eq path) paths} (sym (rw t refl) ∙ none))
     by false t = not_true (bytes_eq path (get_or paths j [])) (prefix_len_passes (λ x. not (bytes_eq path x)) paths j [] (omega (arith, ltb-false _ _ t)))
 
 -- ---- groups
@@ -90,9 +87,6 @@ number_found keys path a (Some i) at h =
       is = ap model.FilesAt (sym ((bytes_eq-Decides path (get_or (paths_in keys) i [])).0 found.1));
     } in
     subst (IsNumberOf (paths_in keys) (model.FilesAt path)) (some_is h) is
-  where
-    some_is : {x y : KeyGroup} → Some x ≡ Some y → x ≡ y
-    some_is e = cc
 
 -- what the set gives is the number of the path
 pub key_group-Some : (keys : List (Vec ℕ)) (group : model.Group) (a : KeyGroup) → key_group keys group ≡ Some a → IsNumberOf (paths_in keys) group a
@@ -139,9 +133,6 @@ module _ (paths : List Bytes) (apart : AllPairs (λ x y. x ≢ y) paths) (a : Ke
   value-by_key [] h k held at = absurd cc
   value-by_key (e ∷ es) h k held at = by (test e.0) refl (value-by_key es h.1 k.1 held)
     where
-      some_is : {x y : Held} → Some x ≡ Some y → x ≡ y
-      some_is e = cc
-
       by : (t : Bool) → test e.0 ≡ t → (lookup test es ≡ Some held → HasValue (group_in paths a) held.text held.parsed) → HasValue (group_in paths a) held.text held.parsed
       by true t later =
           subst (λ (x : Held). HasValue (group_in paths a) x.text x.parsed) {x = e.1} {y = held} (some_is (sym (rw t refl) ∙ at))

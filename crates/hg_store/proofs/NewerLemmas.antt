@@ -9,7 +9,7 @@ use Rattle.text_model.specs.Text.{Bytes}
 use Rattle.text_model.specs.Id.{Id, is_null}
 use Rattle.text_model.specs.Fault.{FaultName}
 use Rattle.text_model.specs.Fault as fault
-use Rattle.text_model.proofs.Options.{none_some, some_none}
+use Rattle.text_model.proofs.Options.{none_some, some_is, some_none}
 use Rattle.hg_model.specs.Manifest.{ManifestEntry}
 use Rattle.hg_model.specs.Revision as model
 use Rattle.hg_model.specs.Revision.{Revision, revision_of, is_of, is_known_parent, is_bad_link, order_fault, first_name, named_if, ancestry_fault}
@@ -55,9 +55,6 @@ newer-more known y p (parsed.Manifest entries newer) (others, is, n) = (others, 
 newer-more known y p (parsed.File blob) n = n
 
 -- ---- what is held
-
-some_is : {x y : Held} → Some x ≡ Some y → x ≡ y
-some_is e = cc
 
 newer-by_key : (known : List Revision) (test : Key → Bool) (es : List (Key × Held)) → Each (λ e. IsNewerIn known e.1.p e.1.parsed) es → (held : Held) → lookup test es ≡ Some held → IsNewerIn known held.p held.parsed
 newer-by_key known test [] k held at = absurd (none_some at)
@@ -113,10 +110,6 @@ newer-of known node other held entries gaps added at value (base, of, newer) fir
     subst (λ (es : List ManifestEntry). IsNewer others gaps es) same (subst (λ (es : List ManifestEntry). IsNewer es gaps entries) base-is newer)
 
 -- ---- the first parent
-
-pub not-false : (b : Bool) → not b ≡ false → b ≡ true
-not-false true h = refl
-not-false false h = sym h
 
 named : (o : Option FaultName) (b : Bool) (name : FaultName) (names : List (Option FaultName)) → first_name (o ∷ named_if b name ∷ names) ≡ None → b ≡ false
 named None true name names none = absurd (some_none none)

@@ -7,7 +7,7 @@ use Rattle.std.proofs.lemmas.Slice.Eq.{bytes_eq-Decides}
 use Rattle.text_model.specs.Lists.{Each}
 use Rattle.text_model.specs.Text.{Bytes}
 use Rattle.text_model.specs.Id.{Id, null, is_null, node_id}
-use Rattle.text_model.proofs.Options.{none_some, not_false}
+use Rattle.text_model.proofs.Options.{none_some, not_false, some_is, some_none}
 use Rattle.hg_model.proofs.ParentOrder.{file_order-node}
 use Rattle.hg_model.specs.Changeset.{Changeset}
 use Rattle.hg_model.specs.Manifest.{ManifestEntry, IsManifestText}
@@ -44,13 +44,10 @@ none_first test x xs h = by (test x) refl
     before : ℕ
     before = prefix_len (λ y. not (test y)) xs
 
-    some_none : {n : ℕ} → Some n ≡ None → ⊥
-    some_none e = cc
-
     by : (t : Bool) → test x ≡ t → (test x ≡ false) × (position test xs ≡ None)
     by true t =
         let g : (if ltb 0 (suc (length xs)) then Some 0 else None) ≡ None = sym (rw t refl) ∙ h in
-        absurd (some_none {n = 0} (ap (λ (c : Bool). if c then Some 0 else None) (sym (above (length xs))) ∙ g))
+        absurd (some_none {x = 0} (ap (λ (c : Bool). if c then Some 0 else None) (sym (above (length xs))) ∙ g))
     by false t =
         let g : (if ltb (1 + before) (suc (length xs)) then Some (1 + before) else None) ≡ None = sym (rw t refl) ∙ h in
         (t, if_none (ltb before (length xs)) (1 + before) before (ap (λ (c : Bool). if c then Some (1 + before) else None) (sym (one_less before (length xs))) ∙ g))
@@ -132,17 +129,11 @@ module _ (known : List Revision) (added : AreAdded known) where
               text = subst (λ (es : List ManifestEntry). IsManifestText r.text es) (sym are) (subst (λ (t : Bytes). IsManifestText t entries) (sym text) of.spells);
             };
           }
-        where
-          some_is : {X : Type 0} {x y : X} → Some x ≡ Some y → x ≡ y
-          some_is e = cc
 
       by : (t : Bool) → is_null node ≡ t → HasManifest node rows
       by true n =
           let text : of.text ≡ [] = some_is (sym of.is_held ∙ rw n refl) in
           record { parents = NoManifest; held = ((bytes_eq-Decides node null).0 n, no_rows rows (are ∙ empty text)) }
-        where
-          some_is : {X : Type 0} {x y : X} → Some x ≡ Some y → x ≡ y
-          some_is e = cc
       by false n = some (revision_of known Manifests node) refl n
 
   -- ---- the whole

@@ -26,7 +26,6 @@ pub fn links_of(alloc: Global, known: &Known, c: &GitDraft) -> Result<HgDrafts, 
     ensures { IfOk result (λ links. (blocks : List Block) (v : CommitView) → IsCommitOver known.now blocks c.now v
         → AreLinksMade known.now.hg links (octopus.links_of blocks v)) }
 {
-    known.hg.check();
     let links = chain_of(alloc, known, c)?;
     let Some(first) = links.first() else {
         return Ok(HgDrafts::new(alloc));

@@ -5,6 +5,7 @@ use Rattle.std.proofs.lemmas.Bool.{not-true, not-false}
 use Rattle.std.specs.Option.{option_and_then}
 use Rattle.std.proofs.lemmas.Slice.Eq.{bytes_eq-Decides}
 use Rattle.std.proofs.lemmas.Bool.Decides.{nat_tests}
+use Rattle.text_model.proofs.Options.{none_some, some_is}
 use Rattle.text_model.specs.Text.{Bytes, is_below, decimal_below}
 use Rattle.text_model.proofs.DecimalLemmas.{decimal_below-decimal, decimal_below-takes}
 use Rattle.text_model.proofs.TestLemmas.{both}
@@ -20,12 +21,6 @@ use Rattle.mark_code.specs.declared.changeset_marks.ChangesetMarks as declared
 use Rattle.mark_code.proofs.RawLemmas.{raw_of-escape, raw_of-takes}
 use Rattle.mark_code.proofs.ResidueLemmas.{residue-again, residue-takes}
 
-none_some : {X : Type 0} (x : X) → None ≡ Some x → ⊥
-none_some x h = cc
-
-some_is : {X : Type 0} (x y : X) → Some x ≡ Some y → x ≡ y
-some_is x y h = cc
-
 same_key : (key : Bytes) → bytes_eq key key ≡ true
 same_key key = (bytes_eq-Decides key key).1 refl
 
@@ -37,7 +32,7 @@ part_at-none key [] h = refl
 part_at-none key (e ∷ es) h = by (bytes_eq e.key key) refl
   where
     by : (t : Bool) → bytes_eq e.key key ≡ t → part_at key (e ∷ es) ≡ Some (None, e ∷ es)
-    by true t = absurd (none_some e.value (sym h ∙ rw t refl))
+    by true t = absurd (none_some {x = e.value} (sym h ∙ rw t refl))
     by false t = rw t refl
 
 part_at-again : (key : Bytes) (part : Option Bytes) (es : List Extra) → IsPart part → extra_at key es ≡ None → part_at key (extra_of key part ++ es) ≡ Some (part, es)
@@ -46,7 +41,7 @@ part_at-again key (Some part) es is h = rw (same_key key, raw_of-escape part is)
 
 part_at-takes : (key : Bytes) (es : List Extra) (part : Option Bytes) (rest : List Extra) → part_at key es ≡ Some (part, rest) → IsPart part × (es ≡ extra_of key part ++ rest)
 part_at-takes key [] part rest h =
-    let same : (None, []) ≡ (part, rest) = some_is {X = Option Bytes × List Extra} (None, []) (part, rest) h in
+    let same : (None, []) ≡ (part, rest) = some_is {X = Option Bytes × List Extra} {x = (None, [])} {y = (part, rest)} h in
     subst (λ (p : Option Bytes × List Extra). IsPart p.0 × ([] ≡ extra_of key p.0 ++ p.1)) same (tt, refl)
 part_at-takes key (e ∷ es) part rest h = by (bytes_eq e.key key) refl (raw_of e.value) refl
   where
@@ -55,11 +50,11 @@ part_at-takes key (e ∷ es) part rest h = by (bytes_eq e.key key) refl (raw_of 
 
     by : (t : Bool) → bytes_eq e.key key ≡ t → (r : Option Bytes) → raw_of e.value ≡ r → IsPart part × (e ∷ es ≡ extra_of key part ++ rest)
     by false t r q =
-        let same : (None, e ∷ es) ≡ (part, rest) = some_is {X = Option Bytes × List Extra} (None, e ∷ es) (part, rest) (sym (rw t refl) ∙ h) in
+        let same : (None, e ∷ es) ≡ (part, rest) = some_is {X = Option Bytes × List Extra} {x = (None, e ∷ es)} {y = (part, rest)} (sym (rw t refl) ∙ h) in
         subst (λ (p : Option Bytes × List Extra). IsPart p.0 × (e ∷ es ≡ extra_of key p.0 ++ p.1)) same (tt, refl)
-    by true t None q = absurd (none_some {X = Option Bytes × List Extra} (part, rest) (sym (rw (t, q) refl) ∙ h))
+    by true t None q = absurd (none_some {X = Option Bytes × List Extra} {x = (part, rest)} (sym (rw (t, q) refl) ∙ h))
     by true t (Some raw) q =
-        let same : (Some raw, es) ≡ (part, rest) = some_is {X = Option Bytes × List Extra} (Some raw, es) (part, rest) (sym (rw (t, q) refl) ∙ h) in
+        let same : (Some raw, es) ≡ (part, rest) = some_is {X = Option Bytes × List Extra} {x = (Some raw, es)} {y = (part, rest)} (sym (rw (t, q) refl) ∙ h) in
         let read = raw_of-takes e.value raw q in
         let key_is : e.key ≡ key = (bytes_eq-Decides e.key key).0 t in
         subst (λ (p : Option Bytes × List Extra). IsPart p.0 × (e ∷ es ≡ extra_of key p.0 ++ p.1)) same (read.0, (λ i. record { key = key_is i; value = read.1 i } ∷ es))
@@ -76,16 +71,16 @@ count_of-takes : (text : Bytes) (n : ℕ) → count_of text ≡ Some n → (text
 count_of-takes text n h = by (decimal_below (2 ^ 64) text) refl
   where
     by : (r : Option ℕ) → decimal_below (2 ^ 64) text ≡ r → (text ≡ decimal n) × (3 ≤ n) × (n ≤ 64)
-    by None r = absurd (none_some n (sym (ap (option_and_then (λ n. if nat_le 3 n && nat_le n 64 then Some n else None)) r) ∙ h))
+    by None r = absurd (none_some {x = n} (sym (ap (option_and_then (λ n. if nat_le 3 n && nat_le n 64 then Some n else None)) r) ∙ h))
     by (Some m) r = within (nat_le 3 m && nat_le m 64) refl
       where
         whole : (if nat_le 3 m && nat_le m 64 then Some m else None) ≡ Some n
         whole = sym (ap (option_and_then (λ n. if nat_le 3 n && nat_le n 64 then Some n else None)) r) ∙ h
 
         within : (t : Bool) → (nat_le 3 m && nat_le m 64) ≡ t → (text ≡ decimal n) × (3 ≤ n) × (n ≤ 64)
-        within false t = absurd (none_some n (sym (rw t refl) ∙ whole))
+        within false t = absurd (none_some {x = n} (sym (rw t refl) ∙ whole))
         within true t =
-            let same : m ≡ n = some_is m n (sym (rw t refl) ∙ whole) in
+            let same : m ≡ n = some_is {x = m} {y = n} (sym (rw t refl) ∙ whole) in
             let p = both (nat_le 3 m) (nat_le m 64) t in
             let d = decimal_below-takes (2 ^ 64) text m (omega arith) r in
             subst (λ (k : ℕ). (text ≡ decimal k) × (3 ≤ k) × (k ≤ 64)) same (d.0, leb-true 3 m p.0, leb-true m 64 p.1)
@@ -96,7 +91,7 @@ count_at-none [] h = refl
 count_at-none (e ∷ es) h = by (bytes_eq e.key (codes "hg-git-parents")) refl
   where
     by : (t : Bool) → bytes_eq e.key (codes "hg-git-parents") ≡ t → count_at (e ∷ es) ≡ Some (None, e ∷ es)
-    by true t = absurd (none_some e.value (sym h ∙ rw t refl))
+    by true t = absurd (none_some {x = e.value} (sym h ∙ rw t refl))
     by false t = rw t refl
 
 count_at-again : (parents : Option ℕ) (es : List Extra) → IsParentCount parents → extra_at (codes "hg-git-parents") es ≡ None → count_at (parents_extra parents ++ es) ≡ Some (parents, es)
@@ -105,17 +100,17 @@ count_at-again (Some n) es is h = ap (option_map (λ (m : ℕ). (Some m, es))) (
 
 count_at-takes : (es : List Extra) (parents : Option ℕ) (rest : List Extra) → count_at es ≡ Some (parents, rest) → IsParentCount parents × (es ≡ parents_extra parents ++ rest)
 count_at-takes [] parents rest h =
-    let same : (None, []) ≡ (parents, rest) = some_is {X = Option ℕ × List Extra} (None, []) (parents, rest) h in
+    let same : (None, []) ≡ (parents, rest) = some_is {X = Option ℕ × List Extra} {x = (None, [])} {y = (parents, rest)} h in
     subst (λ (p : Option ℕ × List Extra). IsParentCount p.0 × ([] ≡ parents_extra p.0 ++ p.1)) same (tt, refl)
 count_at-takes (e ∷ es) parents rest h = by (bytes_eq e.key (codes "hg-git-parents")) refl (count_of e.value) refl
   where
     by : (t : Bool) → bytes_eq e.key (codes "hg-git-parents") ≡ t → (r : Option ℕ) → count_of e.value ≡ r → IsParentCount parents × (e ∷ es ≡ parents_extra parents ++ rest)
     by false t r q =
-        let same : (None, e ∷ es) ≡ (parents, rest) = some_is {X = Option ℕ × List Extra} (None, e ∷ es) (parents, rest) (sym (rw t refl) ∙ h) in
+        let same : (None, e ∷ es) ≡ (parents, rest) = some_is {X = Option ℕ × List Extra} {x = (None, e ∷ es)} {y = (parents, rest)} (sym (rw t refl) ∙ h) in
         subst (λ (p : Option ℕ × List Extra). IsParentCount p.0 × (e ∷ es ≡ parents_extra p.0 ++ p.1)) same (tt, refl)
-    by true t None q = absurd (none_some {X = Option ℕ × List Extra} (parents, rest) (sym (rw (t, q) refl) ∙ h))
+    by true t None q = absurd (none_some {X = Option ℕ × List Extra} {x = (parents, rest)} (sym (rw (t, q) refl) ∙ h))
     by true t (Some n) q =
-        let same : (Some n, es) ≡ (parents, rest) = some_is {X = Option ℕ × List Extra} (Some n, es) (parents, rest) (sym (rw (t, q) refl) ∙ h) in
+        let same : (Some n, es) ≡ (parents, rest) = some_is {X = Option ℕ × List Extra} {x = (Some n, es)} {y = (parents, rest)} (sym (rw (t, q) refl) ∙ h) in
         let read = count_of-takes e.value n q in
         let key_is : e.key ≡ codes "hg-git-parents" = (bytes_eq-Decides e.key (codes "hg-git-parents")).0 t in
         subst (λ (p : Option ℕ × List Extra). IsParentCount p.0 × (e ∷ es ≡ parents_extra p.0 ++ p.1)) same ((read.1, read.2), (λ i. record { key = key_is i; value = read.0 i } ∷ es))
@@ -127,15 +122,15 @@ tree_at-again None h = refl
 tree_at-again (Some items) h = ap (option_map (λ (xs : List ResidueItem). Some xs)) (residue-again items h)
 
 tree_at-takes : (es : List Extra) (tree : Option (List ResidueItem)) → tree_at es ≡ Some tree → IsTreePart tree × (es ≡ tree_extra tree)
-tree_at-takes [] tree h = subst (λ (x : Option (List ResidueItem)). IsTreePart x × ([] ≡ tree_extra x)) (some_is None tree h) (tt, refl)
-tree_at-takes (e ∷ f ∷ es) tree h = absurd (none_some tree h)
+tree_at-takes [] tree h = subst (λ (x : Option (List ResidueItem)). IsTreePart x × ([] ≡ tree_extra x)) (some_is {x = None} {y = tree} h) (tt, refl)
+tree_at-takes (e ∷ f ∷ es) tree h = absurd (none_some {x = tree} h)
 tree_at-takes (e ∷ []) tree h = by (bytes_eq e.key (codes "hg-git-tree")) refl (residue_of_text e.value) refl
   where
     by : (t : Bool) → bytes_eq e.key (codes "hg-git-tree") ≡ t → (r : Option (List ResidueItem)) → residue_of_text e.value ≡ r → IsTreePart tree × (e ∷ [] ≡ tree_extra tree)
-    by false t r q = absurd (none_some tree (sym (rw t refl) ∙ h))
-    by true t None q = absurd (none_some tree (sym (rw (t, q) refl) ∙ h))
+    by false t r q = absurd (none_some {x = tree} (sym (rw t refl) ∙ h))
+    by true t None q = absurd (none_some {x = tree} (sym (rw (t, q) refl) ∙ h))
     by true t (Some items) q =
-        let same : Some items ≡ tree = some_is (Some items) tree (sym (rw (t, q) refl) ∙ h) in
+        let same : Some items ≡ tree = some_is {x = Some items} {y = tree} (sym (rw (t, q) refl) ∙ h) in
         let read = residue-takes e.value items q in
         let key_is : e.key ≡ codes "hg-git-tree" = (bytes_eq-Decides e.key (codes "hg-git-tree")).0 t in
         subst (λ (x : Option (List ResidueItem)). IsTreePart x × (e ∷ [] ≡ tree_extra x)) same (read.0, (λ i. record { key = key_is i; value = read.1 i } ∷ []))
@@ -206,30 +201,30 @@ marks_in_extras-takes extras m h = by_author (part_at (codes "hg-git-author") ex
     Read = Option Bytes × List Extra
 
     by_author : (r : Option (Option Bytes × List Extra)) → part_at (codes "hg-git-author") extras ≡ r → AreExtrasOf extras m
-    by_author None r = absurd (none_some m (sym (rw r refl) ∙ h))
+    by_author None r = absurd (none_some {x = m} (sym (rw r refl) ∙ h))
     by_author (Some a) r = by_committer (part_at (codes "hg-git-committer") a.1) refl
       where
         by_committer : (s : Option (Option Bytes × List Extra)) → part_at (codes "hg-git-committer") a.1 ≡ s → AreExtrasOf extras m
-        by_committer None s = absurd (none_some m (sym (rw (r, s) refl) ∙ h))
+        by_committer None s = absurd (none_some {x = m} (sym (rw (r, s) refl) ∙ h))
         by_committer (Some b) s = by_headers (part_at (codes "hg-git-headers") b.1) refl
           where
             by_headers : (t : Option (Option Bytes × List Extra)) → part_at (codes "hg-git-headers") b.1 ≡ t → AreExtrasOf extras m
-            by_headers None t = absurd (none_some m (sym (rw (r, s, t) refl) ∙ h))
+            by_headers None t = absurd (none_some {x = m} (sym (rw (r, s, t) refl) ∙ h))
             by_headers (Some c) t = by_message (part_at (codes "hg-git-message") c.1) refl
               where
                 by_message : (u : Option (Option Bytes × List Extra)) → part_at (codes "hg-git-message") c.1 ≡ u → AreExtrasOf extras m
-                by_message None u = absurd (none_some m (sym (rw (r, s, t, u) refl) ∙ h))
+                by_message None u = absurd (none_some {x = m} (sym (rw (r, s, t, u) refl) ∙ h))
                 by_message (Some d) u = by_parents (count_at d.1) refl
                   where
                     by_parents : (v : Option (Option ℕ × List Extra)) → count_at d.1 ≡ v → AreExtrasOf extras m
-                    by_parents None v = absurd (none_some m (sym (rw (r, s, t, u, v) refl) ∙ h))
+                    by_parents None v = absurd (none_some {x = m} (sym (rw (r, s, t, u, v) refl) ∙ h))
                     by_parents (Some n) v = by_tree (tree_at n.1) refl
                       where
                         by_tree : (w : Option (Option (List ResidueItem))) → tree_at n.1 ≡ w → AreExtrasOf extras m
-                        by_tree None w = absurd (none_some m (sym (rw (r, s, t, u, v, w) refl) ∙ h))
+                        by_tree None w = absurd (none_some {x = m} (sym (rw (r, s, t, u, v, w) refl) ∙ h))
                         by_tree (Some g) w =
                             let x : ChangesetMarks = record { author = a.0; committer = b.0; headers = c.0; message = d.0; parents = n.0; tree = g } in
-                            let same : x ≡ m = some_is x m (sym (rw (r, s, t, u, v, w) refl) ∙ h) in
+                            let same : x ≡ m = some_is {x = x} {y = m} (sym (rw (r, s, t, u, v, w) refl) ∙ h) in
                             let author = part_at-takes (codes "hg-git-author") extras a.0 a.1 r in
                             let committer = part_at-takes (codes "hg-git-committer") a.1 b.0 b.1 s in
                             let headers = part_at-takes (codes "hg-git-headers") b.1 c.0 c.1 t in
@@ -243,7 +238,7 @@ marks_in_extras-takes extras m h = by_author (part_at (codes "hg-git-author") ex
 
 -- so extras that read as nothing are those of no marks
 pub marks_in_extras-none : (extras : List Extra) → marks_in_extras extras ≡ None → (m : ChangesetMarks) → AreExtrasOf extras m → ⊥
-marks_in_extras-none extras none m is = none_some m (sym none ∙ ap marks_in_extras is.1 ∙ marks_in_extras-again m is.0)
+marks_in_extras-none extras none m is = none_some {x = m} (sym none ∙ ap marks_in_extras is.1 ∙ marks_in_extras-again m is.0)
 
 -- what reading them answers
 pub judged : {E : Type 0} (extras : List Extra) (r : Result (Option declared.ChangesetMarks) E) → IfOk r (λ marks. option_map changeset_marks marks ≡ marks_in_extras extras)
@@ -389,4 +384,4 @@ module _ (m : ChangesetMarks) (none first second third fourth : List Extra) (not
 
 -- extras are those of the marks of one commit at most
 pub one_marks : (extras : List Extra) (m n : ChangesetMarks) → AreExtrasOf extras m → AreExtrasOf extras n → m ≡ n
-one_marks extras m n h k = some_is m n (sym (ap marks_in_extras h.1 ∙ marks_in_extras-again m h.0) ∙ ap marks_in_extras k.1 ∙ marks_in_extras-again n k.0)
+one_marks extras m n h k = some_is {x = m} {y = n} (sym (ap marks_in_extras h.1 ∙ marks_in_extras-again m h.0) ∙ ap marks_in_extras k.1 ∙ marks_in_extras-again n k.0)

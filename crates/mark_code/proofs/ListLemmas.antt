@@ -2,6 +2,7 @@
 use Rattle.std.proofs.Common.{◌≡◌, ◌≢◌, ◌<◌, ◌+◌, ◌^◌, ◌==◌, ℕ, Bool, true, false, List, [], ◌∷◌, ◌++◌, length, map, Option, Some, None, refl, sym, ap, subst, ◌∙◌, append_assoc, length-append, arith, zero, suc, get_or, eqb-true, true≢false}
 use Rattle.std.specs.Prelude.{codes}
 use Rattle.std.specs.List.{flat_map}
+use Rattle.text_model.proofs.Options.{none_some, some_is}
 use Rattle.text_model.specs.Lists.{Each, rises}
 use Rattle.text_model.specs.Text.{Bytes, IsBytes, lf, has_byte, line, spaced}
 use Rattle.text_model.specs.Escape.{escape}
@@ -78,12 +79,6 @@ may_come (Some before) m = may_follow before m
 abbrev pub MayCome : Option Mark → Mark → Type 0
 MayCome before m = may_come before m ≡ true
 
-none_some : {X : Type 0} (x : X) → None ≡ Some x → ⊥
-none_some x h = cc
-
-some_is : {X : Type 0} (x y : X) → Some x ≡ Some y → x ≡ y
-some_is x y h = cc
-
 -- the mark that the first line is, and what follows the line
 first_mark : Bytes → Option (Mark × Bytes)
 first_mark text = do
@@ -96,13 +91,13 @@ unfolding first_mark
 first-takes bytes m rest is h = by (cut_of lf bytes) refl
   where
     by : (r : Option (Bytes × Bytes)) → cut_of lf bytes ≡ r → (bytes ≡ mark_line m ++ rest) × IsMark m
-    by None r = absurd (none_some {X = Mark × Bytes} (m, rest) (sym (rw r refl) ∙ h))
+    by None r = absurd (none_some {X = Mark × Bytes} {x = (m, rest)} (sym (rw r refl) ∙ h))
     by (Some first) r = read (mark_of first.0) refl
       where
         read : (s : Option Mark) → mark_of first.0 ≡ s → (bytes ≡ mark_line m ++ rest) × IsMark m
-        read None s = absurd (none_some {X = Mark × Bytes} (m, rest) (sym (rw (r, s) refl) ∙ h))
+        read None s = absurd (none_some {X = Mark × Bytes} {x = (m, rest)} (sym (rw (r, s) refl) ∙ h))
         read (Some x) s =
-            let same : (x, first.1) ≡ (m, rest) = some_is {X = Mark × Bytes} (x, first.1) (m, rest) (sym (rw (r, s) refl) ∙ h) in
+            let same : (x, first.1) ≡ (m, rest) = some_is {X = Mark × Bytes} {x = (x, first.1)} {y = (m, rest)} (sym (rw (r, s) refl) ∙ h) in
             let cut = cut_of-takes lf bytes first.0 first.1 r in
             let t = mark_of-takes first.0 x (IsBytes-front first.0 (lf ∷ first.1) (subst IsBytes cut.0 is)) s in
             let whole : bytes ≡ mark_line x ++ first.1 = cut.0 ∙ ap (λ (w : Bytes). w ++ lf ∷ first.1) t.1 ∙ sym (append_assoc (spaced (mark_words x)) (lf ∷ []) first.1) in
@@ -203,7 +198,7 @@ module _ (headers : Bytes) (marks : List Mark) (rest : Bytes) (r : ReadTo header
     where
       by : (ys : List Mark) → rest ≡ flat_map mark_line ys → Each IsMark ys → Follow mark_line IsMark after_mark MayCome (state_after mark_line IsMark after_mark MayCome None marks) ys → ⊥
       by [] e h k = some e
-      by (y ∷ ys) e h k = none_some {X = Mark × Bytes} (y, flat_map mark_line ys) (sym none ∙ ap first_mark e ∙ first-again y (flat_map mark_line ys) h.0)
+      by (y ∷ ys) e h k = none_some {X = Mark × Bytes} {x = (y, flat_map mark_line ys)} (sym none ∙ ap first_mark e ∙ first-again y (flat_map mark_line ys) h.0)
 
   pub no-line : None ≡ cut_of lf rest → false ≡ (length rest == 0) → (ms : List Mark) → AreHeadersOf headers ms → ⊥
   unfolding first_mark
@@ -236,6 +231,6 @@ module _ (headers : Bytes) (marks : List Mark) (rest : Bytes) (r : ReadTo header
           by : (ys : List Mark) → rest ≡ flat_map mark_line ys → Each IsMark ys → Follow mark_line IsMark after_mark MayCome (state_after mark_line IsMark after_mark MayCome None marks) ys → ⊥
           by [] e h k = absurd (omega (arith, shorter, ap (λ (x : Bytes). length x) e))
           by (y ∷ ys) e h k =
-              let same : (m, after) ≡ (y, flat_map mark_line ys) = some_is {X = Mark × Bytes} (m, after) (y, flat_map mark_line ys) (sym first ∙ ap first_mark e ∙ first-again y (flat_map mark_line ys) h.0) in
+              let same : (m, after) ≡ (y, flat_map mark_line ys) = some_is {X = Mark × Bytes} {x = (m, after)} {y = (y, flat_map mark_line ys)} (sym first ∙ ap first_mark e ∙ first-again y (flat_map mark_line ys) h.0) in
               let one : m ≡ y = ap (λ (p : Mark × Bytes). p.0) same in
               true≢false (sym k.0 ∙ sym (ap (may_come (state_after mark_line IsMark after_mark MayCome None marks)) one) ∙ last-is marks m ∙ sym falls)

@@ -4,6 +4,7 @@ use Rattle.std.specs.Prelude.{codes, decimal, bytes_eq, if◌then◌else◌, ℤ
 use Rattle.std.specs.Option.{option_and_then, unwrap_or}
 use Rattle.std.specs.List.{slice_split}
 use Rattle.std.proofs.lemmas.Slice.Eq.{bytes_eq-Decides}
+use Rattle.text_model.proofs.Options.{none_some, some_is}
 use Rattle.text_model.specs.Lists.{Each}
 use Rattle.text_model.specs.Text.{Bytes, IsBytes, sp, has_byte, spaced, signed_decimal}
 use Rattle.text_model.specs.Id.{Id, IsId, hex, id_of_hex}
@@ -22,12 +23,6 @@ use Rattle.pair_model.specs.MarkList.{Mark, Rename, File, Manifest, Files, User,
 use Rattle.mark_code.specs.Reading.{◌>>=◌, raw_of, rename_of, meta_of, file_of, parents_of, manifest_of, raws_of, counted, files_at, files_of, user_of, date_mark, raw_date_of, extra_mark_of, mark_of_kind, mark_of}
 use Rattle.mark_code.proofs.RawLemmas.{raw_of-escape, raw_of-takes}
 use Rattle.mark_code.proofs.WordLemmas.{cut-none, cut-word, one-word, joined, pieces-spaced, Pieces, pieces, decimal-lacks}
-
-none_some : {X : Type 0} (x : X) → None ≡ Some x → ⊥
-none_some x h = cc
-
-some_is : {X : Type 0} (x y : X) → Some x ≡ Some y → x ≡ y
-some_is x y h = cc
 
 same_bytes : (a : Bytes) → bytes_eq a a ≡ true
 same_bytes a = (bytes_eq-Decides a a).1 refl
@@ -131,15 +126,15 @@ mark_of-again (OneExtra e) h = behind (codes "HG:extra") _ (OneExtra e) refl (ex
 
 -- the value that a step gave
 bind-some : {A B : Type 0} (r : Option A) (f : A → Option B) (y : B) → (r >>= f) ≡ Some y → (x : A) × (r ≡ Some x) × (f x ≡ Some y)
-bind-some None f y h = absurd (none_some y h)
+bind-some None f y h = absurd (none_some {x = y} h)
 bind-some (Some x) f y h = (x, refl, h)
 
 map-some : {A B : Type 0} (r : Option A) (f : A → B) (y : B) → option_map f r ≡ Some y → (x : A) × (r ≡ Some x) × (f x ≡ y)
-map-some None f y h = absurd (none_some y h)
-map-some (Some x) f y h = (x, refl, some_is (f x) y h)
+map-some None f y h = absurd (none_some {x = y} h)
+map-some (Some x) f y h = (x, refl, some_is {x = f x} {y = y} h)
 
 then-some : {A B : Type 0} (r : Option A) (f : A → Option B) (y : B) → option_and_then f r ≡ Some y → (x : A) × (r ≡ Some x) × (f x ≡ Some y)
-then-some None f y h = absurd (none_some y h)
+then-some None f y h = absurd (none_some {x = y} h)
 then-some (Some x) f y h = (x, refl, h)
 
 if-some : {A : Type 0} (t : Bool) (a b : Option A) (y : A) → (if t then a else b) ≡ Some y → ((t ≡ true) × (a ≡ Some y)) ⊎ (b ≡ Some y)
@@ -162,7 +157,7 @@ rename-takes words m h =
     let cut = cut_of-takes sp words first.0.0 first.0.1 first.1 in
     let a = raw_of-takes first.0.0 path.0 path.1 in
     let b = raw_of-takes first.0.1 source.0 source.1 in
-    subst (Spells (codes "HG:rename") words) (some_is (Rename path.0 source.0) m source.2)
+    subst (Spells (codes "HG:rename") words) (some_is {x = Rename path.0 source.0} {y = m} source.2)
     (spells (codes "HG:rename") words (Rename path.0 source.0) (escape path.0) (escape source.0 ∷ []) (a.0, b.0) refl
     (joined words first.0.0 (escape path.0) first.0.1 (escape source.0) [] cut.0 a.1 (b.1 ∙ sym (one-word (escape source.0)))))
 
@@ -176,7 +171,7 @@ extra-takes words m h =
     let a = raw_of-takes first.0.0 key.0 key.1 in
     let b = raw_of-takes first.0.1 value.0 value.1 in
     let x : Mark = OneExtra (record { key = key.0; value = value.0 }) in
-    subst (Spells (codes "HG:extra") words) (some_is (OneExtra (record { key = key.0; value = value.0 })) m value.2)
+    subst (Spells (codes "HG:extra") words) (some_is {x = OneExtra (record { key = key.0; value = value.0 })} {y = m} value.2)
     (spells (codes "HG:extra") words (OneExtra (record { key = key.0; value = value.0 })) (escape key.0) (escape value.0 ∷ []) (a.0, b.0) refl
     (joined words first.0.0 (escape key.0) first.0.1 (escape value.0) [] cut.0 a.1 (b.1 ∙ sym (one-word (escape value.0)))))
 
@@ -186,7 +181,7 @@ AreMeta (Some meta) = IsBytes meta
 
 meta-takes : (text : Bytes) (meta : Option Bytes) → meta_of text ≡ Some meta → AreMeta meta × (text ≡ meta_word meta)
 unfolding AreMeta
-meta-takes [] meta h = absurd (none_some meta h)
+meta-takes [] meta h = absurd (none_some {x = meta} h)
 meta-takes (b ∷ text) meta h = by (b == 61) refl (b == 45 && length text == 0) refl
   where
     by : (s : Bool) → (b == 61) ≡ s → (t : Bool) → (b == 45 && length text == 0) ≡ t → AreMeta meta × (b ∷ text ≡ meta_word meta)
@@ -197,12 +192,12 @@ meta-takes (b ∷ text) meta h = by (b == 61) refl (b == 45 && length text == 0)
     by false s true u =
         let p = both (b == 45) (length text == 0) u in
         let none : text ≡ [] = empty text p.1 in
-        subst (λ (m : Option Bytes). AreMeta m × (b ∷ text ≡ meta_word m)) (some_is None meta (sym (rw (s, u) refl) ∙ h)) (tt, (λ i. eqb-true b 45 p.0 i ∷ none i))
+        subst (λ (m : Option Bytes). AreMeta m × (b ∷ text ≡ meta_word m)) (some_is {x = None} {y = meta} (sym (rw (s, u) refl) ∙ h)) (tt, (λ i. eqb-true b 45 p.0 i ∷ none i))
       where
         empty : (text : Bytes) → (length text == 0) ≡ true → text ≡ []
         empty [] e = refl
         empty (c ∷ text) e = absurd (omega (arith, eqb-true (length (c ∷ text)) 0 e))
-    by false s false u = absurd (none_some meta (sym (rw (s, u) refl) ∙ h))
+    by false s false u = absurd (none_some {x = meta} (sym (rw (s, u) refl) ∙ h))
 
 file-is : (path : Bytes) (p q : Id) (meta : Option Bytes) → IsBytes path → IsId p → IsId q → AreMeta meta → IsMark (File path p q meta)
 unfolding AreMeta
@@ -229,7 +224,7 @@ file-takes words m h =
     let b = id_of_hex-takes second.0.0 p.0 p.1 in
     let c = id_of_hex-takes third.0.0 q.0 q.1 in
     let d = meta-takes third.0.1 meta.0 meta.1 in
-    subst (Spells (codes "HG:file") words) (some_is (File path.0 p.0 q.0 meta.0) m meta.2)
+    subst (Spells (codes "HG:file") words) (some_is {x = File path.0 p.0 q.0 meta.0} {y = m} meta.2)
     (file-spelled words path.0 p.0 q.0 meta.0 (file-is path.0 p.0 q.0 meta.0 a.0 b.0 c.0 d.0)
     (joined words first.0.0 (escape path.0) first.0.1 (hex p.0) (hex q.0 ∷ meta_word meta.0 ∷ []) one.0 a.1
     (joined first.0.1 second.0.0 (hex p.0) second.0.1 (hex q.0) (meta_word meta.0 ∷ []) two.0 b.1
@@ -239,7 +234,7 @@ manifest-takes : (words : Bytes) (m : Mark) → manifest_of words ≡ Some m →
 unfolding parents_of
 manifest-takes words m h = elim (if-some (bytes_eq words (codes "null")) (Some (Manifest NoManifest)) (parents_of words) m h) [
   | inl e ↦
-      subst (Spells (codes "HG:manifest") words) (some_is (Manifest NoManifest) m e.1)
+      subst (Spells (codes "HG:manifest") words) (some_is {x = Manifest NoManifest} {y = m} e.1)
       (spells (codes "HG:manifest") words (Manifest NoManifest) (codes "null") [] tt refl ((bytes_eq-Decides words (codes "null")).0 e.0))
   | inr e ↦
       let first = bind-some (cut_of sp words) _ m e in
@@ -248,13 +243,13 @@ manifest-takes words m h = elim (if-some (bytes_eq words (codes "null")) (Some (
       let cut = cut_of-takes sp words first.0.0 first.0.1 first.1 in
       let a = id_of_hex-takes first.0.0 p.0 p.1 in
       let b = id_of_hex-takes first.0.1 q.0 q.1 in
-      subst (Spells (codes "HG:manifest") words) (some_is (Manifest (Over p.0 q.0)) m q.2)
+      subst (Spells (codes "HG:manifest") words) (some_is {x = Manifest (Over p.0 q.0)} {y = m} q.2)
       (spells (codes "HG:manifest") words (Manifest (Over p.0 q.0)) (hex p.0) (hex q.0 ∷ []) (a.0, b.0) refl
       (joined words first.0.0 (hex p.0) first.0.1 (hex q.0) [] cut.0 a.1 (b.1 ∙ sym (one-word (hex q.0)))))
 ]
 
 raws-takes : (texts paths : List Bytes) → raws_of texts ≡ Some paths → Each IsBytes paths × (texts ≡ map escape paths)
-raws-takes [] paths h = subst (λ (x : List Bytes). Each IsBytes x × ([] ≡ map escape x)) (some_is [] paths h) (tt, refl)
+raws-takes [] paths h = subst (λ (x : List Bytes). Each IsBytes x × ([] ≡ map escape x)) (some_is {x = []} {y = paths} h) (tt, refl)
 raws-takes (text ∷ texts) paths h =
     let raw = then-some (raw_of text) _ paths h in
     let raws = map-some (raws_of texts) _ paths raw.2 in
@@ -264,8 +259,8 @@ raws-takes (text ∷ texts) paths h =
 
 counted-takes : (count : Bytes) (paths : List Bytes) (m : Mark) → counted count paths ≡ Some m → (count ≡ decimal (length paths)) × (Files paths ≡ m)
 counted-takes count paths m h = elim (if-some (bytes_eq count (decimal (length paths))) (Some (Files paths)) None m h) [
-  | inl e ↦ ((bytes_eq-Decides count (decimal (length paths))).0 e.0, some_is (Files paths) m e.1)
-  | inr e ↦ absurd (none_some m e)
+  | inl e ↦ ((bytes_eq-Decides count (decimal (length paths))).0 e.0, some_is {x = Files paths} {y = m} e.1)
+  | inr e ↦ absurd (none_some {x = m} e)
 ]
 
 files-takes : (words : Bytes) (m : Mark) → files_of words ≡ Some m → Spells (codes "HG:files") words m
@@ -307,14 +302,14 @@ unfolding date_of
 date-takes words m bytes h = by (plain_date_of words) refl
   where
     plain : (time tz : ℤ) (extras : List Extra) → IsPlainDate time tz extras → words ≡ plain_date_text time tz extras → date_mark (Plain time tz extras) ≡ Some m → Spells (codes "HG:date") words m
-    plain time tz (e ∷ es) is spelled k = absurd (none_some m k)
+    plain time tz (e ∷ es) is spelled k = absurd (none_some {x = m} k)
     plain time tz [] is spelled k =
-        subst (Spells (codes "HG:date") words) (some_is (Date time tz) m k)
+        subst (Spells (codes "HG:date") words) (some_is {x = Date time tz} {y = m} k)
         (spells (codes "HG:date") words (Date time tz) (signed_decimal time) (signed_decimal tz ∷ []) is refl
         (joined words (signed_decimal time) (signed_decimal time) (signed_decimal tz) (signed_decimal tz) [] spelled refl (sym (one-word (signed_decimal tz)))))
 
     by : (r : Option DateLine) → plain_date_of words ≡ r → Spells (codes "HG:date") words m
-    by None r = absurd (none_some m (sym (ap (λ (x : Option DateLine). date_mark (unwrap_or x (Raw words))) r) ∙ h))
+    by None r = absurd (none_some {x = m} (sym (ap (λ (x : Option DateLine). date_mark (unwrap_or x (Raw words))) r) ∙ h))
     by (Some date) r =
         let read = plain_date_of-takes words date bytes r in
         plain read.time read.tz read.extras read.is read.spelled (sym (ap (λ (x : Option DateLine). date_mark (unwrap_or x (Raw words))) r ∙ ap date_mark read.whole) ∙ h)
@@ -336,7 +331,7 @@ kind-takes kind words m bytes h = elim (if-some (bytes_eq kind (codes "HG:rename
               | inl e ↦ at (codes "HG:raw") e.0 (raw-takes words m e.1)
               | inr h7 ↦ elim (if-some (bytes_eq kind (codes "HG:extra")) _ _ m h7) [
                 | inl e ↦ at (codes "HG:extra") e.0 (extra-takes words m e.1)
-                | inr h8 ↦ absurd (none_some m h8)
+                | inr h8 ↦ absurd (none_some {x = m} h8)
               ]
             ]
           ]

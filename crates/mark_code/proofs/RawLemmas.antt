@@ -1,6 +1,7 @@
 -- Escapes as they are read: each text is the escape of some bytes or of none.
 use Rattle.std.proofs.Common.{◌≡◌, ◌≢◌, ◌<◌, ◌==◌, ℕ, Bool, true, false, [], ◌∷◌, ◌++◌, length, Option, Some, None, option_map, refl, sym, ap, subst, ◌∙◌, append_assoc, append-nil, arith, inl, inr}
 use Rattle.std.specs.Option.{option_and_then}
+use Rattle.text_model.proofs.Options.{none_some, some_is}
 use Rattle.text_model.specs.Text.{Bytes, IsBytes}
 use Rattle.text_model.specs.Escape.{is_plain, escape, escaped_byte, IsEscapeOf, IsBadEscapeAt}
 use Rattle.text_model.specs.Unescape.{hex_byte, first_byte}
@@ -82,19 +83,13 @@ raw_of-bad text place bad =
         by None r = ap (option_and_then onto) r
         by (Some p) r = let t = first_byte-takes (b ∷ rest) p.0 p.1 r in absurd (other p.0 p.1 t.1 t.0)
 
-some_is : (x y : Bytes) → Some x ≡ Some y → x ≡ y
-some_is x y h = cc
-
-none_some : (x : Bytes) → None ≡ Some x → ⊥
-none_some x h = cc
-
 -- what is read of a text has this escape
 pub raw_of-takes : (text raw : Bytes) → raw_of text ≡ Some raw → IsEscapeOf text raw
 raw_of-takes text raw e = elim (escape-judged text) [
   | inl is ↦
       let whole : raw_of text ≡ Some is.0 = ap raw_of is.1.1 ∙ raw_of-escape is.0 is.1.0 in
-      subst (IsEscapeOf text) (some_is is.0 raw (sym whole ∙ e)) is.1
-  | inr bad ↦ absurd (none_some raw (sym (raw_of-bad text bad.0 bad.1) ∙ e))
+      subst (IsEscapeOf text) (some_is {x = is.0} {y = raw} (sym whole ∙ e)) is.1
+  | inr bad ↦ absurd (none_some {x = raw} (sym (raw_of-bad text bad.0 bad.1) ∙ e))
 ]
 
 -- as it is read into a value that was empty

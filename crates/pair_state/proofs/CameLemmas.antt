@@ -3,6 +3,7 @@ use Rattle.std.proofs.Common.{◌≡◌, ◌⊎◌, Bool, true, false, true≢fa
 use Rattle.std.specs.Prelude.{is_some, if◌then◌else◌}
 use Rattle.std.specs.List.{list_any, flat_map}
 use Rattle.std.proofs.lemmas.Slice.Eq.{bytes_eq-Decides}
+use Rattle.text_model.proofs.Options.{some_is}
 use Rattle.text_model.specs.Lists.{In}
 use Rattle.text_model.specs.Id.{Id, is_null, node_id}
 use Rattle.text_model.specs.Fault.{FaultName, Collision}
@@ -41,9 +42,6 @@ no-other known r ready name h other = by (is_bad known r) (sym (fault-is known r
   where
     by : (b : Bool) → named_if b Collision ≡ Some name → ⊥
     by true is = other (some_is is)
-      where
-        some_is : Some Collision ≡ Some name → Collision ≡ name
-        some_is e = cc
     by false is = cc
 
 -- ---- lines

@@ -2,6 +2,7 @@
 use Rattle.std.proofs.Common.{◌≡◌, ◌≤◌, ◌+◌, ◌||◌, ℕ, zero, suc, arith, Bool, true, false, List, [], ◌∷◌, ◌++◌, length, map, take, drop, Option, Some, None, refl, sym, ap, subst, ◌∙◌}
 use Rattle.std.specs.Prelude.{bytes_eq, is_some, slice_get, if◌then◌else◌}
 use Rattle.std.proofs.lemmas.Slice.Eq.{bytes_eq-Decides}
+use Rattle.text_model.proofs.Options.{some_is}
 use Rattle.text_model.specs.Text.{Bytes}
 use Rattle.text_model.specs.Id.{Id, is_null}
 use Rattle.text_model.specs.Fault.{FaultName}
@@ -64,9 +65,6 @@ module _ (known fresh : List Revision) (v : RowValue) (link : Id) (x : Row) (a :
   module _ (f : FreshFile) (at : Some (fresh_revision f) ≡ revision_of fresh (FilesAt v.path) v.node) where
     same-revision : a.held.revision ≡ fresh_revision f
     same-revision = some_is (sym a.held.is_held ∙ find-front fresh known (FilesAt x.path) (file_node x.revision) (fresh_revision f) (sym (at ∙ (λ i. revision_of fresh (FilesAt (a.value i).path) (a.value i).node))))
-      where
-        some_is : {y z : Revision} → Some y ≡ Some z → y ≡ z
-        some_is e = cc
 
     pub fresh-text : IsFileText f.text (x.revision).meta (x.revision).body
     fresh-text = subst (λ (q : Revision). IsFileText q.text (x.revision).meta (x.revision).body) same-revision a.held.text

@@ -7,7 +7,7 @@ use Rattle.text_model.specs.Lists.{In}
 use Rattle.text_model.specs.Id.{Id, is_null}
 use Rattle.text_model.proofs.TestLemmas.{both}
 use Rattle.text_model.proofs.Elements.{in_left, each_in, none_in, none_all}
-use Rattle.text_model.proofs.Options.{or_parts}
+use Rattle.text_model.proofs.Options.{or_parts, some_is}
 use Rattle.hg_model.proofs.RevisionLemmas.{same_group-is}
 use Rattle.hg_model.specs.Revision.{Revision, Group, Changesets, Manifests, FilesAt, same_group, same_revision, same_parents, revision_of, knows, known_after, is_otherwise, known_after_all}
 use Rattle.tree_shape.proofs.Elements.{in-append}
@@ -58,9 +58,6 @@ module _ (known rs : List Revision) (clean : AreClean known rs) where
 
       found : r.group ≡ x.group → r.node ≡ x.node → a.found ≡ b.found
       found g n = some_is (sym a.at ∙ (λ i. revision_of (known_after_all known rs) (g i) (n i)) ∙ b.at)
-        where
-          some_is : {y z : Revision} → Some y ≡ Some z → y ≡ z
-          some_is e = cc
 
       like : r.group ≡ x.group → r.node ≡ x.node → (bytes_eq r.text x.text && same_parents r.group r.p r.q x.p x.q) ≡ true
       like g n =

@@ -3,7 +3,7 @@ use Rattle.std.proofs.Common.{◌≡◌, ℕ, Bool, true, false, true≢false, L
 use Rattle.std.specs.Prelude.{unwrap_or, is_some, IsTrue}
 use Rattle.std.proofs.lemmas.Slice.Eq.{bytes_eq-Decides}
 use Rattle.text_model.specs.Lists.{Each}
-use Rattle.text_model.specs.Id.{Id, null, is_null}
+use Rattle.text_model.specs.Id.{Id, is_null}
 use Rattle.text_model.proofs.Options.{none_some, some_is}
 use Rattle.hg_model.specs.Revision.{Revision, Changesets}
 use Rattle.hg_store.specs.Known.{AreAdded}

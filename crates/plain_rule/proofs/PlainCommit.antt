@@ -137,24 +137,34 @@ module _ (k : Known) (blocks : List Block) (d : GitDraft) (c : CommitView) (over
 
   -- ---- the residue of its tree
 
-  module _ (are : AreKnown k.git) where
-    up-below : (root : Option Id) → WalksThrough k.git root → Ascends path_of_item (residue_below k.git root)
-    up-below None walks = tt
-    up-below (Some root) walks =
-        let files = walk-files k.git root are.are (none-refused k.git are.are root walks) in
-        up_residue (tree_rows k.git root) (rises-ascends path_of (tree_rows k.git root) files.in_order)
+  up-below : AreKnown k.git → (root : Option Id) → WalksThrough k.git root → Ascends path_of_item (residue_below k.git root)
+  up-below are None walks = tt
+  up-below are (Some root) walks =
+      let files = walk-files k.git root are.are (none-refused k.git are.are root walks) in
+      up_residue (tree_rows k.git root) (rises-ascends path_of (tree_rows k.git root) files.in_order)
+
+  -- the store is asked where there is a first parent
+  module _ (are : (first : Id) → slice_get (d.commit).parents 0 ≡ Some first → AreKnown k.git) where
+    asked : (b : Block) → block_of_node blocks (first_partner blocks c) ≡ Some b → AreKnown k.git
+    asked b there = by (slice_get (c.value).parents 0) refl
+      where
+        by : (o : Option Id) → slice_get (c.value).parents 0 ≡ o → AreKnown k.git
+        by None e = absurd (none_some (sym (no-first e) ∙ there))
+        by (Some first) e = are first (ap (λ (x : Commit). slice_get x.parents 0) (sym over.draft.value) ∙ e)
+
+    residue-is : (root : Option Id) → IsOld blocks (first_partner blocks c) root → old_residue blocks (first_partner blocks c) ≡ residue_below k.git root
+    residue-is None is = ap (λ (o : Option Block). unwrap_or (option_map (λ b. residue_of (map file_row_of (b.commit).rows)) o) []) is
+    residue-is (Some root) is = residue-old k blocks held (asked is.0 is.1) (first_partner blocks c) (Some root) is
 
     up-old : Ascends path_of_item (old_residue blocks (first_partner blocks c))
     up-old = by (block_of_node blocks (first_partner blocks c)) refl
       where
-        of : (root : Option Id) → IsOld blocks (first_partner blocks c) root → Ascends path_of_item (old_residue blocks (first_partner blocks c))
-        of root is =
-            subst (Ascends path_of_item) (sym (residue-old k blocks held are (first_partner blocks c) root is))
-            (up-below root (walks-old k blocks held are (first_partner blocks c) root is))
-
         by : (o : Option Block) → block_of_node blocks (first_partner blocks c) ≡ o → Ascends path_of_item (old_residue blocks (first_partner blocks c))
-        by None e = of None e
-        by (Some b) e = of (Some ((b.commit).value).tree_id) (b, e, refl)
+        by None e = subst (Ascends path_of_item) (sym (residue-is None e)) tt
+        by (Some b) e =
+            let root : Option Id = Some ((b.commit).value).tree_id in
+            subst (Ascends path_of_item) (sym (residue-is root (b, e, refl)))
+            (up-below (asked b e) root (walks-old k blocks held (asked b e) (first_partner blocks c) root (b, e, refl)))
 
     -- ---- the whole
 
@@ -221,7 +231,7 @@ module _ (k : Known) (blocks : List Block) (d : GitDraft) (c : CommitView) (over
         → (files : List FileRow) (old : List ResidueItem) → files ≡ d.files → old ≡ residue_below k.git root
         → (t : Bool) → (IsTrue t ↔ residue_of files ≡ carried old (plain_files files)) → (IsTrue t ↔ IsHandedOn blocks c)
     handed-by-test root is files old files-are old-is t test =
-        let same = old-is ∙ sym (residue-old k blocks held are (first_partner blocks c) root is) in
+        let same = old-is ∙ sym (residue-is root is) in
         let rows = files-are ∙ over.draft.files in (
           (λ yes. ap residue_of (sym rows) ∙ test.0 yes ∙ (λ i. carried (same i) (plain_files (rows i)))),
           (λ handed. test.1 (ap residue_of rows ∙ handed ∙ (λ i. carried ((sym same) i) (plain_files ((sym rows) i))))),

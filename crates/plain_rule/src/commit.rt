@@ -1,4 +1,6 @@
-ghost use Rattle.std.specs.Prelude.{◌≡◌, ◌↔◌, List, None, IfOk, IsTrue, MatchOption};
+ghost use Rattle.std.specs.Prelude.{◌≡◌, ◌↔◌, List, None, Some, IfOk, IsTrue, MatchOption, slice_get};
+ghost use Rattle.text_model.specs.Id as text;
+ghost use Rattle.git_store.specs.Known.{AreKnown};
 ghost use Rattle.view_model.specs.View.{CommitView};
 ghost use Rattle.pair_model.specs.Block.{Block, block_of_node};
 ghost use Rattle.pair_model.specs.Plain.{IsPlainCommit};
@@ -22,7 +24,6 @@ pub fn is_plain_commit(alloc: Global, known: &Known, c: &GitDraft) -> Result<boo
     ensures { IfOk result (λ plain. (blocks : List Block) (v : CommitView) → IsCommitOver known.now blocks c.now v
         → (IsTrue plain ↔ IsPlainCommit blocks v)) }
 {
-    known.git.check();
     if !has_plain_head(alloc, &c.commit)? {
         return Ok(false);
     }
@@ -32,18 +33,19 @@ pub fn is_plain_commit(alloc: Global, known: &Known, c: &GitDraft) -> Result<boo
 /// Whether what the tree of a commit, whose parents have partners, has beside the files of the changeset is what the commit of its first
 /// parent hands on to them.
 pub fn has_what_is_handed_on(alloc: Global, known: &Known, c: &GitDraft) -> Result<bool, NoMemory>
-    ensures { IfOk result (λ same. (blocks : List Block) (v : CommitView) → IsCommitOver known.now blocks c.now v
+    ensures same { IfOk result (λ same. (blocks : List Block) (v : CommitView) → IsCommitOver known.now blocks c.now v
         → (IsTrue same ↔ IsHandedOn blocks v)) }
+    ensures known { (first : text.Id) → slice_get (c.now.commit).parents 0 ≡ Some first → AreKnown known.now.git }
 {
-    known.git.check();
     let old = residue_below(alloc, &known.git, first_tree(known, c))?;
     is_handed_on(alloc, &old, &c.files)
 }
 
 // The tree of the first parent; `None` exactly where a commit has no parent.
 fn first_tree(known: &Known, c: &GitDraft) -> Option<Id>
-    ensures { (blocks : List Block) (v : CommitView) → IsCommitOver known.now blocks c.now v
+    ensures tree { (blocks : List Block) (v : CommitView) → IsCommitOver known.now blocks c.now v
         → MatchOption result (block_of_node blocks (first_partner blocks v) ≡ None) (IsTreeOf blocks (first_partner blocks v)) }
+    ensures known { (first : text.Id) → slice_get (c.now.commit).parents 0 ≡ Some first → AreKnown known.now.git }
 {
     let Some(first) = c.commit.parents.as_slice().first() else {
         return None;

@@ -3,6 +3,7 @@ use Rattle.std.proofs.Common.{◌≡◌, ◌⊎◌, ◌+◌, ℕ, zero, suc, inl
 use Rattle.std.specs.Prelude.{slice_get, IsTrue}
 use Rattle.std.proofs.lemmas.List.{take-append-drop}
 use Rattle.std.proofs.lemmas.List.Elements.{filter-append}
+use Rattle.text_model.proofs.Options.{some_is}
 use Rattle.text_model.specs.Id.{Id}
 use Rattle.text_model.specs.Fault.{FaultName, Refusal}
 use Rattle.text_model.proofs.Elements.{drop_next, map_append, take_push}
@@ -174,9 +175,6 @@ pub record IsAt (came : List Arrival) (i : ℕ) (list : listed.Arrival) : Type 0
 pub entry-at : (came : List Arrival) (i : ℕ) (list : listed.Arrival) → slice_get (map arrival_of came) i ≡ Some list → IsAt came i list
 entry-at [] i list h = absurd cc
 entry-at (a ∷ came) zero list h = record { entry = a; at = refl; is = some_is (sym h) }
-  where
-    some_is : {X : Type 0} {x y : X} → Some x ≡ Some y → x ≡ y
-    some_is e = cc
 entry-at (a ∷ came) (suc i) list h = let r = entry-at came i list h in record { entry = r.entry; at = r.at; is = r.is }
 
 parted : (came : List Arrival) (i : ℕ) (a : Arrival) → slice_get came i ≡ Some a → came ≡ take i came ++ a ∷ drop (i + 1) came

@@ -5,7 +5,7 @@ ghost use Rattle.text_model.specs.Id.{tree, same_kind};
 ghost use Rattle.bridge_text.specs.Kinds.{object_kind};
 ghost use Rattle.git_model.specs.Commit.{commit_text};
 ghost use Rattle.git_model.specs.Unfold.{walk_fault};
-ghost use Rattle.git_store.specs.Known.{knows_same};
+ghost use Rattle.git_store.specs.Known.{AreKnown, knows_same};
 ghost use Rattle.view_model.specs.View.{ChangesetView, CommitView, SameCommit, changeset_node};
 ghost use Rattle.view_model.specs.Held.{IsCommitHeld};
 ghost use Rattle.pair_model.specs.Block.{Block};
@@ -35,7 +35,6 @@ pub fn is_kept(
     ensures { IfOk result (λ same. (e c : CommitView) → IsCommitHeld known.now.git id.now e → IsMadeCommit known.now.git partner.now c → (IsTrue same ↔ SameCommit e c)) }
 {
     commits_are_held(&known.git, id);
-    known.git.check();
     if !has_text(&known.git, id, text) {
         return Ok(false);
     }
@@ -49,7 +48,8 @@ pub fn is_kept(
 
 // Whether the commit with this id has this text.
 fn has_text(git: &GitStore, id: &Id, text: &[u8]) -> bool
-    ensures { (e : CommitView) → IsCommitHeld git.now id.now e → result ≡ bytes_eq (commit_text e.value) text.now }
+    ensures same { (e : CommitView) → IsCommitHeld git.now id.now e → result ≡ bytes_eq (commit_text e.value) text.now }
+    ensures known { AreKnown git.now }
 {
     match git.content(id) {
         Some((_, content)) => content == text,

@@ -4,6 +4,7 @@ use Rattle.std.specs.List.{position_or_len}
 use Rattle.std.proofs.lemmas.Bool.Decides.{eqb_tells}
 use Rattle.std.proofs.lemmas.Bool.{eq-eqb, lt-ltb, ltb-true, ltb-false}
 use Rattle.std.proofs.lemmas.List.{take_at, length-append}
+use Rattle.text_model.proofs.Options.{none_some, some_is, some_none}
 use Rattle.text_model.proofs.TestLemmas.{differs}
 use Rattle.text_model.specs.Cuts.{Lacks, cut_of}
 
@@ -55,19 +56,13 @@ pub cut_of-takes : (b : ℕ) (bytes front rest : List ℕ) → cut_of b bytes �
 unfolding cut_of IsFirst
 cut_of-takes b bytes front rest e = by (ltb (position_or_len (λ x. x == b) bytes) (length bytes)) refl
   where
-    some_is : (x y : List ℕ × List ℕ) → Some x ≡ Some y → x ≡ y
-    some_is x y h = cc
-
-    none_some : (y : List ℕ × List ℕ) → None ≡ Some y → ⊥
-    none_some y h = cc
-
     by : (t : Bool) → ltb (position_or_len (λ x. x == b) bytes) (length bytes) ≡ t → (bytes ≡ front ++ b ∷ rest) × Lacks b front
     by true t =
         let i = position_or_len (λ x. x == b) bytes in
         let parts = found b bytes i refl (ltb-true _ _ t) in
-        let is : (take i bytes, drop (suc i) bytes) ≡ (front, rest) = some_is (take i bytes, drop (suc i) bytes) (front, rest) (sym (rw t refl) ∙ e) in
+        let is : (take i bytes, drop (suc i) bytes) ≡ (front, rest) = some_is {x = (take i bytes, drop (suc i) bytes)} {y = (front, rest)} (sym (rw t refl) ∙ e) in
         subst (λ (x : List ℕ × List ℕ). (bytes ≡ x.0 ++ b ∷ x.1) × Lacks b x.0) is parts
-    by false t = absurd (none_some (front, rest) (sym (rw t refl) ∙ e))
+    by false t = absurd (none_some {x = (front, rest)} (sym (rw t refl) ∙ e))
 
 -- where nothing is cut off the byte is nowhere
 lacks_all : (b : ℕ) (bytes : List ℕ) → length bytes ≤ position_or_len (λ x. x == b) bytes → Lacks b bytes
@@ -84,9 +79,6 @@ pub cut_of-none : (b : ℕ) (bytes : List ℕ) → cut_of b bytes ≡ None → L
 unfolding cut_of
 cut_of-none b bytes e = by (ltb (position_or_len (λ x. x == b) bytes) (length bytes)) refl
   where
-    some_none : (y : List ℕ × List ℕ) → Some y ≡ None → ⊥
-    some_none y h = cc
-
     by : (t : Bool) → ltb (position_or_len (λ x. x == b) bytes) (length bytes) ≡ t → Lacks b bytes
-    by true t = absurd (some_none (take (position_or_len (λ x. x == b) bytes) bytes, drop (suc (position_or_len (λ x. x == b) bytes)) bytes) (sym (rw t refl) ∙ e))
+    by true t = absurd (some_none {x = (take (position_or_len (λ x. x == b) bytes) bytes, drop (suc (position_or_len (λ x. x == b) bytes)) bytes)} (sym (rw t refl) ∙ e))
     by false t = lacks_all b bytes (ltb-false _ _ t)

@@ -4,6 +4,7 @@ use Rattle.std.specs.List.{flat_map}
 use Rattle.text_model.specs.Lists.{Each}
 use Rattle.std.proofs.lemmas.List.{append-nil, length-append}
 use Rattle.std.proofs.lemmas.List.Concat.{flat_map-append}
+use Rattle.text_model.proofs.Options.{none_some, some_is}
 use Rattle.text_model.proofs.EachLemmas.{Each-push}
 use Rattle.text_model.specs.Items.{Follow, state_after, Begins, NoItem, ReadsItems}
 
@@ -41,23 +42,17 @@ module _ {I S : Type 0} (text : I → List ℕ) (Is : I → Type 0) (step : S �
   Begins-all s bytes xs b = b.whole ∙ append-nil (flat_map text xs)
 
   module _ (at : List ℕ → Option (I × List ℕ)) (reads : ReadsItems text Is step Fits at) where
-    none_some : (x : I × List ℕ) → None ≡ Some x → ⊥
-    none_some x h = cc
-
-    some_is : (x y : I × List ℕ) → Some x ≡ Some y → x ≡ y
-    some_is x y h = cc
-
     -- where nothing is read no item stands
     pub NoItem-from_none : (bytes : List ℕ) → None ≡ at bytes → NoItem text Is step Fits bytes
-    NoItem-from_none bytes e x more i whole = absurd (none_some (x, more) (e ∙ ap at whole ∙ reads.again x more i))
+    NoItem-from_none bytes e x more i whole = absurd (none_some {x = (x, more)} (e ∙ ap at whole ∙ reads.again x more i))
 
     -- items are spelled in one way
     pub one_list : (xs ys : List I) → Each Is xs → Each Is ys → flat_map text xs ≡ flat_map text ys → xs ≡ ys
     one_list [] [] hx hy e = refl
-    one_list [] (y ∷ ys) hx hy e = absurd (none_some (y, flat_map text ys) (sym reads.ends ∙ ap at e ∙ reads.again y (flat_map text ys) hy.0))
-    one_list (x ∷ xs) [] hx hy e = absurd (none_some (x, flat_map text xs) (sym reads.ends ∙ ap at (sym e) ∙ reads.again x (flat_map text xs) hx.0))
+    one_list [] (y ∷ ys) hx hy e = absurd (none_some {x = (y, flat_map text ys)} (sym reads.ends ∙ ap at e ∙ reads.again y (flat_map text ys) hy.0))
+    one_list (x ∷ xs) [] hx hy e = absurd (none_some {x = (x, flat_map text xs)} (sym reads.ends ∙ ap at (sym e) ∙ reads.again x (flat_map text xs) hx.0))
     one_list (x ∷ xs) (y ∷ ys) hx hy e =
-        let same = some_is (x, flat_map text xs) (y, flat_map text ys) (sym (reads.again x (flat_map text xs) hx.0) ∙ ap at e ∙ reads.again y (flat_map text ys) hy.0) in
+        let same = some_is {x = (x, flat_map text xs)} {y = (y, flat_map text ys)} (sym (reads.again x (flat_map text xs) hx.0) ∙ ap at e ∙ reads.again y (flat_map text ys) hy.0) in
         (λ i. ap (λ (p : I × List ℕ). p.0) same i ∷ one_list xs ys hx.1 hy.1 (ap (λ (p : I × List ℕ). p.1) same) i)
 
     -- where items spell the bytes, those that begin them are the first of these
@@ -70,9 +65,9 @@ module _ {I S : Type 0} (text : I → List ℕ) (Is : I → Type 0) (step : S �
 
     pub continues : (s : S) (xs es : List I) (rest : List ℕ) → Each Is xs → Each Is es → Follow text Is step Fits s es → flat_map text es ≡ flat_map text xs ++ rest → Continues s xs es rest
     continues s [] es rest hx he f e = record { ys = es; whole = refl; rest_is = sym e; each = he; follow = f }
-    continues s (x ∷ xs) [] rest hx he f e = absurd (none_some (x, flat_map text xs ++ rest) (sym reads.ends ∙ ap at (e ∙ append_assoc (text x) (flat_map text xs) rest) ∙ reads.again x (flat_map text xs ++ rest) hx.0))
+    continues s (x ∷ xs) [] rest hx he f e = absurd (none_some {x = (x, flat_map text xs ++ rest)} (sym reads.ends ∙ ap at (e ∙ append_assoc (text x) (flat_map text xs) rest) ∙ reads.again x (flat_map text xs ++ rest) hx.0))
     continues s (x ∷ xs) (y ∷ ys) rest hx he f e =
-        let same = some_is (y, flat_map text ys) (x, flat_map text xs ++ rest) (sym (reads.again y (flat_map text ys) he.0) ∙ ap at (e ∙ append_assoc (text x) (flat_map text xs) rest) ∙ reads.again x (flat_map text xs ++ rest) hx.0) in
+        let same = some_is {x = (y, flat_map text ys)} {y = (x, flat_map text xs ++ rest)} (sym (reads.again y (flat_map text ys) he.0) ∙ ap at (e ∙ append_assoc (text x) (flat_map text xs) rest) ∙ reads.again x (flat_map text xs ++ rest) hx.0) in
         let head : y ≡ x = ap (λ (p : I × List ℕ). p.0) same in
         let tail : flat_map text ys ≡ flat_map text xs ++ rest = ap (λ (p : I × List ℕ). p.1) same in
         let go = continues (step s y) xs ys rest hx.1 he.1 f.1 tail in

@@ -1,6 +1,7 @@
 -- Lines: the first one as a cut at LF, and a text as its lines.
 use Rattle.std.proofs.Common.{◌≡◌, ◌<◌, ◌≤◌, ◌+◌, ◌-◌, ◌==◌, eqb-true, ℕ, suc, Bool, true, false, List, [], ◌∷◌, ◌++◌, length, take, drop, Option, Some, None, option_map, position, refl, sym, ap, subst, ◌∙◌, arith, length-append, length-take, length-drop, drop-drop}
 use Rattle.std.specs.List.{flat_map}
+use Rattle.text_model.proofs.Options.{none_some, some_is, some_none}
 use Rattle.text_model.specs.Text.{Bytes, lf, first_line, onto_first_line, whole_lines}
 use Rattle.text_model.specs.Cuts.{Lacks, cut_of, place_from}
 use Rattle.text_model.proofs.TestLemmas.{differs}
@@ -83,23 +84,14 @@ place_is b text from i le e =
 pub place_from-takes : (b : ℕ) (text : Bytes) (from place : ℕ) → from ≤ length text → place_from b text from ≡ Some place → StandsAt b text from place
 place_from-takes b text from place le e = by (position (λ x. x == b) (drop from text)) refl
   where
-    some_is : (x y : ℕ) → Some x ≡ Some y → x ≡ y
-    some_is x y h = cc
-
-    none_some : (y : ℕ) → None ≡ Some y → ⊥
-    none_some y h = cc
-
     by : (r : Option ℕ) → position (λ x. x == b) (drop from text) ≡ r → StandsAt b text from place
-    by None p = absurd (none_some place (sym (ap (option_map (λ (i : ℕ). from + i)) p) ∙ e))
-    by (Some i) p = subst (StandsAt b text from) (some_is (from + i) place (sym (ap (option_map (λ (k : ℕ). from + k)) p) ∙ e)) (place_is b text from i le p)
+    by None p = absurd (none_some {x = place} (sym (ap (option_map (λ (i : ℕ). from + i)) p) ∙ e))
+    by (Some i) p = subst (StandsAt b text from) (some_is {x = from + i} {y = place} (sym (ap (option_map (λ (k : ℕ). from + k)) p) ∙ e)) (place_is b text from i le p)
 
 pub place_from-none : (b : ℕ) (text : Bytes) (from : ℕ) → place_from b text from ≡ None → Lacks b (drop from text)
 unfolding cut_of
 place_from-none b text from e = by (position (λ x. x == b) (drop from text)) refl
   where
-    some_none : (y : ℕ) → Some y ≡ None → ⊥
-    some_none y h = cc
-
     by : (r : Option ℕ) → position (λ x. x == b) (drop from text) ≡ r → Lacks b (drop from text)
     by None p = cut_of-none b (drop from text) (ap (option_map (λ (k : ℕ). (take k (drop from text), drop (suc k) (drop from text)))) p)
-    by (Some i) p = absurd (some_none (from + i) (sym (ap (option_map (λ (k : ℕ). from + k)) p) ∙ e))
+    by (Some i) p = absurd (some_none {x = from + i} (sym (ap (option_map (λ (k : ℕ). from + k)) p) ∙ e))

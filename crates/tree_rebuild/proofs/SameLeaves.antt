@@ -4,6 +4,7 @@ use Rattle.std.proofs.Common.{◌≡◌, Bool, true, false, ◌&&◌, List, [], 
 use Rattle.std.specs.Prelude.{bytes_eq}
 use Rattle.std.proofs.lemmas.Slice.Eq.{bytes_eq-Decides}
 use Rattle.std.proofs.lemmas.Bool.{and_from}
+use Rattle.text_model.proofs.Options.{some_is}
 use Rattle.text_model.specs.Lists.{Each}
 use Rattle.text_model.specs.Text.{Bytes}
 use Rattle.text_model.proofs.TestLemmas.{both, bytes_eq-self}
@@ -32,9 +33,6 @@ mode-back Gitlink = refl
 
 pub mode-one : (a b : Mode) → mode_text a ≡ mode_text b → a ≡ b
 mode-one a b h = some_is (sym (mode-back a) ∙ ap mode_of h ∙ mode-back b)
-  where
-    some_is : Some a ≡ Some b → a ≡ b
-    some_is q = cc
 
 pub leaf-one : (a b : Leaf) → same_leaf a b ≡ true → a ≡ b
 leaf-one a b h =

@@ -1,6 +1,7 @@
 -- A walk that nothing ends goes through whole trees, and its rows give them again.
 use Rattle.std.proofs.Common.{◌≡◌, ◌-◌, ℕ, zero, suc, Bool, true, false, List, [], ◌∷◌, Option, Some, None, refl, sym, ap, subst, ◌∙◌, inl, inr, arith}
 use Rattle.std.specs.Prelude.{filter, if◌then◌else◌}
+use Rattle.text_model.proofs.Options.{none_some}
 use Rattle.text_model.specs.Lists.{In, Each}
 use Rattle.text_model.specs.Text.{Bytes}
 use Rattle.text_model.specs.Id.{Id, tree, object_id}
@@ -86,11 +87,8 @@ module _ (known : List Object) (are : AreObjects known) where
   pub root-tree : (root : Id) → walk_fault known root ≡ None → (entries : List TreeEntry) × (tree_at known root ≡ Some entries)
   root-tree root h = by (tree_at known root) refl
     where
-      none_some : (w : WalkFault) → None ≡ Some w → ⊥
-      none_some w q = cc
-
       by : (o : Option (List TreeEntry)) → tree_at known root ≡ o → (entries : List TreeEntry) × (tree_at known root ≡ Some entries)
-      by None e = absurd (none_some _ (sym h ∙ no-root known root e))
+      by None e = absurd (none_some {x = _} (sym h ∙ no-root known root e))
       by (Some entries) e = (entries, e)
 
   pub root-sound : (root : Id) (entries : List TreeEntry) → walk_fault known root ≡ None → tree_at known root ≡ Some entries → Sound known 257 root entries

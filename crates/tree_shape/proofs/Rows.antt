@@ -10,6 +10,7 @@ use Rattle.std.specs.declared.cmp.Ordering.{Ordering}
 use Rattle.std.specs.declared.cmp.Ordering.TheVariants.{Less, Equal, Greater}
 use Rattle.std.specs.Cmp.Lexicographic.{slice_cmp}
 use Rattle.std.proofs.lemmas.Cmp.{nat_cmp_total, ranked, tied_itself}
+use Rattle.text_model.proofs.Options.{some_is}
 use Rattle.text_model.specs.Lists.{In, Each}
 use Rattle.text_model.specs.Text.{Bytes, is_below, has_byte}
 use Rattle.text_model.specs.Path.{components, lies_below}
@@ -203,9 +204,6 @@ first-is row c cs e = ap (λ (names : List Bytes). elim names as (λ _. Option B
 
 pub first-same : (row : FileRow) (c n : Bytes) (cs : List Bytes) → components row.path ≡ c ∷ cs → HasFirst n (leaf_of row) → c ≡ n
 first-same row c n cs e h = some_is (sym (first-is row c cs e) ∙ h)
-  where
-    some_is : Some c ≡ Some n → c ≡ n
-    some_is q = cc
 
 -- ---- the rest of rows in one directory
 

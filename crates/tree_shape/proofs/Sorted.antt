@@ -11,6 +11,7 @@ use Rattle.std.specs.declared.cmp.Ordering.{Ordering}
 use Rattle.std.specs.declared.cmp.Ordering.TheVariants.{Less, Equal, Greater}
 use Rattle.std.proofs.lemmas.Cmp.{nat_list_cmp_total}
 use Rattle.std.proofs.lemmas.Map.Lookups.{exact_bytes}
+use Rattle.text_model.proofs.Options.{some_is}
 use Rattle.text_model.specs.Lists.{In, Each, rises, first_of_each}
 use Rattle.text_model.specs.Text.{Bytes, is_below, has_byte}
 use Rattle.text_model.specs.Id.{tree, object_id}
@@ -45,10 +46,7 @@ named-row n (a ∷ rows) leaf h = by (is_named n (components a.path)) refl h (na
     by : (t : Bool) → is_named n (components a.path) ≡ t → (if t then Some (leaf_of a) else leaf_named n (map leaf_of rows)) ≡ Some leaf
         → (leaf_named n (map leaf_of rows) ≡ Some leaf → (b : FileRow) × In b rows × (leaf ≡ leaf_of b) × (is_named n (components b.path) ≡ true))
         → (b : FileRow) × In b (a ∷ rows) × (leaf ≡ leaf_of b) × (is_named n (components b.path) ≡ true)
-    by true e h rec = (a, inl refl, sym (some_is (leaf_of a) leaf h), e)
-      where
-        some_is : (x y : Leaf) → Some x ≡ Some y → x ≡ y
-        some_is x y q = cc
+    by true e h rec = (a, inl refl, sym (some_is {x = leaf_of a} {y = leaf} h), e)
     by false e h rec = let r = rec h in (r.0, inr r.1, r.2, r.3)
 
 not-named : (n : Bytes) (rows : List FileRow) → leaf_named n (map leaf_of rows) ≡ None → (a : FileRow) → In a rows → is_named n (components a.path) ≡ false

@@ -24,7 +24,7 @@ returns-in-Some-commit c =
     c.as_slice.ensures ∙ ap (λ (d : GitDraft). (d.commit).parents) c.c.view_is ∙ ap (λ (x : Commit). x.parents) (sym over.draft.value) in
     let at = sym (c.in-Some.ensures.value ∙ ap (λ (l : List Id). slice_get l 0) ids) in
     is ∙ ap (λ (x : Commit). residue_of (tree_rows known.git x.tree_id)) c.parent.view_is
-    ∙ residue-is known blocks c.args.c.now v over c.in-Some.first.now at c.check.ensures c.in-Some-commit.parent.now c.in-Some-commit.ensures.commit)
+    ∙ residue-is known blocks c.args.c.now v over c.in-Some.first.now at c.in-Some-commit.ensures.known c.in-Some-commit.parent.now c.in-Some-commit.ensures.commit)
     c.residue_at.ensures
 
 pub returns-in-None : goal.returns-in-None

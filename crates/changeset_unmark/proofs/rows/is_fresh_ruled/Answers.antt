@@ -19,7 +19,7 @@ returns-then-eq c = λ r s w is.
     let order = c.file_order-parents.ensures ∙ ap (λ m. file_order m c.args.file.now.p c.args.file.now.q) (lent_meta c.in-Ok.meta ∙ parts.0) in
     let at = c.in-Some.ensures.node w.path r s is.in_first is.in_second ∙ ap (λ (x : RowValue). option_map file_node (option_or (with_body x.blob r) (with_body x.blob s))) c.row.view_is in
     let test = sym c.if-eq.true ∙ c.eq.ensures ∙ ap (λ (x : RowValue). bytes_eq c.in-Some.node x.node) c.row.view_is in
-    kept_back c.args.store.now c.check.ensures (fresh_revision c.args.file.now) c.args.row.now _ _ r s w is c.in-Some.node at c.file_order-parents.result order
+    kept_back c.args.store.now (fresh_revision c.args.file.now) c.args.row.now _ _ r s w is c.in-Some.node at c.file_order-parents.result order
     (option_map (λ m. m.now) c.in-Ok.meta) parts.0 true c.is_held_so.result test (λ e x path node held. c.is_held_so.ensures x path node held)
 
 pub returns-else-eq : goal.returns-else-eq
@@ -28,7 +28,7 @@ returns-else-eq c = λ r s w is.
     let order = c.file_order-parents.ensures ∙ ap (λ m. file_order m c.args.file.now.p c.args.file.now.q) (lent_meta c.in-Ok.meta ∙ parts.0) in
     let at = c.in-Some.ensures.node w.path r s is.in_first is.in_second ∙ ap (λ (x : RowValue). option_map file_node (option_or (with_body x.blob r) (with_body x.blob s))) c.row.view_is in
     let test = sym c.if-eq.false ∙ c.eq.ensures ∙ ap (λ (x : RowValue). bytes_eq c.in-Some.node x.node) c.row.view_is in
-    let none = kept_back c.args.store.now c.check.ensures (fresh_revision c.args.file.now) c.args.row.now _ _ r s w is c.in-Some.node at c.file_order-parents.result order
+    let none = kept_back c.args.store.now (fresh_revision c.args.file.now) c.args.row.now _ _ r s w is c.in-Some.node at c.file_order-parents.result order
     (option_map (λ m. m.now) c.in-Ok.meta) parts.0 false false test (λ e x path node held. absurd (true≢false (sym e))) in
     subst (λ (b : Bool). IsTrue b ↔ SameRow (row_again r s w) w) (sym c.if-eq.false) none
 
@@ -40,7 +40,7 @@ returns-then-eq-2 c = λ r s w is.
     let new = c.parents_over-new.ensures ∙ (λ i. ordered (c.node_or_null.ensures i) (c.node_or_null-in-None.ensures i)) in
     let same = pairs_same c.file_order-parents.result c.parents_over-new.result (sym c.eq-in-None.ensures ∙ c.if-eq-2.true) in
     let plain = plain-at c.is_plain.result (option_map (λ m. m.now) c.in-Ok.meta) (w.revision).meta c.in-Ok.body.now (w.revision).body parts.0 parts.1 (c.is_plain.ensures (c.in-Ok.ensures.ok).0) in
-    new_back c.args.store.now c.check.ensures (fresh_revision c.args.file.now) c.args.row.now _ _ r s w is at c.file_order-parents.result order c.parents_over-new.result new
+    new_back c.args.store.now (fresh_revision c.args.file.now) c.args.row.now _ _ r s w is at c.file_order-parents.result order c.parents_over-new.result new
     true c.is_plain.result ((λ _. same), (λ _. refl)) plain
 
 pub returns-else-eq-2 : goal.returns-else-eq-2
@@ -51,5 +51,5 @@ returns-else-eq-2 c = λ r s w is.
     let new = c.parents_over-new.ensures ∙ (λ i. ordered (c.node_or_null.ensures i) (c.node_or_null-in-None.ensures i)) in
     let differ = λ (e : c.file_order-parents.result ≡ c.parents_over-new.result). true≢false (sym (same_pairs c.file_order-parents.result c.parents_over-new.result e) ∙ sym c.eq-in-None.ensures ∙ c.if-eq-2.false) in (
       (λ t. absurd (true≢false (sym t ∙ c.if-eq-2.false))),
-      (λ same. absurd (not_new c.args.store.now c.check.ensures (fresh_revision c.args.file.now) c.args.row.now _ _ r s w is at c.file_order-parents.result order c.parents_over-new.result new differ same)),
+      (λ same. absurd (not_new c.args.store.now (fresh_revision c.args.file.now) c.args.row.now _ _ r s w is at c.file_order-parents.result order c.parents_over-new.result new differ same)),
     )

@@ -26,7 +26,7 @@ returns-in_default c = λ blocks v inside commit u.
     let bounds : (3 ≤ c.args.count) × (c.args.count ≤ 64) = subst IsParentCount c.requires.many c.requires.date.3.parents in
     let date = subst (λ (x : Changeset). IsDateOf x.date m) (sym inside.draft.fields) c.requires.date in
     leads-none k.hg c.args.count d.p1 d.p2 c.in_ok-nodes.field-0 c.in_default.is c.in_ok-nodes.ensures _
-    (unmarked-leads k c.check.ensures blocks d v inside c.args.count bounds.0 bounds.1 m date c.requires.many commit u)
+    (unmarked-leads k inside.history.added blocks d v inside c.args.count bounds.0 bounds.1 m date c.requires.many commit u)
 
 pub returns-in_default-2 : goal.returns-in_default-2
 returns-in_default-2 c = λ blocks v inside commit u.
@@ -37,7 +37,7 @@ returns-in_default-2 c = λ blocks v inside commit u.
     let date = subst (λ (x : Changeset). IsDateOf x.date m) (sym inside.draft.fields) c.requires.date in
     let leads = leads-found k.hg c.args.count d.p1 d.p2 c.in_ok-nodes.field-0 c.in-Some.nodes c.in-Some.is c.in_ok-nodes.ensures in
     partners_none k.partners c.as_slice.result.now c.in_ok-parents.field-0 c.in_default-2.is c.in_ok-parents.ensures
-    (subst (HavePartners c.args.known.now.partners) (sym c.as_slice.ensures) (unmarked-have k c.check.ensures blocks d v inside c.args.count bounds.0 bounds.1 m date c.requires.many commit u c.in-Some.nodes leads))
+    (subst (HavePartners c.args.known.now.partners) (sym c.as_slice.ensures) (unmarked-have k inside.history.added blocks d v inside c.args.count bounds.0 bounds.1 m date c.requires.many commit u c.in-Some.nodes leads))
 
 pub returns-then-not-are_distinct : goal.returns-then-not-are_distinct
 returns-then-not-are_distinct c = λ blocks v inside commit u.
@@ -48,7 +48,7 @@ returns-then-not-are_distinct c = λ blocks v inside commit u.
     let date = subst (λ (x : Changeset). IsDateOf x.date m) (sym inside.draft.fields) c.requires.date in
     let leads = leads-found k.hg c.args.count d.p1 d.p2 c.in_ok-nodes.field-0 c.in-Some.nodes c.in-Some.is c.in_ok-nodes.ensures in
     let found = partners_some k.partners c.as_slice.result.now c.in_ok-parents.field-0 c.in-Some-2.parents c.in-Some-2.is c.in_ok-parents.ensures in
-    let same = unmarked-ids k c.check.ensures blocks d v inside c.args.count bounds.0 bounds.1 m date c.requires.many commit u c.in-Some.nodes leads c.in-Some-2.parents (found.1 ∙ ap (partners_at k.partners) c.as_slice.ensures) in
+    let same = unmarked-ids k inside.history.added blocks d v inside c.args.count bounds.0 bounds.1 m date c.requires.many commit u c.in-Some.nodes leads c.in-Some-2.parents (found.1 ∙ ap (partners_at k.partners) c.as_slice.ensures) in
     true≢false (sym (ap has_distinct (sym same) ∙ u.view.distinct) ∙ sym (c.are_distinct.ensures ∙ ap has_distinct c.as_slice-2.ensures) ∙ c.if-not-are_distinct.true)
 
 pub unmark_through-requires-clause-over : goal.unmark_through-requires-clause-over
@@ -62,7 +62,7 @@ unmark_through-requires-clause-over c =
     let distinct = sym (c.are_distinct.ensures ∙ ap has_distinct c.as_slice-2.ensures) ∙ c.if-not-are_distinct.false in (
       inside.0,
       inside.1,
-      octopus-over k c.check.ensures inside.0 d inside.1 inside.2 c.args.count bounds.0 bounds.1 c.in-Some.nodes leads
+      octopus-over k inside.2.history.added inside.0 d inside.1 inside.2 c.args.count bounds.0 bounds.1 c.in-Some.nodes leads
           (subst (HavePartners c.args.known.now.partners) c.as_slice.ensures found.0) c.in-Some-2.parents (found.1 ∙ ap (partners_at k.partners) c.as_slice.ensures) distinct,
     )
 
@@ -74,7 +74,7 @@ unmark_through-requires-clause-many c =
     let bounds : (3 ≤ c.args.count) × (c.args.count ≤ 64) = subst IsParentCount c.requires.many c.requires.date.3.parents in
     let leads = leads-found k.hg c.args.count d.p1 d.p2 c.in_ok-nodes.field-0 c.in-Some.nodes c.in-Some.is c.in_ok-nodes.ensures in
     let found = partners_some k.partners c.as_slice.result.now c.in_ok-parents.field-0 c.in-Some-2.parents c.in-Some-2.is c.in_ok-parents.ensures in
-    c.requires.many ∙ ap Some (sym (ids-count k c.check.ensures inside.0 d inside.1 inside.2 c.args.count bounds.0 bounds.1 c.in-Some.nodes leads c.in-Some-2.parents (found.1 ∙ ap (partners_at k.partners) c.as_slice.ensures)))
+    c.requires.many ∙ ap Some (sym (ids-count k inside.2.history.added inside.0 d inside.1 inside.2 c.args.count bounds.0 bounds.1 c.in-Some.nodes leads c.in-Some-2.parents (found.1 ∙ ap (partners_at k.partners) c.as_slice.ensures)))
 
 pub returns : goal.returns
 returns c =
@@ -88,6 +88,6 @@ returns c =
     let distinct = sym (c.are_distinct.ensures ∙ ap has_distinct c.as_slice-2.ensures) ∙ c.if-not-are_distinct.false in
     if_weaker c.unmark_through.result _ _ (λ answer says blocks v inside.
     let date = subst (λ (x : Changeset). IsDateOf x.date m) (sym inside.draft.fields) c.requires.date in
-    let over = octopus-over k c.check.ensures blocks d v inside c.args.count bounds.0 bounds.1 c.in-Some.nodes leads (subst (HavePartners c.args.known.now.partners) c.as_slice.ensures found.0) c.in-Some-2.parents ids-are distinct in
-    through-whole k blocks v c.in-Some-2.parents (λ commit u. unmarked-ids k c.check.ensures blocks d v inside c.args.count bounds.0 bounds.1 m date c.requires.many commit u c.in-Some.nodes leads c.in-Some-2.parents ids-are)
+    let over = octopus-over k inside.history.added blocks d v inside c.args.count bounds.0 bounds.1 c.in-Some.nodes leads (subst (HavePartners c.args.known.now.partners) c.as_slice.ensures found.0) c.in-Some-2.parents ids-are distinct in
+    through-whole k blocks v c.in-Some-2.parents (λ commit u. unmarked-ids k inside.history.added blocks d v inside c.args.count bounds.0 bounds.1 m date c.requires.many commit u c.in-Some.nodes leads c.in-Some-2.parents ids-are)
     answer (says blocks v over)) c.unmark_through.ensures

@@ -24,48 +24,48 @@ parent_of-first-requires c = record { known = (c.requires.over.3.base, c.require
 pub parent_of-second-requires : goal.parent_of-second-requires
 parent_of-second-requires c =
     let over = c.requires.over in
-    record { known = ((over.2).second, second-view c.args.known.now c.check-2.ensures over.0 c.args.h.now over.1 c.args.parents c.args.node.now over.2 over.3) }
+    record { known = ((over.2).second, second-view c.args.known.now over.3.inside.history.added over.0 c.args.h.now over.1 c.args.parents c.args.node.now over.2 over.3) }
 
-pub returns-then-not-branch : goal.returns-then-not-branch
-returns-then-not-branch c = λ blocks v ps over named.
-    let second = c.parent_of-second.ensures.view ps.second (second-view c.args.known.now c.check-2.ensures blocks c.args.h.now v c.args.parents c.args.node.now ps over) in
+pub returns-then-not-branch-clause-found : goal.returns-then-not-branch-clause-found
+returns-then-not-branch-clause-found c = λ blocks v ps over named.
+    let second = c.parent_of-second.ensures.view ps.second (second-view c.args.known.now over.inside.history.added blocks c.args.h.now v c.args.parents c.args.node.now ps over) in
     let draft =
-    draft-over c.args.known.now c.check-2.ensures blocks c.args.h.now v c.args.parents c.args.node.now ps over c.parent_of-first.result c.parent_of-second.result (c.parent_of-first.ensures.view over.base over.at_first) second
+    draft-over c.args.known.now over.inside.history.added blocks c.args.h.now v c.args.parents c.args.node.now ps over c.parent_of-first.result c.parent_of-second.result (c.parent_of-first.ensures.view over.base over.at_first) second
     c.parent_of-first.ensures.there c.parent_of-second.ensures.there in
     true≢false (sym ((c.in_ok-lists_come_back.ensures ps v draft).1 named.lists) ∙ c.if-not-branch.true)
 
 pub rows_named-requires-clause-files : goal.rows_named-requires-clause-files
 rows_named-requires-clause-files c =
     let over = c.requires.over in
-    are-rows c.args.known.now c.check-2.ensures over.0 c.args.h.now over.1 c.args.parents c.args.node.now over.2 over.3
+    are-rows c.args.known.now over.3.inside.history.added over.0 c.args.h.now over.1 c.args.parents c.args.node.now over.2 over.3
 
 pub rows_named-requires-clause-right : goal.rows_named-requires-clause-right
 rows_named-requires-clause-right c =
     let over = c.requires.over in
-    rows-right c.args.known.now c.check-2.ensures over.0 c.args.h.now over.1 c.args.parents c.args.node.now over.2 over.3 c.check.ensures c.tree_of_partner-old.result
-    (c.tree_of_partner-old.ensures over.0 over.3.inside.history.held) c.args.marks.tree c.requires.date.3.tree
+    rows-right c.args.known.now over.3.inside.history.added over.0 c.args.h.now over.1 c.args.parents c.args.node.now over.2 over.3 c.check.ensures c.tree_of_partner-old.result
+    (c.tree_of_partner-old.ensures.tree over.0 over.3.inside.history.held) c.args.marks.tree c.requires.date.3.tree
 
-pub returns-in_default : goal.returns-in_default
-returns-in_default c = λ blocks v ps over named.
+pub returns-in_default-clause-found : goal.returns-in_default-clause-found
+returns-in_default-clause-found c = λ blocks v ps over named.
     rows_none _ _ c.args.marks.tree c.in_ok-files.field-0 c.in_default.is c.in_ok-files.ensures
-    (named-residue c.args.known.now c.check-2.ensures blocks c.args.h.now v c.args.parents c.args.node.now ps over c.check.ensures c.tree_of_partner-old.result
-    (c.tree_of_partner-old.ensures blocks over.inside.history.held) c.args.marks.tree named.residue)
+    (named-residue c.args.known.now over.inside.history.added blocks c.args.h.now v c.args.parents c.args.node.now ps over c.check.ensures c.tree_of_partner-old.result
+    (c.tree_of_partner-old.ensures.tree blocks over.inside.history.held) c.args.marks.tree named.residue)
 
-pub returns-in_default-2 : goal.returns-in_default-2
-returns-in_default-2 c = λ blocks v ps over named.
+pub returns-in_default-2-clause-found : goal.returns-in_default-2-clause-found
+returns-in_default-2-clause-found c = λ blocks v ps over named.
     head_none c.args.parents (changeset_value c.args.h.now.changeset) (changeset_marks c.args.marks) c.in_ok-head.field-0 c.in_default-2.is c.in_ok-head.ensures
     (subst (λ (x : Changeset). IsHead null c.args.parents x (changeset_marks c.args.marks)) over.inside.draft.fields named.head)
 
 pub made_of-requires-clause-held : goal.made_of-requires-clause-held
 made_of-requires-clause-held c =
     let over = c.requires.over in
-    (over.1.rows, rows-of c.args.known.now c.check-2.ensures over.0 c.args.h.now over.1 c.args.parents c.args.node.now over.2 over.3)
+    (over.1.rows, rows-of c.args.known.now over.3.inside.history.added over.0 c.args.h.now over.1 c.args.parents c.args.node.now over.2 over.3)
 
 pub made_of-requires-clause-walks : goal.made_of-requires-clause-walks
 made_of-requires-clause-walks c =
     let over = c.requires.over in
     let held = over.3.inside.history.held in
-    walks-old c.args.known.now over.0 held c.check.ensures c.args.node.now c.tree_of_partner-old.result (c.tree_of_partner-old.ensures over.0 held)
+    walks-old c.args.known.now over.0 held c.check.ensures c.args.node.now c.tree_of_partner-old.result (c.tree_of_partner-old.ensures.tree over.0 held)
 
 pub made_of-requires-clause-apart : goal.made_of-requires-clause-apart
 made_of-requires-clause-apart c =
@@ -74,31 +74,43 @@ made_of-requires-clause-apart c =
     let rows = rows_some files given c.args.marks.tree c.in_ok-files.field-0 c.in-Some.files c.in-Some.is c.in_ok-files.ensures in
     ap first_clash rows.1 ∙ rows.0.apart
 
-pub returns : goal.returns
-returns c = λ blocks v ps over.
+pub returns-clause-found : goal.returns-clause-found
+returns-clause-found c = λ blocks v ps over.
     let k = c.args.known.now in
     let d = c.args.h.now in
     let ids = c.args.parents in
     let node = c.args.node.now in
     let m = changeset_marks c.args.marks in
     let old = c.tree_of_partner-old.result in
-    let is-old = c.tree_of_partner-old.ensures blocks over.inside.history.held in
-    let second = c.parent_of-second.ensures.view ps.second (second-view k c.check-2.ensures blocks d v ids node ps over) in
+    let is-old = c.tree_of_partner-old.ensures.tree blocks over.inside.history.held in
+    let second = c.parent_of-second.ensures.view ps.second (second-view k over.inside.history.added blocks d v ids node ps over) in
     let draft =
-    draft-over k c.check-2.ensures blocks d v ids node ps over c.parent_of-first.result c.parent_of-second.result (c.parent_of-first.ensures.view over.base over.at_first) second
+    draft-over k over.inside.history.added blocks d v ids node ps over c.parent_of-first.result c.parent_of-second.result (c.parent_of-first.ensures.view over.base over.at_first) second
     c.parent_of-first.ensures.there c.parent_of-second.ensures.there in
     let lists = (c.in_ok-lists_come_back.ensures ps v draft).0 c.if-not-branch.false in
     let files = map file_of_row d.rows in
     let rows = rows_some files (carried (residue_below k.git old) files) c.args.marks.tree c.in_ok-files.field-0 c.in-Some.files c.in-Some.is c.in_ok-files.ensures in
     let head = head_some ids (changeset_value d.changeset) m c.in_ok-head.field-0 c.in-Some-2.head c.in-Some-2.is c.in_ok-head.ensures in
-    let residue = residue-named k c.check-2.ensures blocks d v ids node ps over c.check.ensures old is-old c.args.marks.tree rows.0 in
+    let residue = residue-named k over.inside.history.added blocks d v ids node ps over c.check.ensures old is-old c.args.marks.tree rows.0 in
     let named : IsNamed blocks c.args.parents ps v (changeset_marks c.args.marks) = record { head = subst (λ (x : Changeset). IsHead null ids x m) (sym over.inside.draft.fields) head.0; residue = residue; lists = lists } in
-    let fit = items-right k c.check-2.ensures blocks d v ids node ps over c.check.ensures old is-old c.args.marks.tree c.requires.date.3.tree residue.fit in
+    let fit = items-right k over.inside.history.added blocks d v ids node ps over c.check.ensures old is-old c.args.marks.tree c.requires.date.3.tree residue.fit in
     let date = subst (λ (x : Changeset). IsDateOf x.date m) (sym over.inside.draft.fields) c.requires.date in
     let view = is_view blocks (IsHeldView k.hg) v over.inside.view m date ids ps fit over.few over.distinct named in
     let made = c.in_ok-made.ensures in
     let commit = made.commit ∙ ap (λ (x : Commit). record x { tree_id = root_of c.in-Some.files }) head.1 in
     let built =
-    built-commit k c.check-2.ensures blocks d v ids node ps over c.check.ensures old is-old m fit c.in-Some.files rows.1 c.in_ok-made.made made.files commit
-    (made.blobs v.rows (rows-of k c.check-2.ensures blocks d v ids node ps over)) made.trees_are made.trees_held view in
+    built-commit k over.inside.history.added blocks d v ids node ps over c.check.ensures old is-old m fit c.in-Some.files rows.1 c.in_ok-made.made made.files commit
+    (made.blobs v.rows (rows-of k over.inside.history.added blocks d v ids node ps over)) made.trees_are made.trees_held view in
     (named, built, λ short. made-commit k.git c.in_ok-made.made (commit_named blocks ids v m) built (short-rows (items_named (handed_on blocks ids v.rows) m.tree) v.rows short))
+
+pub returns-then-not-branch-clause-known : goal.returns-then-not-branch-clause-known
+returns-then-not-branch-clause-known c = c.check.ensures
+
+pub returns-in_default-clause-known : goal.returns-in_default-clause-known
+returns-in_default-clause-known c = c.check.ensures
+
+pub returns-in_default-2-clause-known : goal.returns-in_default-2-clause-known
+returns-in_default-2-clause-known c = c.check.ensures
+
+pub returns-clause-known : goal.returns-clause-known
+returns-clause-known c = c.check.ensures

@@ -16,33 +16,33 @@ unmark_over-requires-clause-over c =
     let over = c.requires.over in (
       over.0,
       over.1,
-      own c.args.known.now c.check.ensures over.0 c.args.h.now over.1 c.args.parents c.args.nodes.now over.2,
-      named-over c.args.known.now c.check.ensures over.0 c.args.h.now over.1 c.args.parents c.args.nodes.now over.2 c.at-first.result.now c.at-first.ensures,
+      own c.args.known.now over.2.inside.history.added over.0 c.args.h.now over.1 c.args.parents c.args.nodes.now over.2,
+      named-over c.args.known.now over.2.inside.history.added over.0 c.args.h.now over.1 c.args.parents c.args.nodes.now over.2 c.at-first.result.now c.at-first.ensures,
     )
 
 pub returns-in_default : goal.returns-in_default
 returns-in_default c = λ blocks v over.
-    octopus-none c.args.known.now c.check.ensures c.check-2.ensures blocks c.args.h.now v c.args.parents c.args.nodes.now over (changeset_marks c.args.marks) c.requires.date c.requires.many
-    c.at-first.result.now c.at-first.ensures c.in_ok-made.field-0 (c.in_ok-made.ensures blocks v) c.in_default.is
+    octopus-none c.args.known.now over.inside.history.added c.unmark_over.ensures.known blocks c.args.h.now v c.args.parents c.args.nodes.now over (changeset_marks c.args.marks) c.requires.date c.requires.many
+    c.at-first.result.now c.at-first.ensures c.in_ok-made.field-0 (c.in_ok-made.ensures.found blocks v) c.in_default.is
 
 pub parent_of-manifest-requires : goal.parent_of-manifest-requires
 parent_of-manifest-requires c =
     let over = c.requires.over in
     record {
       known = (
-        base c.args.known.now c.check.ensures over.0 c.args.h.now over.1 c.args.parents c.args.nodes.now over.2,
-        first-at-node c.args.known.now c.check.ensures over.0 c.args.h.now over.1 c.args.parents c.args.nodes.now over.2 c.at-first.result.now c.at-first.ensures,
+        base c.args.known.now over.2.inside.history.added over.0 c.args.h.now over.1 c.args.parents c.args.nodes.now over.2,
+        first-at-node c.args.known.now over.2.inside.history.added over.0 c.args.h.now over.1 c.args.parents c.args.nodes.now over.2 c.at-first.result.now c.at-first.ensures,
       );
     }
 
 pub returns-then-not-branch : goal.returns-then-not-branch
 returns-then-not-branch c = λ blocks v over.
-    octopus-apart c.args.known.now c.check.ensures c.check-2.ensures blocks c.args.h.now v c.args.parents c.args.nodes.now over (changeset_marks c.args.marks) c.requires.date c.requires.many
-    c.at-first.result.now c.at-first.ensures c.in_ok-made.field-0 (c.in_ok-made.ensures blocks v)
+    octopus-apart c.args.known.now over.inside.history.added c.unmark_over.ensures.known blocks c.args.h.now v c.args.parents c.args.nodes.now over (changeset_marks c.args.marks) c.requires.date c.requires.many
+    c.at-first.result.now c.at-first.ensures c.in_ok-made.field-0 (c.in_ok-made.ensures.found blocks v)
     c.in-Some.made c.in-Some.is c.parent_of-manifest.result c.parent_of-manifest.ensures.view c.in_ok-are_links_known.field-0 c.as_slice.result.now c.as_slice.ensures c.in_ok-are_links_known.ensures c.if-not-branch.true
 
 pub returns : goal.returns
 returns c = λ blocks v over.
-    octopus-some c.args.known.now c.check.ensures c.check-2.ensures blocks c.args.h.now v c.args.parents c.args.nodes.now over (changeset_marks c.args.marks) c.requires.date c.requires.many
-    c.at-first.result.now c.at-first.ensures c.in_ok-made.field-0 (c.in_ok-made.ensures blocks v)
+    octopus-some c.args.known.now over.inside.history.added c.unmark_over.ensures.known blocks c.args.h.now v c.args.parents c.args.nodes.now over (changeset_marks c.args.marks) c.requires.date c.requires.many
+    c.at-first.result.now c.at-first.ensures c.in_ok-made.field-0 (c.in_ok-made.ensures.found blocks v)
     c.in-Some.made c.in-Some.is c.parent_of-manifest.result c.parent_of-manifest.ensures.view c.in_ok-are_links_known.field-0 c.as_slice.result.now c.as_slice.ensures c.in_ok-are_links_known.ensures c.if-not-branch.false

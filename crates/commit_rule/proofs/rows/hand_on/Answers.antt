@@ -1,4 +1,4 @@
-use Rattle.std.proofs.Common.{◌≡◌, List, [], Option, sym, ap, ◌∙◌}
+use Rattle.std.proofs.Common.{List, sym, ap, ◌∙◌}
 use Rattle.git_model.specs.Residue.{ResidueItem, carried, rows_with}
 use Rattle.git_model.proofs.SortLemmas.{rises-ascends}
 use Rattle.git_model.proofs.ResidueLemmas.{path_of}

@@ -4,7 +4,7 @@ use Rattle.git_model.specs.Shape.{first_clash}
 use Rattle.git_model.specs.Residue.{carried, rows_with}
 use Rattle.tree_shape.specs.Sets.{IsFiles}
 use Rattle.commit_rule.specs.Parts.{residue_below}
-use Rattle.commit_rule.proofs.RuledLemmas.{rows-of, are-files, first-partner, second-partner, walks-old, files-right, files-apart, clear-too, made}
+use Rattle.commit_rule.proofs.RuledLemmas.{rows-of, are-files, first-partner, second-partner, walks-through, files-right, files-apart, clear-too, made}
 use Rattle.commit_rule.proofs.rule.make_commit.Goals as goal
 
 pub files_of-requires : goal.files_of-requires
@@ -16,12 +16,12 @@ hand_on-requires-clause-rows c =
     let over = c.requires.over.2 in
     let old = c.tree_of_partner-old.result in
     subst (λ (fs : List FileRow). IsFiles (rows_with (carried (residue_below k.git old) fs) fs)) (sym c.in_ok-files_of.ensures)
-    (files-right k c.requires.over.0 c.args.h.now c.requires.over.1 over c.check.ensures c.requires.over.3 old (c.tree_of_partner-old.ensures c.requires.over.0 over.inside.history.held))
+    (files-right k c.requires.over.0 c.args.h.now c.requires.over.1 over old c.tree_of_partner-old.ensures.known c.requires.over.3 (c.tree_of_partner-old.ensures.tree c.requires.over.0 over.inside.history.held))
 
 pub trees_over-requires-clause-walks : goal.trees_over-requires-clause-walks
 trees_over-requires-clause-walks c =
     let held = c.requires.over.2.inside.history.held in
-    walks-old c.args.known.now c.requires.over.0 held c.check.ensures c.args.h.now.p1 c.tree_of_partner-old.result (c.tree_of_partner-old.ensures c.requires.over.0 held)
+    walks-through c.args.known.now c.requires.over.0 held c.args.h.now.p1 c.tree_of_partner-old.result (c.tree_of_partner-old.ensures.tree c.requires.over.0 held) c.tree_of_partner-old.ensures.known
 
 pub trees_over-requires-clause-apart : goal.trees_over-requires-clause-apart
 trees_over-requires-clause-apart c =
@@ -29,7 +29,7 @@ trees_over-requires-clause-apart c =
     let over = c.requires.over.2 in
     let old = c.tree_of_partner-old.result in
     ap first_clash (c.in_ok-files.ensures ∙ ap (λ (fs : List FileRow). rows_with (carried (residue_below k.git old) fs) fs) c.in_ok-files_of.ensures)
-    ∙ files-apart k c.requires.over.0 c.args.h.now c.requires.over.1 over c.check.ensures c.requires.over.3 old (c.tree_of_partner-old.ensures c.requires.over.0 over.inside.history.held)
+    ∙ files-apart k c.requires.over.0 c.args.h.now c.requires.over.1 over old c.tree_of_partner-old.ensures.known c.requires.over.3 (c.tree_of_partner-old.ensures.tree c.requires.over.0 over.inside.history.held)
 
 pub fields_of-requires-clause-first : goal.fields_of-requires-clause-first
 fields_of-requires-clause-first c = first-partner c.args.known.now c.requires.over.0 c.args.h.now c.requires.over.1 c.requires.over.2
@@ -46,7 +46,7 @@ returns c = λ blocks v over short.
     let d = c.args.h.now in
     let old = c.tree_of_partner-old.result in
     let clear = clear-too k.hg d c.requires.over.1 v c.requires.over.2.inside.draft over.inside.draft c.requires.over.3 in
-    made k blocks d v over c.check.ensures clear old (c.tree_of_partner-old.ensures blocks over.inside.history.held)
+    made k blocks d v over old c.tree_of_partner-old.ensures.known clear (c.tree_of_partner-old.ensures.tree blocks over.inside.history.held)
     c.in_ok-commit.commit c.in_ok-files.files c.in_ok-trees.trees.root c.in_ok-trees.ensures.root c.in_ok-commit.ensures.fields
     (c.in_ok-files.ensures ∙ ap (λ (fs : List FileRow). rows_with (carried (residue_below k.git old) fs) fs) c.in_ok-files_of.ensures)
     c.in_ok-fresh.fresh c.in_ok-trees.trees.made c.in_ok-commit.ensures.author short (c.in_ok-fresh.ensures v.rows (rows-of k blocks d v over)) c.in_ok-trees.ensures.are c.in_ok-trees.ensures.held _ refl

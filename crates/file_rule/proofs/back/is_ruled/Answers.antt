@@ -12,13 +12,13 @@ blobs r s e = ap (λ (z : RowValue). option_map file_node (option_or (with_body 
 
 pub returns-then-has_node : goal.returns-then-has_node
 returns-then-has_node c = λ r s w is.
-    let same = back-first c.args.store.now c.check.ensures c.args.row.now _ _ r s w is (c.has_node.ensures.0 c.if-has_node.true ∙ ap (λ (x : RowValue). Some x.node) c.row.view_is) in
+    let same = back-first c.args.store.now c.args.row.now _ _ r s w is (c.has_node.ensures.0 c.if-has_node.true ∙ ap (λ (x : RowValue). Some x.node) c.row.view_is) in
     ((λ _. same), (λ _. refl))
 
 pub returns-in-Some : goal.returns-in-Some
 returns-in-Some c = λ r s w is.
-    back-kept c.args.store.now c.check.ensures c.args.row.now _ _ r s w is c.in-Some.node (c.in-Some.ensures.node w.path r s is.in_first is.in_second ∙ blobs r s c.row.view_is) c.eq.result (c.eq.ensures ∙ ap (λ (x : RowValue). bytes_eq c.in-Some.node x.node) c.row.view_is)
+    back-kept c.args.store.now c.args.row.now _ _ r s w is c.in-Some.node (c.in-Some.ensures.node w.path r s is.in_first is.in_second ∙ blobs r s c.row.view_is) c.eq.result (c.eq.ensures ∙ ap (λ (x : RowValue). bytes_eq c.in-Some.node x.node) c.row.view_is)
 
 pub returns-in-None : goal.returns-in-None
 returns-in-None c = λ r s w is.
-    back-new c.args.store.now c.check.ensures c.args.row.now _ _ r s w is c.is_new.result (c.in-None.ensures.node w.path r s is.in_first is.in_second ∙ blobs r s c.row.view_is) (c.is_new.ensures r s w is)
+    back-new c.args.store.now c.args.row.now _ _ r s w is c.is_new.result (c.in-None.ensures.node w.path r s is.in_first is.in_second ∙ blobs r s c.row.view_is) (c.is_new.ensures r s w is)

@@ -11,4 +11,4 @@ returns-clause-ok c = λ r s t is.
     let known = c.args.known.now.hg in
     let file = c.args.file.now in
     let at = c.in-Some.ensures.node known file.path r c.requires.near is.in_first ∙ ap (λ (x : Id). option_map file_node (rule.with_body x r)) c.blob.ensures in
-    kept-ruled known c.check.ensures _ file (rule.flag_of_mode file.mode) _ _ r s t is c.in-Some.node (first-kept (rule.with_body file.id r) (rule.with_body file.id s) c.in-Some.node at) _ c.in_ok-row.ensures refl
+    kept-ruled known _ file (rule.flag_of_mode file.mode) _ _ r s t is c.in-Some.node (first-kept (rule.with_body file.id r) (rule.with_body file.id s) c.in-Some.node at) _ c.in_ok-row.ensures refl

@@ -27,4 +27,4 @@ returns-in_default-clause-ok c =
 pub returns-clause-ok : goal.returns-clause-ok
 returns-clause-ok c = λ r s t is.
     let at = c.in-Some.ensures.node c.args.file.now.path r s is.in_first is.in_second ∙ ap (λ (x : Id). option_map file_node (option_or (rule.with_body x r) (rule.with_body x s))) c.blob.ensures in
-    kept-ruled c.args.known.now.hg c.in-Some.ensures.known _ c.args.file.now (rule.flag_of_mode c.args.file.now.mode) _ _ r s t is c.in-Some.node at _ c.in_ok-row.ensures refl
+    kept-ruled c.args.known.now.hg _ c.args.file.now (rule.flag_of_mode c.args.file.now.mode) _ _ r s t is c.in-Some.node at _ c.in_ok-row.ensures refl

@@ -15,7 +15,7 @@ draft_of_changeset-requires c =
     let v = c.requires.over.1 in
     let over = c.requires.over.2 in
     let at = ap (λ (l : List Link). slice_get l 0) (sym c.deref.ensures.value) ∙ sym c.in-Some.ensures.value in
-    record { view = has-view k.hg c.check.ensures c.in-Some.first.now.p (base k blocks c.args.c.now v over) (first-held k blocks c.args.c.now v over c.in_ok-links.links.items c.in-Some.first.now (c.in_ok-links.ensures blocks v over) at) }
+    record { view = has-view k.hg over.history.added c.in-Some.first.now.p (base k blocks c.args.c.now v over) (first-held k blocks c.args.c.now v over c.in_ok-links.links.items c.in-Some.first.now (c.in_ok-links.ensures blocks v over) at) }
 
 pub returns : goal.returns
 returns c =
@@ -24,5 +24,5 @@ returns c =
     let at = ap (λ (l : List Link). slice_get l 0) (sym c.deref.ensures.value) ∙ sym c.in-Some.ensures.value in
     let held = first-held k blocks c.args.c.now v over c.in_ok-links.links.items c.in-Some.first.now (c.in_ok-links.ensures blocks v over) at in
     let b = base k blocks c.args.c.now v over in
-    all k.hg b (links_of blocks v) (c.in_ok-base.ensures.draft b held) c.in_ok-base.ensures.nothing_fresh (held-is_view k.hg c.check.ensures c.in-Some.first.now.p b held)
+    all k.hg b (links_of blocks v) (c.in_ok-base.ensures.draft b held) c.in_ok-base.ensures.nothing_fresh (held-is_view k.hg over.history.added c.in-Some.first.now.p b held)
     (c.in_ok-links.ensures blocks v over) (overs k blocks c.args.c.now v over)) c.drafts_over.ensures

@@ -1,4 +1,4 @@
-use Rattle.std.proofs.Common.{IsTrue, ◌↔◌, ◌≡◌, true≢false, List, refl, sym, subst, ◌∙◌}
+use Rattle.std.proofs.Common.{IsTrue, ◌↔◌, true≢false, List, sym, subst, ◌∙◌}
 use Rattle.std.proofs.lemmas.Result.{IfOk-weaker}
 use Rattle.view_model.specs.View.{CommitView}
 use Rattle.pair_model.specs.Block.{Block}
@@ -21,4 +21,4 @@ returns c =
     let known = c.args.known.now in
     IfOk-weaker c.has_what_is_handed_on.result _ (λ t. (blocks : List Block) → (v : CommitView) → IsCommitOver known blocks c.args.c.now v → IsTrue t ↔ IsPlainCommit blocks v)
     (λ t test blocks v over.
-    is-plain known blocks c.args.c.now v over c.check.ensures (c.in_ok-has_plain_head.ensures.0 c.if-not-branch.false) t (test blocks v over)) c.has_what_is_handed_on.ensures
+    is-plain known blocks c.args.c.now v over c.has_what_is_handed_on.ensures.known (c.in_ok-has_plain_head.ensures.0 c.if-not-branch.false) t (test blocks v over)) c.has_what_is_handed_on.ensures.same

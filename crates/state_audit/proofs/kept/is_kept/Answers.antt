@@ -11,7 +11,7 @@ draft_of_commit-requires c = record { held = c.requires.held }
 pub returns-then-not-has_text : goal.returns-then-not-has_text
 returns-then-not-has_text c = λ e v held made. (
   (λ t. absurd (true≢false (sym t))),
-  (λ s. absurd (other-text c.args.known.now.git c.args.id.now e v held c.args.partner.now made c.args.text.now c.requires.text (sym (c.has_text.ensures e held) ∙ c.if-not-has_text.true) s)),
+  (λ s. absurd (other-text c.args.known.now.git c.args.id.now e v held c.args.partner.now made c.args.text.now c.requires.text (sym (c.has_text.ensures.same e held) ∙ c.if-not-has_text.true) s)),
 )
 
 pub returns-then-are_stored : goal.returns-then-are_stored
@@ -19,12 +19,12 @@ returns-then-are_stored c = λ e v held made.
     let walk : walk_fault c.args.known.now.git (e.value).tree_id ≡ None =
     subst (λ (x : CommitView). walk_fault c.args.known.now.git (x.value).tree_id ≡ None) (c.commits_are_held.ensures.one c.requires.held.0 e c.requires.held.1 held) c.requires.held.2 in
     let stored = sym c.are_stored.ensures ∙ c.if-are_stored.true in (
-      (λ t. same-held c.args.known.now.git c.args.id.now e v held c.args.partner.now made c.args.text.now c.requires.text (sym (c.has_text.ensures e held) ∙ c.if-not-has_text.false)
-          (λ same. kept-files c.args.known.now.git c.check.ensures c.args.partner.now v made stored c.args.id.now e held walk same)),
+      (λ t. same-held c.args.known.now.git c.args.id.now e v held c.args.partner.now made c.args.text.now c.requires.text (sym (c.has_text.ensures.same e held) ∙ c.if-not-has_text.false)
+          (λ same. kept-files c.args.known.now.git c.has_text.ensures.known c.args.partner.now v made stored c.args.id.now e held walk same)),
       (λ s. refl),
     )
 
 pub returns : goal.returns
 returns c = λ e v held made.
     same-commit c.args.known.now.git c.args.id.now e v held c.args.partner.now made c.args.text.now c.requires.text c.in_ok-kept.kept (c.in_ok-kept.ensures.draft e held) c.are_same_files.result c.are_same_files.ensures
-    (sym (c.has_text.ensures e held) ∙ c.if-not-has_text.false)
+    (sym (c.has_text.ensures.same e held) ∙ c.if-not-has_text.false)
