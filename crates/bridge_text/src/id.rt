@@ -1,4 +1,4 @@
-ghost use Rattle.std.specs.Prelude.{◌≡◌, ◌∷◌, ◌<◌, ◌≤◌, ◌↔◌, [], nat_eq, true, IsTrue};
+ghost use Rattle.std.specs.Prelude.{◌≡◌, ◌∷◌, ◌<◌, ◌≤◌, ◌↔◌, [], length, nat_eq, true, IsTrue};
 ghost use Rattle.std.specs.Int.{w64, from_le_bytes};
 ghost use Rattle.std.specs.Cmp.Lexicographic.{pointwise, nat_list_eq_equiv};
 ghost use Rattle.std.specs.Cmp.{partial_equiv_from_equiv};
@@ -9,7 +9,6 @@ ghost use Rattle.text_model.specs.Text.{IsBytes};
 ghost use Rattle.bridge_text.specs.Words.{word_of};
 ghost use Rattle.text_model.specs.Id.{IsId, is_null, hex, is_hex_id, is_lower_digit, digit_value, bytes_of_digits, id_of_hex};
 
-use crate::bytes::each_is_byte;
 use std::hash::{Hash, Hasher};
 use std::marker::Model;
 
@@ -41,8 +40,9 @@ impl Id {
     pub fn new(bytes: [u8; 20]) -> Id
         ensures { result ≡ bytes }
     {
-        each_is_byte(&bytes);
-        Id { bytes }
+        Id {
+            bytes: id_bytes(bytes.as_slice()),
+        }
     }
 
     /// The bytes of the id.
@@ -60,9 +60,10 @@ impl Id {
         *self == Id::NULL
     }
 
-    /// The id as 40 hex digits, in lower case.
+    /// The id as 40 hex digits, in lower case. An id is 20 bytes.
     pub fn hex(&self) -> [u8; 40]
-        ensures { result ≡ hex self.now }
+        ensures hex { result ≡ hex self.now }
+        ensures id { IsId self.now }
     {
         let mut digits = [0; 40];
         hex::encode_to_slice(self.bytes.as_slice(), &mut digits).unwrap();
@@ -79,6 +80,17 @@ impl Id {
             None
         }
     }
+}
+
+// The twenty bytes of an id, from a slice of them.
+fn id_bytes(raw: &[u8]) -> [u8; 20]
+    requires { length raw.now ≡ 20 }
+    ensures same { result ≡ raw.now }
+    ensures bytes { IsBytes raw.now }
+{
+    let mut bytes = [0; 20];
+    bytes.copy_from_slice(raw);
+    bytes
 }
 
 // Three words, of which the last two overlap, cover the bytes: one byte at a time they would take twenty turns.
@@ -108,7 +120,6 @@ fn word_at(bytes: &[u8; 20], i: usize) -> u64
     ensures value { result ≡ from_le_bytes w64 (word_of bytes.now i) }
     ensures bytes { IsBytes (word_of bytes.now i) }
 {
-    each_is_byte(bytes);
     u64::from_le_bytes([
         bytes[i],
         bytes[i + 1],

@@ -13,7 +13,7 @@ ghost use Rattle.pair_model.specs.Rule as rule;
 ghost use Rattle.file_rule.specs.Parents.{IsRevisionAt, row_with};
 ghost use Rattle.file_rule.specs.Made.{IsMadeRow, IsRowOf, IsFresh, IsKnownAs, IsTextOver, IsRevisionOver, revision_with};
 
-use bridge_text::{Bytes, Id, NoMemory, each_is_byte, node_id};
+use bridge_text::{Bytes, Id, NoMemory, node_id};
 use git_object::Mode;
 use hg_filelog::{canonical_pair, plain_into};
 use hg_manifest::{Entry, Flag};
@@ -154,12 +154,12 @@ fn plain_text(alloc: Global, body: &Text) -> Result<Text, NoMemory>
     ensures bytes { IsBytes body.now }
     ensures text { IfOk result (λ text. text ≡ file_text.file_text (plain_meta body.now) body.now) }
 {
-    each_is_byte(body.as_slice());
-    if !body.as_slice().starts_with(MARK) {
+    let raw = body.as_slice();
+    if !raw.starts_with(MARK) {
         return again(body);
     }
     let mut text = Vec::new(alloc);
-    plain_into(&mut text, body.as_slice())?;
+    plain_into(&mut text, raw)?;
     keep(text)
 }
 

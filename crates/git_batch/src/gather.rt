@@ -3,6 +3,7 @@ ghost use Rattle.std.specs.Prelude.{◌≡◌, [], IfErr, OnOk};
 ghost use Rattle.text_model.specs.Id.{object_id};
 ghost use Rattle.git_model.specs.Stream.{placed_fault};
 ghost use Rattle.bridge_text.specs.Kinds.{object_kind};
+ghost use Rattle.git_store.specs.Known.{AreKnown};
 ghost use Rattle.git_batch.specs.StreamFaults.{IsJudgement, IsOfStream};
 ghost use Rattle.git_batch.specs.Steps.{placed_with, Adds};
 
@@ -36,6 +37,7 @@ impl Gathered {
         ensures ok { OnOk result (Adds (placed_with object content) self.old self.new) }
         ensures fault { IfErr result (IsJudgement (placed_fault self.old.store (placed_with object content))) }
         ensures names { IfErr result IsOfStream }
+        ensures known { OnOk result (AreKnown self.new.store) }
     {
         if let Err(fault) = self.store.add(object.id, object.kind, content) {
             return Err(addition_fault(fault, object.id, object.at));

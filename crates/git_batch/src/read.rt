@@ -1,6 +1,7 @@
 // A stream, read into a store.
 ghost use Rattle.std.specs.Prelude.{◌≡◌, IfSome, IfOk, IfErr, OnOk};
 ghost use Rattle.std.specs.Io.KnownBytes.{IsAtEnd};
+ghost use Rattle.git_store.specs.Known.{AreKnown};
 ghost use Rattle.git_batch.specs.Arrivals.{Brought, Reads};
 ghost use Rattle.git_batch.specs.StreamFaults.{AnswerCause, IsOfStream};
 
@@ -26,6 +27,8 @@ pub fn read_into<S: Source>(
     store: GitStore,
 ) -> Result<(GitStore, ObjectArrivals), StreamFault>
     ensures brought { IfOk result (λ read. Brought store (S.left src.old) read.0 read.1) }
+    // what the store has is sound, if it was before
+    ensures known { IfOk result (λ read. AreKnown store → AreKnown read.0) }
     ensures reads { IfSome (S.left src.old) (λ bytes. Reads store bytes result) }
     ensures end { OnOk result (IsAtEnd (S.left src.new)) }
     ensures names { IfErr result IsOfStream }
@@ -42,6 +45,8 @@ pub fn read_known_into<S: Source, C: Contents>(
     store: GitStore,
 ) -> Result<(GitStore, ObjectArrivals), StreamFault>
     ensures brought { IfOk result (λ read. Brought store (S.left src.old) read.0 read.1) }
+    // what the store has is sound, if it was before
+    ensures known { IfOk result (λ read. AreKnown store → AreKnown read.0) }
     ensures reads { IfSome (S.left src.old) (λ bytes. Reads store bytes result) }
     ensures end { OnOk result (IsAtEnd (S.left src.new)) }
     ensures names { IfErr result IsOfStream }

@@ -81,7 +81,8 @@ impl Residue {
 
     /// Whether the path of an item stands above that of the last, where there is one.
     pub fn fits(&self, item: &ResidueItem) -> bool
-        ensures { result ≡ stands_above self.now item.now }
+        ensures fits { result ≡ stands_above self.now item.now }
+        ensures rise { AreItems self.now }
     {
         match self.items.last() {
             Some(last) => last.path().cmp(item.path()) == Ordering::Less,

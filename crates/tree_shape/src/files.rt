@@ -5,7 +5,7 @@ ghost use Rattle.git_model.specs.Tree.{is_directory};
 ghost use Rattle.tree_shape.specs.Sets.{IsFileRow, IsFiles, stands_above};
 
 use crate::file_row::FileRow;
-use bridge_text::{Kind, NoMemory, each_is_byte, fit_path, object_id};
+use bridge_text::{Kind, NoMemory, fit_path, object_id};
 use std::alloc::Global;
 use std::cmp::Ordering;
 use std::marker::Model;
@@ -147,9 +147,9 @@ fn fits_behind(before: &[FileRow], row: &FileRow) -> bool
 fn is_file_row(row: &FileRow) -> bool
     ensures { IsTrue result ↔ IsFileRow row.now }
 {
-    each_is_byte(row.path());
     let _id = row.blob().bytes();
-    fit_path(row.path()) && is_no_directory_or_empty(row)
+    let path = row.path();
+    fit_path(path) && is_no_directory_or_empty(row)
 }
 
 /// Whether a row that is a directory has the id of the tree without entries.

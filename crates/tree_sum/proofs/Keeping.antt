@@ -56,7 +56,7 @@ module _ (known : List Object) (are : AreObjects known) (levels : ℕ) (id : Id)
       (p.0, p.1, record { there = f.there; within = record { counted = f.within.counted; size = f.within.size; longest = f.within.longest; deepest = omega (arith, f.within.deepest) } })
 
   pub sum-passes : (s : Sum) → Passes known levels id → s ≡ sum_of known (visits known (suc levels) [] id) → IsSum known id s
-  sum-passes s p is = record { passes = passes-walk known are id (passes-more p); is = is ∙ ap (sum_of known) (sym (settled p)) }
+  sum-passes s p is = record { objects = are; passes = passes-walk known are id (passes-more p); is = is ∙ ap (sum_of known) (sym (settled p)) }
 
   module _ (s : Sum) (sum : IsSum known id s) where
     sum-deep : s.deepest ≡ deepest_of (walk known id)

@@ -6,7 +6,7 @@ use Rattle.text_model.specs.Lists.{Each}
 use Rattle.text_model.specs.Id.{Id, blob}
 use Rattle.text_model.specs.Path.{components}
 use Rattle.git_model.specs.Tree.{TreeEntry, is_blob_mode}
-use Rattle.git_model.specs.Object.{Object, object_at, tree_at}
+use Rattle.git_model.specs.Object.{Object, AreObjects, object_at, tree_at}
 use Rattle.git_model.specs.Unfold.{FileRow, row_size, is_row, is_kind_there, is_object_there, visits, walk, walk_fault}
 use Rattle.tree_sum.specs.declared.sum.Sum.{Sum}
 use Rattle.tree_sum.specs.Numbers.{IsWithin}
@@ -25,8 +25,9 @@ deepest_of (v ∷ vs) = max (length (components v.path)) (deepest_of vs)
 unfoldable pub sum_of : List Object → List FileRow → Sum
 sum_of known vs = record { rows = length (filter (is_row known) vs); size = sum_by row_size (filter (is_row known) vs); longest = longest_of vs; deepest = deepest_of vs }
 
--- The walk through the tree passes, and these are its numbers.
+-- The walk through the tree passes, and these are its numbers: it was walked among objects that stand under their ids.
 pub record IsSum (known : List Object) (id : Id) (s : Sum) : Type 0 where
+  pub objects : AreObjects known
   pub passes : walk_fault known id ≡ None
   pub is : s ≡ sum_of known (walk known id)
 

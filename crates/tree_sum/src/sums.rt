@@ -1,7 +1,7 @@
 ghost use Rattle.std.specs.Prelude.{◌≡◌, ◌↔◌, ◌≤◌, [], None, IfOk, IfSome, OnOk, IsTrue, bytes_eq};
 ghost use Rattle.std.specs.Map.{lookup};
+ghost use Rattle.git_model.specs.Object.{AreObjects};
 ghost use Rattle.git_model.specs.Unfold.{walk_fault};
-ghost use Rattle.git_store.specs.Known.{AreKnown};
 ghost use Rattle.text_model.specs.Id as model;
 ghost use Rattle.tree_sum.specs.Sums.{AreSums, IsSum, IsAnswer, is_summed};
 
@@ -87,9 +87,8 @@ impl Sums {
         ensures sums { AreSums store.now self.new }
         ensures summed { IfOk result (λ sum. IfSome sum (λ _. IsTrue (is_summed self.new id.now))) }
         ensures stays { (x : model.Id) → IsTrue (is_summed self.old x) → IsTrue (is_summed self.new x) }
-        ensures known { AreKnown store.now }
+        ensures objects { OnOk result (AreObjects store.now) }
     {
-        store.check();
         if let Some(sum) = self.get(id) {
             return Ok(sum.up_to(levels));
         }

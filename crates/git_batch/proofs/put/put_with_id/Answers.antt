@@ -11,5 +11,5 @@ in-pieces old id word size content =
 
 pub returns-clause-ok : goal.returns-clause-ok
 returns-clause-ok c =
-    rw (c.in_ok-push-4.ensures.ok, c.in_ok-share.ensures.ok, c.in_ok-push-3.ensures.ok, c.in_ok-put_decimal.ensures.ok, c.in_ok-push-2.ensures.ok, c.in_ok-put-2.ensures.ok, c.in_ok-push.ensures.ok, c.in_ok-put.ensures.ok, c.hex.ensures, c.word.ensures, c.len.ensures.value)
+    rw (c.in_ok-push-4.ensures.ok, c.in_ok-share.ensures.ok, c.in_ok-push-3.ensures.ok, c.in_ok-put_decimal.ensures.ok, c.in_ok-push-2.ensures.ok, c.in_ok-put-2.ensures.ok, c.in_ok-push.ensures.ok, c.in_ok-put.ensures.ok, c.hex.ensures.hex, c.word.ensures, c.len.ensures.value)
     (in-pieces c.args.out.now _ _ _ c.args.content.now)

@@ -11,6 +11,7 @@ use Rattle.git_batch.proofs.read.read_known_into.Goals as goal
 pub objects-init : goal.objects-init
 objects-init g c = record {
   came = rw (c.new-gathered.ensures, c.new-reader.ensures) ([], added_none _, reading_begins _ _);
+  known = rw c.new-gathered.ensures (λ known. known);
   kept = refl;
 }
 
@@ -30,6 +31,7 @@ objects-preserved g c =
         rw (rw c.in-Object.is at c.in_ok-item.ensures.offset)
             (reading_goes_on _ _ _ _ _ _ _ _ o c.objects.invariant.came.2 (rw c.in-Object.is at c.in_ok-item.ensures.bytes) (rw c.in-Object.is at c.in_ok-item.ensures.reads) adds),
       );
+      known = λ before. c.in_ok-take-in-Object.ensures.known;
       kept = c.in_ok-item.ensures.cause ∙ c.objects.invariant.kept;
     }
 
@@ -56,3 +58,6 @@ pub returns-in-End-clause-reads : goal.returns-in-End-clause-reads
 returns-in-End-clause-reads g c =
     let came = c.objects.invariant.came in
     reads_all _ _ _ came.0 came.1 (reading_ends _ _ _ _ _ came.0 came.2 (rw c.in-End.is at c.in_ok-item.ensures.reads))
+
+pub returns-in-End-clause-known : goal.returns-in-End-clause-known
+returns-in-End-clause-known g c = c.objects.invariant.known

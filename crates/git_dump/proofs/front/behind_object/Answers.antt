@@ -11,7 +11,7 @@ returns-in_err-with_kind c =
     let content = c.args.content.now in
     rw c.from_residual.ensures
     (lacks-a (c.hex.result ++ sp ∷ []) (kind_word kind ++ sp ∷ []) (decimal (length content) ++ lf ∷ []) (content ++ lf ∷ []) _ c.args.bytes.now
-    (text-is c.args.id.now kind content c.hex.result (kind_word kind) (decimal (length content)) c.hex.ensures refl refl) c.in_err-with_kind.ensures)
+    (text-is c.args.id.now kind content c.hex.result (kind_word kind) (decimal (length content)) c.hex.ensures.hex refl refl) c.in_err-with_kind.ensures)
 
 pub returns-in_err-with_size : goal.returns-in_err-with_size
 returns-in_err-with_size c =
@@ -19,7 +19,7 @@ returns-in_err-with_size c =
     let content = c.args.content.now in
     rw c.from_residual-in_err-with_size.ensures
     (lacks-b (c.hex.result ++ sp ∷ []) (c.word.result.now ++ sp ∷ []) (decimal (length content) ++ lf ∷ []) (content ++ lf ∷ []) _ c.args.bytes.now
-    (text-is c.args.id.now kind content c.hex.result c.word.result.now (decimal (length content)) c.hex.ensures c.word.ensures refl)
+    (text-is c.args.id.now kind content c.hex.result c.word.result.now (decimal (length content)) c.hex.ensures.hex c.word.ensures refl)
     c.in_ok-with_kind.with_kind.now c.in_ok-with_kind.ensures c.in_err-with_size.ensures)
 
 pub returns-in_err-with_content : goal.returns-in_err-with_content
@@ -28,7 +28,7 @@ returns-in_err-with_content c =
     let content = c.args.content.now in
     rw c.from_residual-in_err-with_content.ensures
     (lacks-c (c.hex.result ++ sp ∷ []) (c.word.result.now ++ sp ∷ []) (c.as_bytes.result.now ++ lf ∷ []) (content ++ lf ∷ []) _ c.args.bytes.now
-    (text-is c.args.id.now kind content c.hex.result c.word.result.now c.as_bytes.result.now c.hex.ensures c.word.ensures (c.as_bytes.ensures.value ∙ c.format-size.ensures.text))
+    (text-is c.args.id.now kind content c.hex.result c.word.result.now c.as_bytes.result.now c.hex.ensures.hex c.word.ensures (c.as_bytes.ensures.value ∙ c.format-size.ensures.text))
     c.in_ok-with_kind.with_kind.now c.in_ok-with_kind.ensures c.in_ok-with_size.with_size.now c.in_ok-with_size.ensures c.in_err-with_content.ensures)
 
 pub returns : goal.returns
@@ -36,6 +36,6 @@ returns c =
     let kind = object_kind c.args.kind in
     let content = c.args.content.now in
     last-part (c.hex.result ++ sp ∷ []) (c.word.result.now ++ sp ∷ []) (c.as_bytes.result.now ++ lf ∷ []) (content ++ lf ∷ []) _ c.args.bytes.now
-    (text-is c.args.id.now kind content c.hex.result c.word.result.now c.as_bytes.result.now c.hex.ensures c.word.ensures (c.as_bytes.ensures.value ∙ c.format-size.ensures.text))
+    (text-is c.args.id.now kind content c.hex.result c.word.result.now c.as_bytes.result.now c.hex.ensures.hex c.word.ensures (c.as_bytes.ensures.value ∙ c.format-size.ensures.text))
     c.in_ok-with_kind.with_kind.now c.in_ok-with_kind.ensures c.in_ok-with_size.with_size.now c.in_ok-with_size.ensures
     c.in_ok-with_content.with_content.now c.in_ok-with_content.ensures c.behind-4.result c.behind-4.ensures

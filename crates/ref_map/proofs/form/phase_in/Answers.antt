@@ -17,10 +17,10 @@ returns-then-eq c =
     let a = c.in_ok-rest.ensures.cases in
     c.of.ensures
     ∙ sym (this_node c.args.name.now c.in_ok-rest.rest.now c.in_ok-word.word.now c.in_ok-word.digits.now c.args.node.now
-    (stripped_some phases c.args.name.now c.in_ok-rest.rest.now a.0 a.1) c.in_ok-word.ensures (ap (bytes_eq c.in_ok-word.digits.now) (sym (c.as_slice.ensures ∙ c.hex.ensures)) ∙ sym c.if-eq.ensures))
+    (stripped_some phases c.args.name.now c.in_ok-rest.rest.now a.0 a.1) c.in_ok-word.ensures (ap (bytes_eq c.in_ok-word.digits.now) (sym (c.as_slice.ensures ∙ c.hex.ensures.hex)) ∙ sym c.if-eq.ensures))
 
 pub returns-else-eq : goal.returns-else-eq
 returns-else-eq c =
     let a = c.in_ok-rest.ensures.cases in
     sym (other_node c.args.name.now c.in_ok-rest.rest.now c.in_ok-word.word.now c.in_ok-word.digits.now c.args.node.now
-    (stripped_some phases c.args.name.now c.in_ok-rest.rest.now a.0 a.1) c.in_ok-word.ensures (ap (bytes_eq c.in_ok-word.digits.now) (sym (c.as_slice.ensures ∙ c.hex.ensures)) ∙ sym c.if-eq.ensures))
+    (stripped_some phases c.args.name.now c.in_ok-rest.rest.now a.0 a.1) c.in_ok-word.ensures (ap (bytes_eq c.in_ok-word.digits.now) (sym (c.as_slice.ensures ∙ c.hex.ensures.hex)) ∙ sym c.if-eq.ensures))

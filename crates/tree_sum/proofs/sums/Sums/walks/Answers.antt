@@ -6,4 +6,4 @@ use Rattle.tree_sum.proofs.sums.Sums.walks.Goals as goal
 pub returns-clause-ok : goal.returns-clause-ok
 returns-clause-ok c =
     subst (λ (b : Bool). IsTrue b ↔ (walk_fault c.args.store.now c.args.root.now ≡ None)) (sym c.is_some.ensures)
-    (whole-answer c.args.store.now c.args.root.now c.in_ok-sum.sum c.in_ok-sum.ensures.known.are c.in_ok-sum.ensures.ok)
+    (whole-answer c.args.store.now c.args.root.now c.in_ok-sum.sum c.in_ok-sum.ensures.objects c.in_ok-sum.ensures.ok)
