@@ -24,10 +24,9 @@ use Rattle.git_view.proofs.Found.{found, some-tree}
 use Rattle.git_view.proofs.Held.{commit-at}
 use Rattle.git_view.proofs.Rows as rows
 use Rattle.git_view.proofs.Shapes.{filled}
-use Rattle.git_dump.specs.declared.walk.Walk.{Walk}
 use Rattle.git_dump.specs.Commits.{IsWalkableCommit, AreWalkableCommits}
 use Rattle.git_dump.specs.Walks.{object_list, objects_at, walk_objects, IsWalkable, IsClosed}
-use Rattle.git_dump.specs.Visits.{Visited}
+use Rattle.git_dump.specs.Visits.{Met, Visited}
 use Rattle.git_dump.proofs.Objects.{root-walkable, root-objects}
 use Rattle.git_dump.proofs.VisitLemmas.{visited-append}
 use Rattle.git_dump.proofs.WalkLemmas.{no-tree, closed-other}
@@ -96,7 +95,7 @@ module _ (known : List Object) (are : AreKnown known) (id : Id) where
         ap (content_of commit) is.0.is_held ∙ ap (λ (k : ObjectKind). if same_kind k commit then Some is.0.object.content else None) is.0.kind in
         none_some {x = is.0.object.content} (sym none ∙ there)
 
-    pub own-closed : (a b : Walk) → IsClosed known a.met → Visited (objects_at known id) a b → IsClosed known b.met
+    pub own-closed : (a b : Met) → IsClosed known a.met → Visited (objects_at known id) a b → IsClosed known b.met
     own-closed a b closed v = closed-other known id a b closed v (no-tree known id is.0.object is.0.is_held (ap (λ k. same_kind k tree) is.0.kind))
 
     pub tree-walkable : IsWalkable known 257 (c.value).tree_id
@@ -144,7 +143,7 @@ take-push [] i c h = absurd (none_some {x = c} h)
 take-push (d ∷ cs) zero c h = ap (λ (x : CommitView). x ∷ []) (some_is {x = d} {y = c} h)
 take-push (d ∷ cs) (suc i) c h = let e : suc i + 1 ≡ suc (i + 1) = omega arith in rw e (ap (λ (l : List CommitView). d ∷ l) (take-push cs i c h))
 
-pub visited-push : (cs : List CommitView) (i : ℕ) (c : CommitView) (a b d : Walk) → slice_get cs i ≡ Some c → Visited (objects_in (take i cs)) a b → Visited (commit_objects c) b d → Visited (objects_in (take (i + 1) cs)) a d
+pub visited-push : (cs : List CommitView) (i : ℕ) (c : CommitView) (a b d : Met) → slice_get cs i ≡ Some c → Visited (objects_in (take i cs)) a b → Visited (commit_objects c) b d → Visited (objects_in (take (i + 1) cs)) a d
 visited-push cs i c a b d at v w =
     subst (λ (os : List Object). Visited os a d)
     (sym (ap objects_in (take-push cs i c at) ∙ flat_map-append commit_objects (take i cs) (c ∷ []) ∙ ap (λ (l : List Object). objects_in (take i cs) ++ l) (append-nil (commit_objects c))))

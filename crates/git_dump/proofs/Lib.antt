@@ -5,5 +5,6 @@ pub mod Objects
 pub mod OnlyNew
 pub mod CommitLemmas
 pub mod There
-pub mod FrontLemmas
+pub mod Between
+pub mod Counted
 pub mod ListedLemmas

@@ -11,8 +11,7 @@ use Rattle.text_model.proofs.Elements.{each_in}
 use Rattle.git_model.specs.Object.{Object, same_object}
 use Rattle.git_store.proofs.DistinctLemmas.{bytes_eq-comm}
 use Rattle.tree_shape.proofs.FileSets.{bool-same}
-use Rattle.git_dump.specs.declared.walk.Walk.{Walk}
-use Rattle.git_dump.specs.Visits.{ids_of, first_met, Visited}
+use Rattle.git_dump.specs.Visits.{ids_of, first_met, Met, Visited}
 use Rattle.git_dump.proofs.WalkLemmas.{first-met, of-first}
 
 -- two filters are one where its test is both of theirs
@@ -90,8 +89,12 @@ first_met-new old new =
 -- ---- the whole
 
 -- what is listed of new objects behind old ones that were visited before the list was begun
-pub listed-new : (a b c : Walk) (begun : List Id) (old new : List Object) → a.met ≡ [] → begun ≡ [] → Visited old a b → Visited new (record { met = b.met; listed = begun }) c
+pub listed-new : (a b begun c : Met) (old new : List Object) → a.met ≡ [] → Visited old a b → begun.met ≡ b.met → begun.listed ≡ [] → Visited new begun c
     → c.listed ≡ ids_of (only_new same_object old new)
-listed-new a b c begun old new none empty v w =
-    let met : b.met ≡ ids_of (first_met [] old) = v.met ∙ (λ i. none i ++ ids_of (first_met (none i) old)) in
+listed-new a b begun c old new none v same empty w =
+    let met : begun.met ≡ ids_of (first_met [] old) = same ∙ v.met ∙ (λ i. none i ++ ids_of (first_met (none i) old)) in
     w.listed ∙ (λ i. empty i ++ ids_of (first_met (met i) new)) ∙ ap ids_of (first_met-new old new)
+
+-- what is met of objects by a walk that had met nothing
+pub met-new : (a b : Met) (objects : List Object) → a.met ≡ [] → Visited objects a b → b.met ≡ ids_of (only_new same_object [] objects)
+met-new a b objects none v = v.met ∙ (λ i. none i ++ ids_of (first_met (none i) objects)) ∙ ap ids_of (first_met-new [] objects)

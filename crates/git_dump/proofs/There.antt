@@ -1,7 +1,8 @@
 -- The objects of commits that can be walked through are known.
-use Rattle.std.proofs.Common.{◌≡◌, ℕ, zero, suc, Bool, true, false, List, [], ◌∷◌, ◌++◌, Option, Some, None, refl, sym, ap, subst, ◌∙◌, inl, inr}
+use Rattle.std.proofs.Common.{◌≡◌, ℕ, zero, suc, Bool, true, false, List, [], ◌∷◌, ◌++◌, take, drop, Option, Some, None, refl, sym, ap, subst, ◌∙◌, inl, inr}
 use Rattle.std.specs.Prelude.{if◌then◌else◌}
 use Rattle.std.specs.List.{flat_map}
+use Rattle.std.proofs.lemmas.List.Concat.{flat_map-append}
 use Rattle.text_model.specs.Lists.{In, Each, only_new}
 use Rattle.text_model.specs.Id.{Id, has_id}
 use Rattle.text_model.proofs.Elements.{each_from}
@@ -9,16 +10,28 @@ use Rattle.git_model.specs.Tree.{TreeEntry, is_directory, is_blob_mode}
 use Rattle.git_model.specs.Object.{Object, object_at, tree_at, same_object}
 use Rattle.git_store.specs.Known.{AreKnown}
 use Rattle.git_store.specs.Growth.{IsThere}
+use Rattle.git_store.proofs.Places.{found-one}
 use Rattle.tree_shape.proofs.Elements.{in-append, of-flat}
 use Rattle.view_model.specs.View.{CommitView, commit_objects}
 use Rattle.view_model.specs.Dump.{objects_in}
 use Rattle.git_view.proofs.Found.{found-id}
 use Rattle.git_dump.specs.Commits.{IsWalkableCommit, AreWalkableCommits}
-use Rattle.git_dump.specs.Walks.{object_list, objects_at, objects_of, entry_objects, walk_objects}
+use Rattle.git_dump.specs.Walks.{object_list, objects_at, objects_between, objects_of, entry_objects, walk_objects}
 use Rattle.git_dump.specs.Visits.{ids_of, first_met}
 use Rattle.git_dump.proofs.CommitLemmas.{objects-of}
 use Rattle.git_dump.proofs.OnlyNew.{first_met-new}
 use Rattle.git_dump.proofs.WalkLemmas.{walk-none, walk-some}
+
+in-take : {X : Type 0} (x : X) (n : ℕ) (xs : List X) → In x (take n xs) → In x xs
+in-take x zero xs i = absurd i
+in-take x (suc n) [] i = absurd i
+in-take x (suc n) (y ∷ xs) (inl q) = inl q
+in-take x (suc n) (y ∷ xs) (inr j) = inr (in-take x n xs j)
+
+in-drop : {X : Type 0} (x : X) (n : ℕ) (xs : List X) → In x (drop n xs) → In x xs
+in-drop x zero xs i = i
+in-drop x (suc n) [] i = absurd i
+in-drop x (suc n) (y ∷ xs) i = inr (in-drop x n xs i)
 
 module _ (known : List Object) where
   of_one : (id : Id) (o : Object) → In o (objects_at known id) → IsThere known o
@@ -84,9 +97,29 @@ module _ (known : List Object) where
       by true old new = old
       by false old new = (h.0, new)
 
+  pub new-there : (old new : List Object) → Each (IsThere known) new → Each (IsThere known) (only_new same_object old new)
+  new-there old new h = subst (Each (IsThere known)) (first_met-new old new) (first-there (ids_of (first_met [] old)) new h)
+
   -- those of a list that are new are found under their ids
   pub new-of : (old new : List Object) → Each (IsThere known) new → objects_of known (ids_of (only_new same_object old new)) ≡ only_new same_object old new
-  new-of old new h = all-of (only_new same_object old new) (subst (Each (IsThere known)) (first_met-new old new) (first-there (ids_of (first_met [] old)) new h))
+  new-of old new h = all-of (only_new same_object old new) (new-there old new h)
 
   pub each-there : AreKnown known → (ids : List Id) (cs : List CommitView) → AreWalkableCommits known ids cs → Each (IsThere known) (objects_in cs)
   each-there are ids cs walk = each_from (IsThere known) (objects_in cs) (λ o i. all_there known are ids cs o walk i)
+
+  -- the objects of the store itself are found under their ids
+  known-there : AreKnown known → (os : List Object) → ((o : Object) → In o os → In o known) → Each (IsThere known) os
+  known-there are os within = each_from (IsThere known) os (λ o i. found-one known are.are.distinct o (within o i))
+
+  -- the objects from one place up to another, and then those of a list, are found under their ids
+  pub between-of : AreKnown known → (start end : ℕ) (listed : List Id)
+      → objects_of known (ids_of (objects_between known start end) ++ listed) ≡ objects_between known start end ++ objects_of known listed
+  between-of are start end listed =
+      flat_map-append (objects_at known) (ids_of (objects_between known start end)) listed
+      ∙ ap (λ (os : List Object). os ++ objects_of known listed)
+      (all-of (objects_between known start end) (known-there are (objects_between known start end) (λ o i. in-take o end known (in-drop o start (take end known) i))))
+
+  -- where the ids are those of the store, so are the objects
+  pub same-objects : AreKnown known → (news : List Object) → Each (IsThere known) news → ids_of news ≡ ids_of known → known ≡ news
+  same-objects are news there same =
+      sym (all-of known (known-there are known (λ o i. i))) ∙ ap (objects_of known) (sym same) ∙ all-of news there

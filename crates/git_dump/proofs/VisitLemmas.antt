@@ -1,17 +1,18 @@
 -- Objects that were visited one after the other.
-use Rattle.std.proofs.Common.{◌≡◌, Bool, true, false, true≢false, not, List, [], ◌∷◌, ◌++◌, Option, Some, None, refl, sym, ap, ◌∙◌, append-nil, append_assoc}
-use Rattle.std.specs.Prelude.{if◌then◌else◌, option_map}
+use Rattle.std.proofs.Common.{◌≡◌, ℕ, Bool, true, false, List, [], ◌∷◌, ◌++◌, Option, Some, None, refl, sym, ap, subst, ◌∙◌, append-nil, append_assoc}
+use Rattle.std.specs.Prelude.{if◌then◌else◌, slice_get, option_map}
 use Rattle.std.proofs.lemmas.List.{map-append}
 use Rattle.std.proofs.lemmas.List.Concat.{flat_map-append}
 use Rattle.text_model.specs.Text.{Bytes}
-use Rattle.text_model.specs.Id.{Id, ObjectKind, has_id}
+use Rattle.text_model.specs.Id.{Id, IsId, ObjectKind, has_id}
 use Rattle.git_model.specs.Object.{Object, object_at}
 use Rattle.git_model.specs.Stream.{object_text, stream_text}
 use Rattle.text_model.proofs.Options.{none_some, some_is}
-use Rattle.git_view.proofs.Found.{found-id}
-use Rattle.git_dump.specs.declared.walk.Walk.{Walk}
+use Rattle.text_model.proofs.Elements.{each_at}
+use Rattle.git_store.specs.Known.{IsSound, AreKnown}
+use Rattle.git_view.proofs.Found.{found, found-id}
 use Rattle.git_dump.specs.Walks.{objects_at, object_list}
-use Rattle.git_dump.specs.Visits.{ids_of, first_met, Visited}
+use Rattle.git_dump.specs.Visits.{ids_of, first_met, Met, Visited}
 
 pub first_met-append : (met : List Id) (xs ys : List Object) → first_met met (xs ++ ys) ≡ first_met met xs ++ first_met (met ++ ids_of (first_met met xs)) ys
 first_met-append met [] ys = ap (λ (m : List Id). first_met m ys) (sym (append-nil met))
@@ -40,10 +41,10 @@ listed-append first later whole a b c is p q =
     q ∙ ap (λ (l : List Id). l ++ ids_of later) p ∙ append_assoc a (ids_of first) (ids_of later)
     ∙ ap (λ (l : List Id). a ++ l) (sym (map-append (λ (o : Object). o.id) first later)) ∙ ap (λ (l : List Object). a ++ ids_of l) (sym is)
 
-pub visited-none : (a : Walk) → Visited [] a a
+pub visited-none : (a : Met) → Visited [] a a
 visited-none a = record { met = sym (append-nil a.met); listed = sym (append-nil a.listed) }
 
-pub visited-append : (xs ys : List Object) (a b c : Walk) → Visited xs a b → Visited ys b c → Visited (xs ++ ys) a c
+pub visited-append : (xs ys : List Object) (a b c : Met) → Visited xs a b → Visited ys b c → Visited (xs ++ ys) a c
 visited-append xs ys a b c v w =
     let first : List Object = first_met a.met xs in
     let later : List Object = first_met (a.met ++ ids_of first) ys in
@@ -70,34 +71,33 @@ there-is known id kind content h = by (object_at known id) refl h
         let same : (kind, content) ≡ (o.kind, o.content) = some_is {x = (kind, content)} {y = (o.kind, o.content)} i in
         ap object_list e ∙ (λ k. record { id = sym (found-id known id o e) k; kind = (sym same k).0; content = (sym same k).1 } ∷ [])
 
--- the object that is known
-pub known-is : (known : List Object) (id : Id) (o : Object) → object_at known id ≡ Some o → objects_at known id ≡ record { id = id; kind = o.kind; content = o.content } ∷ []
-known-is known id o at = ap object_list at ∙ (λ k. record { id = sym (found-id known id o at) k; kind = o.kind; content = o.content } ∷ [])
+-- the id of an object that is known
+pub id-there : (known : List Object) → AreKnown known → (id : Id) (kind : ObjectKind) (content : Bytes) → Some (kind, content) ≡ option_map {U = ObjectKind × Bytes} kind_and_content (object_at known id) → IsId id
+id-there known are id kind content h = by (object_at known id) refl h
+  where
+    by : (o : Option Object) → object_at known id ≡ o → Some (kind, content) ≡ option_map {U = ObjectKind × Bytes} kind_and_content o → IsId id
+    by None e i = absurd (none_some {x = (kind, content)} (sym i))
+    by (Some o) e i = let of = found known id o are e in subst IsId (sym of.id_is) of.sound.id
 
-is_not : (fresh known : Bool) → fresh ≡ not known → known ≡ not fresh
-is_not true true h = absurd (true≢false h)
-is_not true false h = refl
-is_not false true h = refl
-is_not false false h = absurd (true≢false (sym h))
+pub id-of-place : (known : List Object) → AreKnown known → (place : ℕ) (o : Object) → slice_get known place ≡ Some o → IsId o.id
+id-of-place known are place o at = (each_at IsSound known place o at are.sound).id
 
-pub visited-old : (o : Object) (met after listed : List Id) (fresh : Bool) → fresh ≡ not (has_id met o.id) → fresh ≡ false → after ≡ (if fresh then met ++ o.id ∷ [] else met)
-    → Visited (o ∷ []) (record { met = met; listed = listed }) (record { met = after; listed = listed })
-visited-old o met after listed fresh is old ok =
-    let known : has_id met o.id ≡ true = is_not fresh (has_id met o.id) is ∙ ap not old in
-    let none : first_met met (o ∷ []) ≡ [] = ap (λ (t : Bool). if t then [] else o ∷ []) known in
+-- an object that was met
+pub visited-old : (o : Object) (a : Met) → has_id a.met o.id ≡ true → Visited (o ∷ []) a a
+visited-old o a known =
+    let none : first_met a.met (o ∷ []) ≡ [] = ap (λ (t : Bool). if t then [] else o ∷ []) known in
     record {
-      met = ok ∙ ap (λ (t : Bool). if t then met ++ o.id ∷ [] else met) old ∙ sym (append-nil met) ∙ ap (λ (l : List Object). met ++ ids_of l) (sym none);
-      listed = sym (append-nil listed) ∙ ap (λ (l : List Object). listed ++ ids_of l) (sym none);
+      met = sym (append-nil a.met) ∙ ap (λ (l : List Object). a.met ++ ids_of l) (sym none);
+      listed = sym (append-nil a.listed) ∙ ap (λ (l : List Object). a.listed ++ ids_of l) (sym none);
     }
 
-pub visited-new : (o : Object) (met after listed longer : List Id) (fresh : Bool) → fresh ≡ not (has_id met o.id) → fresh ≡ true → after ≡ (if fresh then met ++ o.id ∷ [] else met)
-    → longer ≡ listed ++ o.id ∷ [] → Visited (o ∷ []) (record { met = met; listed = listed }) (record { met = after; listed = longer })
-visited-new o met after listed longer fresh is new ok push =
-    let known : has_id met o.id ≡ false = is_not fresh (has_id met o.id) is ∙ ap not new in
-    let one : first_met met (o ∷ []) ≡ o ∷ [] = ap (λ (t : Bool). if t then [] else o ∷ []) known in
+-- an object that is new
+pub visited-new : (o : Object) (a b : Met) → has_id a.met o.id ≡ false → b.met ≡ a.met ++ o.id ∷ [] → b.listed ≡ a.listed ++ o.id ∷ [] → Visited (o ∷ []) a b
+visited-new o a b unknown met listed =
+    let one : first_met a.met (o ∷ []) ≡ o ∷ [] = ap (λ (t : Bool). if t then [] else o ∷ []) unknown in
     record {
-      met = ok ∙ ap (λ (t : Bool). if t then met ++ o.id ∷ [] else met) new ∙ ap (λ (l : List Object). met ++ ids_of l) (sym one);
-      listed = push ∙ ap (λ (l : List Object). listed ++ ids_of l) (sym one);
+      met = met ∙ ap (λ (l : List Object). a.met ++ ids_of l) (sym one);
+      listed = listed ∙ ap (λ (l : List Object). a.listed ++ ids_of l) (sym one);
     }
 
 -- ---- one object in a stream

@@ -1,7 +1,7 @@
 -- What a walk has met: with a tree all that it reaches.
 use Rattle.tree_shape.proofs.VisitLemmas.{no-dir}
-use Rattle.std.proofs.Common.{◌≡◌, ℕ, zero, suc, ◌+◌, ◌-◌, ◌≤◌, ◌<◌, length, take, get_or, arith, append-nil, Bool, true, false, List, [], ◌∷◌, ◌++◌, Option, Some, None, refl, sym, ap, subst, ◌∙◌, append_assoc, inl, inr}
-use Rattle.std.specs.Prelude.{if◌then◌else◌}
+use Rattle.std.proofs.Common.{◌≡◌, ℕ, zero, suc, ◌+◌, ◌-◌, ◌≤◌, ◌<◌, length, take, get_or, arith, append-nil, Bool, true, false, true≢false, List, [], ◌∷◌, ◌++◌, Option, Some, None, refl, sym, ap, subst, ◌∙◌, append_assoc, inl, inr}
+use Rattle.std.specs.Prelude.{if◌then◌else◌, is_some}
 use Rattle.std.specs.List.{flat_map}
 use Rattle.std.proofs.lemmas.List.{take_all}
 use Rattle.std.proofs.lemmas.List.Concat.{flat_map-append}
@@ -11,15 +11,14 @@ use Rattle.text_model.specs.Id.{Id, ObjectKind, blob, tree, same_kind, has_id}
 use Rattle.text_model.proofs.EachLemmas.{Each-append, Each-front, Each-rest, Each-weaker}
 use Rattle.text_model.proofs.OrderLemmas.{has_id-In, In-has_id}
 use Rattle.git_model.specs.Tree.{TreeEntry, is_directory, is_blob_mode}
-use Rattle.git_model.specs.Object.{Object, object_at, entries_of, tree_at}
+use Rattle.git_model.specs.Object.{Object, object_at, knows_object, entries_of, tree_at}
 use Rattle.git_model.specs.Unfold.{is_kind_there}
 use Rattle.text_model.proofs.Options.{none_some, some_is}
 use Rattle.text_model.proofs.Elements.{in_left, in_right}
 use Rattle.tree_shape.proofs.Elements.{in-append}
 use Rattle.git_view.proofs.Found.{found-id, some-tree, there}
-use Rattle.git_dump.specs.declared.walk.Walk.{Walk}
-use Rattle.git_dump.specs.Walks.{IsKnown, object_list, objects_at, file_objects, entry_objects, walk_objects, IsWalkableEntry, IsWalkable, IsMetEntry, IsClosed}
-use Rattle.git_dump.specs.Visits.{ids_of, first_met, Visited}
+use Rattle.git_dump.specs.Walks.{object_list, objects_at, file_objects, entry_objects, walk_objects, IsWalkableEntry, IsWalkable, IsMetEntry, IsClosed}
+use Rattle.git_dump.specs.Visits.{ids_of, first_met, Met, Visited}
 use Rattle.git_dump.proofs.VisitLemmas.{visited-none, visited-append}
 
 abbrev pub AreMet : List Id → List Object → Type 0
@@ -84,7 +83,7 @@ none-first : (met : List Id) (objects : List Object) → AreMet met objects → 
 none-first met [] h = refl
 none-first met (o ∷ objects) h = ap (λ (t : Bool). if t then first_met met objects else o ∷ first_met (met ++ o.id ∷ []) objects) h.0 ∙ none-first met objects h.1
 
-pub visited-again : (objects : List Object) (a : Walk) → AreMet a.met objects → Visited objects a a
+pub visited-again : (objects : List Object) (a : Met) → AreMet a.met objects → Visited objects a a
 visited-again objects a h =
     let none = none-first a.met objects h in
     let nothing = visited-none a in
@@ -109,7 +108,7 @@ first-met met (o ∷ objects) = by (has_id met o.id) refl (first-met met objects
           subst (λ (m : List Id). AreMet m objects) is new,
         )
 
-pub visited-met : (objects : List Object) (a b : Walk) → Visited objects a b → AreMet b.met objects
+pub visited-met : (objects : List Object) (a b : Met) → Visited objects a b → AreMet b.met objects
 visited-met objects a b v = subst (λ (m : List Id). AreMet m objects) (sym v.met) (first-met a.met objects)
 
 -- ---- what stays closed
@@ -123,7 +122,7 @@ of-first met (o ∷ objects) id h = by (has_id met o.id) h (of-first met objects
     by true i known new = inr (known i)
     by false i known new = elim i [ inl q ↦ inl q | inr j ↦ inr (new j) ]
 
-closed-after : (known : List Object) (objects : List Object) (a b : Walk) → IsClosed known a.met → Visited objects a b
+closed-after : (known : List Object) (objects : List Object) (a b : Met) → IsClosed known a.met → Visited objects a b
     → ((id : Id) (es : List TreeEntry) → In id (ids_of objects) → tree_at known id ≡ Some es → Each (IsMetEntry b.met) es) → IsClosed known b.met
 closed-after known objects a b closed v new = record {
   entries = λ id es h at.
@@ -144,7 +143,7 @@ of-one known id other h = by (object_at known id) refl h
     by (Some o) e i = elim i [ inl q ↦ q ∙ sym (found-id known id o e) | inr j ↦ absurd j ]
 
 -- an object that is no tree
-pub closed-other : (known : List Object) (id : Id) (a b : Walk) → IsClosed known a.met → Visited (objects_at known id) a b → tree_at known id ≡ None → IsClosed known b.met
+pub closed-other : (known : List Object) (id : Id) (a b : Met) → IsClosed known a.met → Visited (objects_at known id) a b → tree_at known id ≡ None → IsClosed known b.met
 closed-other known id a b closed v none = closed-after known (objects_at known id) a b closed v (λ other es i at. absurd (none_some {x = es} (sym none ∙ ap (tree_at known) (sym (of-one known id other i)) ∙ at)))
 
 pub no-tree : (known : List Object) (id : Id) (o : Object) → object_at known id ≡ Some o → same_kind o.kind tree ≡ false → tree_at known id ≡ None
@@ -186,7 +185,7 @@ pub walkable-entries : (known : List Object) (depth : ℕ) (id : Id) (entries : 
 unfolding IsWalkable
 walkable-entries known depth id entries w at = subst (Each (IsWalkableEntry known (IsWalkable known depth))) (some_is {x = w.0} {y = entries} (sym w.1 ∙ at)) w.2
 
-pub closed-tree : (known : List Object) (depth : ℕ) (id : Id) (entries : List TreeEntry) (a b c : Walk) → IsWalkable known (suc depth) id → tree_at known id ≡ Some entries
+pub closed-tree : (known : List Object) (depth : ℕ) (id : Id) (entries : List TreeEntry) (a b c : Met) → IsWalkable known (suc depth) id → tree_at known id ≡ Some entries
     → IsClosed known b.met → Visited (flat_map (entry_objects known (walk_objects known depth)) entries) a b → Visited (objects_at known id) b c → IsClosed known c.met
 closed-tree known depth id entries a b c w at closed v last =
     let below : Each (IsMetEntry b.met) entries = ids-met known b.met depth entries (walkable-entries known depth id entries w at) (visited-met _ a b v) in
@@ -223,7 +222,7 @@ pub record Turn (known : List Object) (depth : ℕ) (id : Id) (items : List Tree
 pub turn-entry : (known : List Object) (depth : ℕ) (id : Id) (items : List TreeEntry) (i : ℕ) (e : TreeEntry) → Turn known depth id items i e → IsWalkableEntry known (IsWalkable known depth) e
 turn-entry known depth id items i e t = each-at (IsWalkableEntry known (IsWalkable known depth)) items i e (walkable-entries known depth id items t.walkable t.at) t.within t.is
 
-pub turn-visited : (known : List Object) (depth : ℕ) (id : Id) (items : List TreeEntry) (i : ℕ) (e : TreeEntry) (a b c : Walk) → Turn known depth id items i e
+pub turn-visited : (known : List Object) (depth : ℕ) (id : Id) (items : List TreeEntry) (i : ℕ) (e : TreeEntry) (a b c : Met) → Turn known depth id items i e
     → Visited (flat_map (entry_objects known (walk_objects known depth)) (take i items)) a b → Visited (entry_objects known (walk_objects known depth) e) b c
     → Visited (flat_map (entry_objects known (walk_objects known depth)) (take (i + 1) items)) a c
 turn-visited known depth id items i e a b c t v w =
@@ -236,26 +235,23 @@ pub file-entry : (known : List Object) (subtree : Id → List Object) (e : TreeE
 file-entry known subtree e d = sym (ap (λ (t : Bool). if t then subtree e.id else file_objects known e) d)
 
 -- a commit of another repository
-pub no-object : (known : List Object) (e : TreeEntry) (a : Walk) → is_blob_mode e.mode ≡ false → Visited (file_objects known e) a a
+pub no-object : (known : List Object) (e : TreeEntry) (a : Met) → is_blob_mode e.mode ≡ false → Visited (file_objects known e) a a
 no-object known e a other = subst (λ (os : List Object). Visited os a a) (sym (ap (λ (t : Bool). if t then objects_at known e.id else []) other)) (visited-none a)
 
-pub file-known : (known : List Object) (depth : ℕ) (e : TreeEntry) → IsWalkableEntry known (IsWalkable known depth) e → is_blob_mode e.mode ≡ true → IsKnown known e.id
-file-known known depth e w b = let o = blob-there known e.id (w.file b) in (o.0, o.1)
-
-pub file-closed : (known : List Object) (depth : ℕ) (e : TreeEntry) (a b : Walk) → IsWalkableEntry known (IsWalkable known depth) e → IsClosed known a.met → Visited (file_objects known e) a b → IsClosed known b.met
+pub file-closed : (known : List Object) (depth : ℕ) (e : TreeEntry) (a b : Met) → IsWalkableEntry known (IsWalkable known depth) e → IsClosed known a.met → Visited (file_objects known e) a b → IsClosed known b.met
 file-closed known depth e a b w closed v = by (is_blob_mode e.mode) refl v
   where
     by : (t : Bool) → is_blob_mode e.mode ≡ t → Visited (if t then objects_at known e.id else []) a b → IsClosed known b.met
     by true t v = let o = blob-there known e.id (w.file t) in closed-other known e.id a b closed v (no-tree known e.id o.0 o.1 o.2)
     by false t v = closed-after known [] a b closed v (λ id es i. absurd i)
 
-pub last-visited : (known : List Object) (depth : ℕ) (id : Id) (items : List TreeEntry) (i : ℕ) (a b c : Walk) → tree_at known id ≡ Some items → length items ≤ i
+pub last-visited : (known : List Object) (depth : ℕ) (id : Id) (items : List TreeEntry) (i : ℕ) (a b c : Met) → tree_at known id ≡ Some items → length items ≤ i
     → Visited (flat_map (entry_objects known (walk_objects known depth)) (take i items)) a b → Visited (objects_at known id) b c → Visited (walk_objects known (suc depth) id) a c
 last-visited known depth id items i a b c at end v w =
     subst (λ (os : List Object). Visited os a c) (sym (walk-some known depth id items at))
     (visited-append _ _ a b c (subst (λ (es : List TreeEntry). Visited (flat_map (entry_objects known (walk_objects known depth)) es) a b) (take_all i items end) v) w)
 
-pub last-closed : (known : List Object) (depth : ℕ) (id : Id) (items : List TreeEntry) (i : ℕ) (a b c : Walk) → IsWalkable known (suc depth) id → tree_at known id ≡ Some items → length items ≤ i → IsClosed known b.met
+pub last-closed : (known : List Object) (depth : ℕ) (id : Id) (items : List TreeEntry) (i : ℕ) (a b c : Met) → IsWalkable known (suc depth) id → tree_at known id ≡ Some items → length items ≤ i → IsClosed known b.met
     → Visited (flat_map (entry_objects known (walk_objects known depth)) (take i items)) a b → Visited (objects_at known id) b c → IsClosed known c.met
 last-closed known depth id items i a b c w at end closed v last =
     closed-tree known depth id items a b c w at closed (subst (λ (es : List TreeEntry). Visited (flat_map (entry_objects known (walk_objects known depth)) es) a b) (take_all i items end) v) last
@@ -270,3 +266,11 @@ pub no-root : (known : List Object) (depth : ℕ) (id : Id) → tree_at known id
 unfolding IsWalkable
 no-root known zero id at w = w
 no-root known (suc depth) id at w = none_some {x = w.0} (sym at ∙ w.1)
+
+-- an id that is unknown is that of no tree
+pub no-place : (known : List Object) (depth : ℕ) (id : Id) → knows_object known id ≡ false → IsWalkable known depth id → ⊥
+no-place known depth id unknown w = no-root known depth id (by (object_at known id) unknown) w
+  where
+    by : (found : Option Object) → is_some found ≡ false → entries_of found ≡ None
+    by None h = refl
+    by (Some o) h = absurd (true≢false h)

@@ -1,4 +1,3 @@
 pub mod Walks
 pub mod Visits
 pub mod Commits
-pub mod Fronts

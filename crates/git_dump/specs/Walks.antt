@@ -1,5 +1,5 @@
 -- The objects that a tree reaches, by the objects that are known.
-use Rattle.std.specs.Prelude.{◌≡◌, ℕ, zero, suc, true, if◌then◌else◌, List, [], ◌∷◌, ◌++◌, Option, Some, None}
+use Rattle.std.specs.Prelude.{◌≡◌, ℕ, zero, suc, true, if◌then◌else◌, List, [], ◌∷◌, ◌++◌, Option, Some, None, take, drop}
 use Rattle.std.specs.List.{flat_map}
 use Rattle.text_model.specs.Lists.{Each}
 use Rattle.text_model.specs.Id.{Id, blob, has_id}
@@ -19,9 +19,9 @@ objects_at known id = object_list (object_at known id)
 abbrev pub objects_of : List Object → List Id → List Object
 objects_of known ids = flat_map (objects_at known) ids
 
--- an object with this id is known
-abbrev pub IsKnown : List Object → Id → Type 0
-IsKnown known id = (o : Object) × (object_at known id ≡ Some o)
+-- the objects from one place up to another
+abbrev pub objects_between : List Object → ℕ → ℕ → List Object
+objects_between known start end = drop start (take end known)
 
 -- the object of an entry that is no directory; the commit of another repository is none
 abbrev pub file_objects : List Object → TreeEntry → List Object

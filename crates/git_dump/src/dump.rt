@@ -1,21 +1,27 @@
 // The stream of commits.
 ghost use Rattle.std.specs.Prelude.{◌≡◌, ◌≤◌, ◌-◌, ◌^◌, ◌++◌, ◌↔◌, [], List, length, min, take, drop, IfOk, IsTrue, OnOk};
 ghost use Rattle.std.specs.Io.{StartsWith};
+ghost use Rattle.text_model.specs.Lists.{only_new};
+ghost use Rattle.git_model.specs.Object.{same_object};
 ghost use Rattle.view_model.specs.View.{CommitView};
-ghost use Rattle.view_model.specs.Dump.{git_increment};
+ghost use Rattle.view_model.specs.Dump.{git_increment, objects_in};
 ghost use Rattle.git_dump.specs.Commits.{AreWalkableCommits};
 
-use crate::listed::{append_objects, are_objects, objects_len};
+use crate::listed::{append_objects, objects_len};
 use crate::walk::Walk;
+use crate::written::{append_part, part_len};
 use bridge_text::{Id, IdList, NoMemory};
 use git_store::GitStore;
 use rope::Rope;
 use std::alloc::Global;
 use std::marker::Model;
 
-/// A stream that isn't written yet. The ids of its objects were collected in its order, once for its length and for its text.
+/// A stream that isn't written yet: which objects it has, in its order. They were collected once, for its length and for its
+/// text. Those that stand in the store one behind the other are named by their places, and others behind them by their ids.
 pub struct Dump<'a> {
     store: &'a GitStore,
+    start: usize,
+    end: usize,
     listed: IdList,
 }
 
@@ -23,19 +29,22 @@ impl<'a> Drop for Dump<'a> {
     fn drop(self) {
         let Dump {
             store: _,
+            start: _,
+            end: _,
             listed: _,
         } = self;
     }
 }
 
 impl<'a> Model for Dump<'a> {
+    ghost use Rattle.std.specs.Prelude.{◌++◌};
     ghost use Rattle.text_model.specs.Text.{Bytes};
     ghost use Rattle.git_model.specs.Stream.{stream_text};
-    ghost use Rattle.git_dump.specs.Walks.{objects_of};
+    ghost use Rattle.git_dump.specs.Walks.{objects_between, objects_of};
 
     ghost Value = { Bytes };
 
-    ghost view = { λ d. stream_text (objects_of d.store.now d.listed) };
+    ghost view = { λ d. stream_text (objects_between d.store.now d.start d.end ++ objects_of d.store.now d.listed) };
 }
 
 impl<'a> Dump<'a> {
@@ -51,13 +60,14 @@ impl<'a> Dump<'a> {
         ensures { IfOk result (λ dump. (cs : List CommitView) → AreWalkableCommits store.now ids.now cs
             → dump ≡ git_increment (take from cs) (drop from cs)) }
     {
-        store.check();
-        let mut walk = Walk::new(alloc);
+        let mut walk = Walk::new(alloc, store);
         walk.visit_commits(store, &ids[..from])?;
-        walk.listed = IdList::new(alloc);
+        walk.begin_list(alloc);
         walk.visit_commits(store, &ids[from..])?;
         Ok(Dump {
             store,
+            start: walk.start,
+            end: walk.front,
             listed: walk.listed,
         })
     }
@@ -66,7 +76,8 @@ impl<'a> Dump<'a> {
     pub fn len(&self) -> u64
         ensures { result ≡ min (length self.now) (2 ^ 64 - 1) }
     {
-        objects_len(self.store, self.listed.as_slice())
+        let front = part_len(self.store, self.start, self.end);
+        front.saturating_add(objects_len(self.store, self.listed.as_slice()))
     }
 
     /// Appends the stream, which shares long contents with the store. After want of memory what `out` was is its beginning.
@@ -74,14 +85,8 @@ impl<'a> Dump<'a> {
         ensures ok { OnOk result (out.new ≡ out.old ++ self.now) }
         ensures front { StartsWith out.new out.old }
     {
+        append_part(out, self.store, self.start, self.end)?;
         append_objects(out, self.store, self.listed.as_slice())
-    }
-
-    // Whether these bytes are the stream. It is not written.
-    fn is_text(&self, bytes: &[u8]) -> bool
-        ensures { IsTrue result ↔ (bytes.now ≡ self.now) }
-    {
-        are_objects(self.store, self.listed.as_slice(), bytes)
     }
 }
 
@@ -111,17 +116,14 @@ pub fn written_len(alloc: Global, store: &GitStore, order: &[Id]) -> Result<u64,
     Ok(Dump::collect(alloc, store, order, 0)?.len())
 }
 
-/// Whether these bytes are exactly the stream of all commits of a list. The stream is not written: each object is compared
-/// with the bytes where they stand, up to the first that differs.
-pub fn is_stream(
-    alloc: Global,
-    store: &GitStore,
-    order: &[Id],
-    bytes: &[u8],
-) -> Result<bool, NoMemory>
+/// Whether the store has exactly the objects of the stream of all commits of a list, in the order of that stream. No object is
+/// compared or written.
+pub fn is_in_order(alloc: Global, store: &GitStore, order: &[Id]) -> Result<bool, NoMemory>
     requires { (cs : List CommitView) × AreWalkableCommits store.now order.now cs }
     ensures { IfOk result (λ is. (cs : List CommitView) → AreWalkableCommits store.now order.now cs
-        → IsTrue is ↔ (bytes.now ≡ git_increment [] cs)) }
+        → IsTrue is ↔ (store.now ≡ only_new same_object [] (objects_in cs))) }
 {
-    Ok(Dump::collect(alloc, store, order, 0)?.is_text(bytes))
+    let mut walk = Walk::new(alloc, store);
+    walk.visit_commits(store, order)?;
+    Ok(walk.is_whole())
 }

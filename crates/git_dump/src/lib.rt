@@ -3,10 +3,10 @@
 #![tactic(auto)]
 
 mod dump;
-mod front;
 mod length;
 mod listed;
 mod walk;
+mod written;
 
-pub use dump::{Dump, is_stream, write, written_len};
+pub use dump::{Dump, is_in_order, write, written_len};
 pub use length::len_at;

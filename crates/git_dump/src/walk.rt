@@ -1,10 +1,12 @@
 // The walk through the trees of commits.
-ghost use Rattle.std.specs.Prelude.{◌≡◌, List, [], true, OnOk};
+ghost use Rattle.std.specs.Prelude.{◌≡◌, ◌<◌, ◌↔◌, List, [], ◌∷◌, IsTrue, OnOk, Some, length, slice_get};
+ghost use Rattle.text_model.specs.Id.{has_id};
 ghost use Rattle.view_model.specs.View.{CommitView, commit_objects};
 ghost use Rattle.git_dump.specs.Commits.{IsWalkableCommit, AreWalkableCommits};
-ghost use Rattle.git_dump.specs.Visits.{Visited};
-ghost use Rattle.git_model.specs.Tree.{is_blob_mode};
-ghost use Rattle.git_dump.specs.Walks.{IsKnown, objects_at, file_objects, walk_objects, IsWalkable, IsClosed};
+ghost use Rattle.git_dump.specs.Visits.{ids_of, met_by, IsWalk, MeetsOther, Visits};
+ghost use Rattle.git_dump.specs.Walks.{objects_at, file_objects, walk_objects, IsWalkable, IsClosed};
+ghost use Rattle.git_model.specs.Object.{Object};
+ghost use Rattle.git_store.specs.Places.{IsPlaceOf};
 ghost use Rattle.view_model.specs.Dump.{objects_in};
 
 use bridge_text::{Id, IdList, IdSet, NoMemory};
@@ -13,33 +15,64 @@ use git_store::GitStore;
 use std::alloc::Global;
 use tree_shape::LEVELS;
 
-/// The objects that a walk has met.
+/// The objects of a store that a walk has met. Those that it meets in the store's own order are only counted; from the first
+/// other one on, each object that is new is kept by its id.
 #[derive(Drop)]
 pub struct Walk {
-    /// The ids of the objects. With a tree all that it reaches is among them.
+    /// How many objects the store has.
+    pub size: usize,
+    /// How many objects at the front of the store were met in its order.
+    pub front: usize,
+    /// Whether no other object was met.
+    pub in_order: bool,
+    /// The ids of the other objects that were met.
     pub met: IdSet,
-    /// The ids of those that were met for the first time since the list was begun, in that order.
+    /// How many of those at the front had been met when the list was begun.
+    pub start: usize,
+    /// The ids of the other objects that were met for the first time since then, in that order.
     pub listed: IdList,
 }
 
 impl Walk {
-    /// A walk that has met nothing.
-    pub fn new(alloc: Global) -> Walk
-        ensures met { result.met ≡ [] }
-        ensures listed { result.listed ≡ [] }
+    /// A walk through a store that has met nothing.
+    pub fn new(alloc: Global, store: &GitStore) -> Walk
+        ensures walk { IsWalk store.now result }
+        ensures met { (met_by store.now result).met ≡ [] }
     {
         Walk {
+            size: store.len(),
+            front: 0,
+            in_order: true,
             met: IdSet::new(alloc),
+            start: 0,
             listed: IdList::new(alloc),
         }
+    }
+
+    /// Begins the list anew.
+    pub fn begin_list(&mut self, alloc: Global)
+        ensures walk { (known : List Object) → IsWalk known self.old → IsWalk known self.new }
+        ensures met { (known : List Object) → (met_by known self.new).met ≡ (met_by known self.old).met }
+        ensures listed { (known : List Object) → (met_by known self.new).listed ≡ [] }
+    {
+        self.start = self.front;
+        self.listed = IdList::new(alloc);
+    }
+
+    /// Whether the objects that were met are those of the whole store, and came in its order.
+    pub fn is_whole(&self) -> bool
+        ensures { (known : List Object) → IsWalk known self.now → IsTrue result ↔ ((met_by known self.now).met ≡ ids_of known) }
+    {
+        self.in_order && self.front == self.size
     }
 
     /// Visits the objects of commits, one commit after the other: the blobs and trees of each, and then itself.
     pub fn visit_commits(&mut self, store: &GitStore, ids: &[Id]) -> Result<(), NoMemory>
         requires commits { (cs : List CommitView) × AreWalkableCommits store.now ids.now cs }
-        requires closed { IsClosed store.now self.old.met }
-        ensures visited { OnOk result ((cs : List CommitView) → AreWalkableCommits store.now ids.now cs → Visited (objects_in cs) self.old self.new) }
-        ensures closed { OnOk result (IsClosed store.now self.new.met) }
+        requires walk { IsWalk store.now self.old }
+        requires closed { IsClosed store.now (met_by store.now self.old).met }
+        ensures visits { OnOk result ((cs : List CommitView) → AreWalkableCommits store.now ids.now cs → Visits store.now (objects_in cs) self.old self.new) }
+        ensures closed { OnOk result (IsClosed store.now (met_by store.now self.new).met) }
     {
         for id in ids {
             self.visit_commit(store, id)?;
@@ -49,9 +82,10 @@ impl Walk {
 
     fn visit_commit(&mut self, store: &GitStore, id: &Id) -> Result<(), NoMemory>
         requires commit { (c : CommitView) × IsWalkableCommit store.now id.now c }
-        requires closed { IsClosed store.now self.old.met }
-        ensures visited { OnOk result ((c : CommitView) → IsWalkableCommit store.now id.now c → Visited (commit_objects c) self.old self.new) }
-        ensures closed { OnOk result (IsClosed store.now self.new.met) }
+        requires walk { IsWalk store.now self.old }
+        requires closed { IsClosed store.now (met_by store.now self.old).met }
+        ensures visits { OnOk result ((c : CommitView) → IsWalkableCommit store.now id.now c → Visits store.now (commit_objects c) self.old self.new) }
+        ensures closed { OnOk result (IsClosed store.now (met_by store.now self.new).met) }
     {
         let Some(commit) = store.commit(id) else {
             return Ok(());
@@ -64,11 +98,15 @@ impl Walk {
     // lie on the way to a file. What a tree reaches that was met is not walked through again.
     fn visit_tree(&mut self, store: &GitStore, root: &Id, depth: usize) -> Result<(), NoMemory>
         requires walkable { IsWalkable store.now depth root.now }
-        requires closed { IsClosed store.now self.old.met }
-        ensures visited { OnOk result (Visited (walk_objects store.now depth root.now) self.old self.new) }
-        ensures closed { OnOk result (IsClosed store.now self.new.met) }
+        requires walk { IsWalk store.now self.old }
+        requires closed { IsClosed store.now (met_by store.now self.old).met }
+        ensures visits { OnOk result (Visits store.now (walk_objects store.now depth root.now) self.old self.new) }
+        ensures closed { OnOk result (IsClosed store.now (met_by store.now self.new).met) }
     {
-        if self.met.contains(root) {
+        let Some(place) = store.place(root) else {
+            return Ok(());
+        };
+        if self.has_met(place, root) {
             return Ok(());
         }
         let Some(below) = depth.checked_sub(1) else {
@@ -84,13 +122,13 @@ impl Walk {
                 self.visit_file(store, entry)?;
             }
         }
-        self.visit_object(store, root)
+        self.visit_place(store, place)
     }
 
     // Visits the object of an entry that is no directory. The commit of another repository is none.
     fn visit_file(&mut self, store: &GitStore, entry: &TreeEntry) -> Result<(), NoMemory>
-        requires { is_blob_mode entry.now.mode ≡ true → IsKnown store.now entry.now.id }
-        ensures { OnOk result (Visited (file_objects store.now entry.now) self.old self.new) }
+        requires { IsWalk store.now self.old }
+        ensures { OnOk result (Visits store.now (file_objects store.now entry.now) self.old self.new) }
     {
         if entry.mode().is_blob() {
             self.visit_object(store, entry.id())
@@ -99,11 +137,48 @@ impl Walk {
         }
     }
 
-    // Visits an object that is known. It is met then.
+    // Visits the object with this id, where it is known.
     fn visit_object(&mut self, store: &GitStore, id: &Id) -> Result<(), NoMemory>
-        requires { IsKnown store.now id.now }
-        ensures { OnOk result (Visited (objects_at store.now id.now) self.old self.new) }
+        requires { IsWalk store.now self.old }
+        ensures { OnOk result (Visits store.now (objects_at store.now id.now) self.old self.new) }
     {
+        match store.place(id) {
+            Some(place) => self.visit_place(store, place),
+            None => Ok(()),
+        }
+    }
+
+    // Whether the object with this id, which stands at this place of the store, was met.
+    fn has_met(&self, place: usize, id: &Id) -> bool
+        ensures { (known : List Object) → IsWalk known self.now → IsPlaceOf known id.now place → result ≡ has_id (met_by known self.now).met id.now }
+    {
+        place < self.front || (!self.in_order && self.met.contains(id))
+    }
+
+    // Visits the object at a place of the store.
+    fn visit_place(&mut self, store: &GitStore, place: usize) -> Result<(), NoMemory>
+        requires walk { IsWalk store.now self.old }
+        requires within { place < length store.now }
+        ensures { OnOk result ((o : Object) → slice_get store.now place ≡ Some o → Visits store.now (o ∷ []) self.old self.new) }
+    {
+        if place < self.front {
+            return Ok(());
+        }
+        if self.in_order && place == self.front {
+            self.front += 1;
+            return Ok(());
+        }
+        match store.object_at(place) {
+            Some((id, _, _)) => self.visit_other(id),
+            None => Ok(()),
+        }
+    }
+
+    // Visits an object that doesn't come in the order of the store, by its id.
+    fn visit_other(&mut self, id: &Id) -> Result<(), NoMemory>
+        ensures { OnOk result (MeetsOther id.now self.old self.new) }
+    {
+        self.in_order = false;
         let is_new = self.met.insert(*id)?;
         if is_new {
             self.listed.push(*id)

@@ -1,5 +1,5 @@
 -- Objects each of which is the first of its id have distinct ids.
-use Rattle.std.proofs.Common.{◌≡◌, Bool, true, false, true≢false, not, ◌&&◌, ◌||◌, List, [], ◌∷◌, map, refl, sym, ap, ◌∙◌}
+use Rattle.std.proofs.Common.{◌≡◌, Bool, true, false, not, ◌&&◌, ◌||◌, List, [], ◌∷◌, refl}
 use Rattle.std.specs.Prelude.{bytes_eq, filter, if◌then◌else◌}
 use Rattle.std.specs.List.{list_any}
 use Rattle.text_model.specs.Lists.{first_of_each, only_new}
@@ -8,9 +8,7 @@ use Rattle.text_model.proofs.TestLemmas.{both}
 use Rattle.text_model.proofs.Options.{not_true, or_parts}
 use Rattle.git_model.specs.Tree.{has_distinct}
 use Rattle.git_model.specs.Object.{Object, same_object}
-
-abbrev pub ids_of : List Object → List Id
-ids_of os = map (λ (o : Object). o.id) os
+use Rattle.git_section.specs.Sections.{ids_of}
 
 fewer : (p : Object → Bool) (id : Id) (os : List Object) → list_any (bytes_eq id) (ids_of os) ≡ false → list_any (bytes_eq id) (ids_of (filter p os)) ≡ false
 fewer p id [] h = h

@@ -3,6 +3,7 @@ pub mod Reading
 pub mod Walkable
 pub mod Sizes
 pub mod Distinct
+pub mod Once
 pub mod Known
 pub mod Written
 pub mod Sound

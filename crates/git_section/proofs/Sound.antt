@@ -6,7 +6,7 @@ use Rattle.text_model.specs.Text.{Bytes}
 use Rattle.text_model.specs.Limits.{rows_limit}
 use Rattle.text_model.specs.Id.{Id, commit, same_kind}
 use Rattle.git_model.specs.Tree.{has_distinct}
-use Rattle.git_model.specs.Object.{Object, objects_after_all}
+use Rattle.git_model.specs.Object.{Object}
 use Rattle.git_model.specs.Stream.{stream_reading}
 use Rattle.git_store.specs.Known.{AreKnown}
 use Rattle.view_model.specs.View.{CommitView, IsCommitView, commit_id, rows_size}
@@ -23,7 +23,7 @@ use Rattle.git_section.specs.Sections.{HoldsCommits, IsRead, objects_of, commit_
 use Rattle.git_section.proofs.Sizes.{rows_within}
 use Rattle.git_section.proofs.Distinct.{distinct_filter, distinct_new}
 use Rattle.git_section.proofs.Known.{one_content}
-use Rattle.git_section.proofs.Written.{written, stream, same}
+use Rattle.git_section.proofs.Written.{written, stream, same, has_written, once_written}
 
 module _ (known : List Object) (are : AreKnown known) where
   ids_are : (ids : List Id) (cs : List CommitView) → AreCommitsHeld known ids cs → ids ≡ map commit_id cs
@@ -71,6 +71,6 @@ module _ (bytes : Bytes) (s : GitSection) (read : IsRead bytes s) (cs : List Com
     ids = ids;
     held = are.0;
     walks = are.1;
-    known = read.holds ∙ ap (objects_after_all []) (sym are_written);
+    known = has_written bytes s read cs dump ∙ sym (once_written cs);
     sound = read.known;
   }

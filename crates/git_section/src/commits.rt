@@ -9,7 +9,7 @@ use crate::section::{GitSection, read_section};
 use crate::walks::have_walks;
 use bridge_text::NoMemory;
 use git_batch::Contents;
-use git_dump::is_stream;
+use git_dump::is_in_order;
 use shared_text::Text;
 use std::alloc::Global;
 
@@ -29,7 +29,7 @@ pub fn read_commits<C: Contents>(
     if !have_walks(alloc, &section.store, section.ids.as_slice())? {
         return Ok(None);
     }
-    let is_whole = is_stream(alloc, &section.store, section.ids.as_slice(), bytes)?;
+    let is_whole = is_in_order(alloc, &section.store, section.ids.as_slice())?;
     if is_whole {
         Ok(Some(section))
     } else {

@@ -1,7 +1,7 @@
 // What a stream brings.
-ghost use Rattle.std.specs.Prelude.{◌≡◌, [], IfOk, MatchOption, false, is_ok};
+ghost use Rattle.std.specs.Prelude.{◌≡◌, [], IfOk, MatchOption, false};
 ghost use Rattle.git_model.specs.Stream.{stream_reading};
-ghost use Rattle.git_section.specs.Sections.{IsRead};
+ghost use Rattle.git_section.specs.Sections.{IsRead, brings_once};
 
 use bridge_text::{IdList, NoMemory};
 use git_batch::{Contents, StreamFault, commit_ids, read_known_into};
@@ -35,21 +35,26 @@ impl GitSection {
     }
 }
 
-/// The objects that these bytes bring to an empty store; `None` exactly where the bytes are refused. Blobs that are known
-/// aren't hashed.
+/// The objects that these bytes bring; `None` exactly where the bytes are refused, or an object comes twice. Blobs that are
+/// known aren't hashed.
 pub fn read_section<C: Contents>(
     alloc: Global,
     bytes: &Text,
     known: &C,
 ) -> Result<Option<GitSection>, NoMemory>
-    ensures { IfOk result (λ found. MatchOption found (is_ok (stream_reading [] bytes.now) ≡ false) (IsRead bytes.now)) }
+    ensures { IfOk result (λ found. MatchOption found (brings_once (stream_reading [] bytes.now) ≡ false) (IsRead bytes.now)) }
 {
     let text = again(bytes)?;
     let mut source = SharedPart::new(text);
     match read_known_into(alloc, &mut source, known, GitStore::new(alloc)) {
         Ok((store, came)) => {
-            store.check();
+            if store.len() < came.len() {
+                return Ok(None);
+            }
             let ids = commit_ids(alloc, &came)?;
+            let whole = again(bytes)?;
+            let mut store = store;
+            store.keep_written(whole);
             Ok(Some(GitSection { store, ids }))
         }
         Err(StreamFault::Refused(_)) => Ok(None),

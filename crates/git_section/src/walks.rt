@@ -6,7 +6,6 @@ ghost use Rattle.tree_sum.specs.Sums.{AreSums};
 
 use bridge_text::{Id, NoMemory};
 use git_store::GitStore;
-use git_view::commits_are_held;
 use std::alloc::Global;
 use tree_sum::Sums;
 
@@ -29,7 +28,6 @@ fn has_walk(sums: &mut Sums, store: &GitStore, id: &Id) -> Result<bool, NoMemory
     ensures has { IfOk result (λ has. IsTrue has ↔ ((c : CommitView) × IsWalkableCommit store.now id.now c)) }
     ensures sums { AreSums store.now sums.new }
 {
-    commits_are_held(store, id);
     let Some(commit) = store.commit(id) else {
         return Ok(false);
     };

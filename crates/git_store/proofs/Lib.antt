@@ -6,3 +6,5 @@ pub mod OnceLemmas
 pub mod PlacingLemmas
 pub mod SeatLemmas
 pub mod Growth
+pub mod Places
+pub mod WrittenLemmas

@@ -58,7 +58,7 @@ absent (z ∷ ids) (suc i) x y none h e = by (bytes_eq x z) refl (absent ids i x
     by true s rest = true≢false (sym (rw s refl) ∙ none)
     by false s rest = rest (sym (rw s refl) ∙ none) h e
 
-one_place : (ids : List Id) (i j : ℕ) (x y : Id) → has_distinct ids ≡ true → slice_get ids i ≡ Some x → slice_get ids j ≡ Some y → x ≡ y → i ≡ j
+pub one_place : (ids : List Id) (i j : ℕ) (x y : Id) → has_distinct ids ≡ true → slice_get ids i ≡ Some x → slice_get ids j ≡ Some y → x ≡ y → i ≡ j
 one_place [] i j x y d h k e = cc
 one_place (z ∷ ids) zero zero x y d h k e = refl
 one_place (z ∷ ids) zero (suc j) x y d h k e =

@@ -1,8 +1,10 @@
 pub mod Faults
 pub mod Held
 pub mod Known
+pub mod Places
 pub mod Ancestry
 pub mod OrderFaults
 pub mod Waiting
 pub mod Stage
 pub mod Growth
+pub mod Written

@@ -10,7 +10,9 @@ mod order;
 mod parents;
 mod parse;
 mod store;
+mod written;
 
 pub use fault::GitAddFault;
 pub use order::OrderFault;
 pub use store::GitStore;
+pub use written::Written;

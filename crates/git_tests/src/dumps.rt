@@ -4,7 +4,7 @@ ghost use Rattle.git_dump.specs.Commits.{IsWalkableCommit, AreWalkableCommits};
 
 // Streams of what a store has.
 use bridge_text::{Id, IdList, Kind, decimal_into, object_id};
-use git_dump::{Dump, is_stream, write, written_len};
+use git_dump::{Dump, is_in_order, write, written_len};
 use git_store::GitStore;
 use git_view::commits_are_held;
 use rope::Rope;
@@ -112,6 +112,25 @@ const CASES: &[Case] = &[
     Case(&[2, 2], 1, &[]),
 ];
 
+/// Objects by their places, in the order in which a store has them; commits among them; and whether the store has just the
+/// objects of the stream of these commits, in its order.
+struct OrderCase(&'static [usize], &'static [usize], bool);
+
+const ORDERS: &[OrderCase] = &[
+    OrderCase(&[], &[], true),
+    OrderCase(&[0], &[], false),
+    OrderCase(&[0, 1, 2], &[2], true),
+    OrderCase(&[0, 1, 2], &[2, 2], true),
+    OrderCase(&[1, 0, 2], &[2], false),
+    OrderCase(&[0, 1, 2, 3], &[2], false),
+    OrderCase(&[3, 0, 1, 2], &[2], false),
+    OrderCase(&[3, 4, 5, 6, 7, 8], &[8], true),
+    OrderCase(&[4, 3, 5, 6, 7, 8], &[8], false),
+    OrderCase(&[3, 4, 5, 6, 7, 8, 9, 10, 11], &[8, 11], true),
+    OrderCase(&[3, 4, 5, 6, 7, 8, 9, 10, 11], &[11, 8], false),
+    OrderCase(&[3, 4, 5, 6, 7, 8, 9, 10, 11], &[8], false),
+];
+
 fn object_at(place: usize) -> Result<&'static Object, Fail> {
     Ok(OBJECTS.get(place).ok_or("an object")?)
 }
@@ -197,49 +216,29 @@ fn is_written(rt: &impl Abort, alloc: Global, store: &GitStore, case: &Case) -> 
     let len = written_len(alloc, store, order.as_slice())?;
     let bytes = write(alloc, store, &order, *from)?.joined()?;
     let want = stream_of(alloc, want)?;
-    let is_told = *from > 0 || is_told(alloc, store, order.as_slice(), want.as_slice())?;
     let mut out = Rope::of(alloc, b"front ".to_vec(alloc)?);
     let dump = Dump::collect(alloc, store, order.as_slice(), *from)?;
     dump.append(&mut out)?;
     let is_appended = out.joined()?.strip_prefix(b"front ") == Some(want.as_slice())
         && dump.len() == want.len() as u64;
-    Ok(bytes == want && is_appended && is_told && (*from > 0 || len == want.len() as u64))
+    Ok(bytes == want && is_appended && (*from > 0 || len == want.len() as u64))
 }
 
-// Whether these bytes are told to be the stream of the commits, and neither fewer of them nor more nor others.
-fn is_told(alloc: Global, store: &GitStore, order: &[Id], stream: &[u8]) -> Result<bool, Fail>
-    requires { (cs : List CommitView) × AreWalkableCommits store.now order.now cs }
-{
-    let is_same = is_stream(alloc, store, order, stream)?;
-    let mut more = stream.to_vec(alloc)?;
-    more.push(b'\n')?;
-    let is_more = is_stream(alloc, store, order, more.as_slice())?;
-    let is_fewer = match stream.split_last() {
-        Some((_, fewer)) => is_stream(alloc, store, order, fewer)?,
-        None => false,
-    };
-    Ok(is_same && !is_more && !is_fewer && others_are_told(alloc, store, order, stream)?)
-}
-
-// Whether no bytes that differ from the stream in one are told to be it.
-fn others_are_told(
-    alloc: Global,
-    store: &GitStore,
-    order: &[Id],
-    stream: &[u8],
-) -> Result<bool, Fail>
-    requires { (cs : List CommitView) × AreWalkableCommits store.now order.now cs }
-{
-    for i in 0..stream.len() {
-        let mut other = stream.to_vec(alloc)?;
-        if let Some(byte) = other.get_mut(i) {
-            *byte ^= 1;
-        }
-        if is_stream(alloc, store, order, other.as_slice())? {
-            return Ok(false);
-        }
+// A store with these objects.
+fn store_of(rt: &impl Abort, alloc: Global, places: &[usize]) -> Result<GitStore, Fail> {
+    let mut store = GitStore::new(alloc);
+    for place in places {
+        let is_added = add(alloc, &mut store, object_at(*place)?)?;
+        assert!(rt; is_added);
     }
-    Ok(true)
+    Ok(store)
+}
+
+fn is_told(rt: &impl Abort, alloc: Global, case: &OrderCase) -> Result<bool, Fail> {
+    let OrderCase(objects, commits, want) = case;
+    let store = store_of(rt, alloc, objects)?;
+    let order = order_of(alloc, &store, commits)?;
+    Ok(is_in_order(alloc, &store, order.as_slice())? == *want)
 }
 
 #[test]
@@ -251,5 +250,14 @@ fn streams(rt: HostRuntime) -> Result<(), Fail> {
     }
     let one = stream_of(rt.alloc(), &[0, 1, 2])?;
     assert!(rt; one.as_slice() == ONE);
+    Ok(())
+}
+
+#[test]
+fn orders(rt: HostRuntime) -> Result<(), Fail> {
+    for (i, case) in ORDERS.iter().enumerate() {
+        let is_told = is_told(&rt, rt.alloc(), case)?;
+        assert!(rt; is_told, "at {i}");
+    }
     Ok(())
 }

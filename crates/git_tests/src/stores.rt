@@ -251,3 +251,58 @@ fn fields(rt: HostRuntime) -> Result<(), Fail> {
     assert!(rt; has_two(&store, &two) && has_tag(&store, &tag));
     Ok(())
 }
+
+/// Ids, and the places of their objects, in the order in which they came first.
+const PLACES: &[(&[u8], Option<usize>)] = &[
+    (HELLO, Some(0)),
+    (EMPTY, Some(1)),
+    (TREE, Some(2)),
+    (TWO, Some(3)),
+    (ONE, Some(4)),
+    (TAG, Some(5)),
+    (b"204b60738bbf3fc0ec4c396e0e23c8c062a70d36", None),
+];
+
+// Whether the object stands at this place, or isn't there.
+fn stands_at(store: &GitStore, id: &Id, want: Option<usize>) -> bool {
+    let Some(place) = want else {
+        return store.place(id).is_none();
+    };
+    match store.object_at(place) {
+        Some((found, _, _)) => *found == *id && store.place(id) == want,
+        None => false,
+    }
+}
+
+#[test]
+fn places(rt: HostRuntime) -> Result<(), Fail> {
+    let store = filled(&rt, rt.alloc())?;
+    for (i, (digits, want)) in PLACES.iter().enumerate() {
+        let id = id(digits)?;
+        assert!(rt; stands_at(&store, &id, *want), "at {i}");
+    }
+    assert!(rt; store.len() == 6 && store.object_at(6).is_none());
+    Ok(())
+}
+
+// How many objects the text has that the store keeps of its first ones, and how long the text is.
+fn written_of(store: &GitStore) -> Option<(usize, usize)> {
+    let written = store.written()?;
+    Some((written.count, written.text.len()))
+}
+
+// A store without objects that keeps the text of their stream.
+#[tactic(auto, unfolding(git_model::specs::Stream::stream_text))]
+fn empty_and_written(alloc: Global) -> Result<GitStore, Fail> {
+    let mut store = GitStore::new(alloc);
+    store.keep_written(keep(Vec::new(alloc))?);
+    Ok(store)
+}
+
+#[test]
+fn written(rt: HostRuntime) -> Result<(), Fail> {
+    let new = GitStore::new(rt.alloc());
+    let store = empty_and_written(rt.alloc())?;
+    assert!(rt; written_of(&new).is_none() && written_of(&store) == Some((0, 0)));
+    Ok(())
+}

@@ -10,12 +10,12 @@ text-length : (id word size content : Bytes) → length (line (spaced (id ∷ wo
 text-length id word size content = simp length-append (omega arith)
 
 pub returns : goal.returns
-returns c =
+returns c = λ id is.
     omega (
       arith,
-      text-length (hex c.args.id.now) (kind_word (object_kind c.args.kind)) (decimal (length c.args.content.now)) c.args.content.now,
-      length-hex c.args.id.now,
-      c.bytes-bytes.ensures.id.0,
+      text-length (hex id) (kind_word (object_kind c.args.kind)) (decimal (length c.args.content.now)) c.args.content.now,
+      length-hex id,
+      is.0,
       ap (λ (b : Bytes). length b) c.word.ensures,
       ap (λ (b : Bytes). length b) c.format-size.ensures.text,
     )

@@ -1,4 +1,4 @@
-use Rattle.std.proofs.Common.{◌≡◌, ◌<◌, [], length, true, false, true≢false, subst, sym, ◌∙◌, arith}
+use Rattle.std.proofs.Common.{◌≡◌, ◌<◌, [], length, false, true≢false, subst, sym, ◌∙◌, arith}
 use Rattle.git_dump.proofs.CommitLemmas.{commit-at_place}
 use Rattle.tree_sum.specs.Sums.{AreSums}
 use Rattle.git_section.proofs.Walkable.{one_more}

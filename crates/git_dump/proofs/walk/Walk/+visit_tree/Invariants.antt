@@ -1,7 +1,7 @@
 use Rattle.std.proofs.Common.{take}
 use Rattle.std.specs.List.{flat_map}
 use Rattle.git_dump.specs.Walks.{entry_objects, walk_objects, IsClosed}
-use Rattle.git_dump.specs.Visits.{Visited}
+use Rattle.git_dump.specs.Visits.{met_by, Visits}
 use Rattle.git_dump.proofs.walk.Walk.+visit_tree.Given as goal
 
 abbrev pub decreases-visit_tree : goal.decreases-visit_tree
@@ -9,6 +9,6 @@ decreases-visit_tree l = l.depth
 
 abbrev pub invariant-loop-entry : goal.invariant-loop-entry
 invariant-loop-entry l = record {
-  visited : Visited (flat_map (entry_objects l.store (walk_objects l.store l.below)) (take l.entry-index l.entry-items)) l.fn.self l.self;
-  closed : IsClosed l.store l.self.met;
+  visits : Visits l.store (flat_map (entry_objects l.store (walk_objects l.store l.below)) (take l.entry-index l.entry-items)) l.fn.self l.self;
+  closed : IsClosed l.store (met_by l.store l.self).met;
 }

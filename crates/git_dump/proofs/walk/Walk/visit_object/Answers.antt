@@ -1,25 +1,21 @@
-use Rattle.std.proofs.Common.{List, subst, sym}
+use Rattle.std.proofs.Common.{Option, sym, subst}
 use Rattle.std.proofs.lemmas.Result.{on_ok_weaker}
 use Rattle.git_model.specs.Object.{Object}
-use Rattle.git_dump.specs.Visits.{Visited}
-use Rattle.git_dump.proofs.VisitLemmas.{known-is, visited-old, visited-new}
+use Rattle.git_dump.specs.Walks.{object_list}
+use Rattle.git_dump.specs.Visits.{Visits}
+use Rattle.git_dump.proofs.Between.{within}
+use Rattle.git_dump.proofs.Counted.{visits-none}
 use Rattle.git_dump.proofs.walk.Walk.visit_object.Goals as goal
 
-pub returns-then-is_new : goal.returns-then-is_new
-returns-then-is_new c =
-    let known : Object = c.requires.0 in
-    let o : Object = record { id = c.args.id.now; kind = known.kind; content = known.content } in
-    let w = c.args.self.now in
-    let is = known-is c.args.store.now c.args.id.now known c.requires.1 in
-    on_ok_weaker c.push.result
-    (λ push. subst (λ (os : List Object). Visited os w (record { met = c.insert.new.self; listed = c.push.new.self })) (sym is)
-    (visited-new o w.met c.insert.new.self w.listed c.push.new.self c.in_ok-is_new.is_new c.in_ok-is_new.ensures.new c.if-is_new.true c.in_ok-is_new.ensures.ok push))
-    c.push.ensures.ok
+pub visit_place-requires-clause-within : goal.visit_place-requires-clause-within
+visit_place-requires-clause-within c = let p = c.in-Some.ensures.place in within c.args.store.now c.in-Some.place p.object p.stands
 
-pub returns-else-is_new : goal.returns-else-is_new
-returns-else-is_new c =
-    let known : Object = c.requires.0 in
-    let o : Object = record { id = c.args.id.now; kind = known.kind; content = known.content } in
-    let w = c.args.self.now in
-    subst (λ (os : List Object). Visited os w (record { met = c.insert.new.self; listed = w.listed })) (sym (known-is c.args.store.now c.args.id.now known c.requires.1))
-    (visited-old o w.met c.insert.new.self w.listed c.in_ok-is_new.is_new c.in_ok-is_new.ensures.new c.if-is_new.false c.in_ok-is_new.ensures.ok)
+pub returns-in-Some : goal.returns-in-Some
+returns-in-Some c =
+    let p = c.in-Some.ensures.place in
+    on_ok_weaker c.visit_place.result
+    (λ v. subst (λ (found : Option Object). Visits c.args.store.now (object_list found) c.args.self.now c.visit_place.new.self) (sym p.found) (v p.object p.stands))
+    c.visit_place.ensures
+
+pub returns-in-None : goal.returns-in-None
+returns-in-None c = visits-none c.args.store.now c.args.self.now c.args.id.now c.requires c.in-None.ensures.place

@@ -13,4 +13,4 @@ returns-clause-object c =
     ∙ found-in id c.self.inside.objects.entries ∙ ap (λ (known : List Object). object_at known id) c.self.view_is
 
 pub returns-clause-value : goal.returns-clause-value
-returns-clause-value c = value-lent c.args.id.now c.self.inside.objects.entries c.get.result c.self.invariant.values c.get.ensures.value
+returns-clause-value c = value-lent c.args.id.now c.self.inside.objects.entries c.get.result c.self.invariant.0.values c.get.ensures.value

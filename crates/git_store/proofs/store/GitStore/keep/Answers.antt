@@ -8,6 +8,7 @@ use Rattle.git_store.specs.declared.held.Held.{Held}
 use Rattle.git_store.specs.Held.{parsed_kind, objects_in, object_in}
 use Rattle.git_store.specs.Known.{IsSound}
 use Rattle.git_store.proofs.HeldLemmas.{Kept, kept, none-held}
+use Rattle.git_store.proofs.WrittenLemmas.{written-push}
 use Rattle.git_store.proofs.store.GitStore.keep.Goals as goal
 
 after_insert : (c : goal.Joined-branch-2) → Kept c.args.self.now (c.args.id, record { content = c.args.content; parsed = c.args.parsed }) c.insert.new.self.entries
@@ -22,11 +23,17 @@ after_insert c =
       bytes = c.requires.bytes;
       fits = c.requires.fits;
     } in
-    kept c.args.self.now es c.insert.new.self.entries (c.args.id, held) c.self.invariant c.self.view_is entries c.requires.fresh
+    kept c.args.self.now es c.insert.new.self.entries (c.args.id, held) c.self.invariant.0 c.self.view_is entries c.requires.fresh
     (sym c.requires.its_id) c.requires.value sound
 
 pub invariant_of-self-2 : goal.invariant_of-self-2
-invariant_of-self-2 c = (after_insert c).store
+invariant_of-self-2 c =
+    let es = c.self.inside.objects.entries in
+    let after = after_insert c in (
+      after.store,
+      written-push (objects_in es) (objects_in c.insert.new.self.entries) (object_in (c.args.id, record { content = c.args.content; parsed = c.args.parsed })) c.self.inside.written
+          (after.view ∙ ap (λ (known : List Object). known ++ object_in (c.args.id, record { content = c.args.content; parsed = c.args.parsed }) ∷ []) (sym c.self.view_is)) c.self.invariant.1,
+    )
 
 pub returns-clause-ok : goal.returns-clause-ok
 returns-clause-ok c = (after_insert c).view

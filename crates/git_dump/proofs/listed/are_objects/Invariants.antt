@@ -1,6 +1,0 @@
-use Rattle.std.proofs.Common.{◌≡◌, ◌++◌, take}
-use Rattle.git_dump.proofs.ListedLemmas.{text_of}
-use Rattle.git_dump.proofs.listed.are_objects.Given as goal
-
-abbrev pub invariant-loop-id : goal.invariant-loop-id
-invariant-loop-id l = l.bytes ≡ text_of l.store (take l.id-index l.ids) ++ l.rest
