@@ -1,14 +1,8 @@
 ghost use Rattle.std.specs.Prelude.{◌≡◌, ◌==◌, ◌<◌, ◌++◌, [], ◌∷◌, length, slice_get, Some, OnOk, OnErr, IfOk};
-ghost use Rattle.text_model.specs.Text.{IsBytes};
 
 use crate::memory::NoMemory;
 use std::alloc::Global;
 use std::marker::Model;
-
-/// A law, which does nothing when it runs: each element of a slice of bytes is below 256.
-pub fn each_is_byte(raw: &[u8])
-    ensures { IsBytes raw.now }
-{}
 
 /// A list of bytes. Contracts see the list.
 #[derive(Debug, Drop)]

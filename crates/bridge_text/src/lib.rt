@@ -16,7 +16,7 @@ mod list;
 mod memory;
 mod path;
 
-pub use bytes::{Bytes, each_is_byte};
+pub use bytes::Bytes;
 pub use cut::{cut_at, first_line, line_end};
 pub use decimal::{decimal_into, decimal_of, is_decimal_of};
 pub use escape::{TextFault, escape_into, unescape_into};

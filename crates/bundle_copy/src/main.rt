@@ -11,7 +11,6 @@ use bridge_text::{IdList, NoMemory, decimal_of};
 use hg_bundle::{Arrival, Arrivals, RevKind, read_into};
 use hg_dump::write;
 use hg_store::HgStore;
-use hg_view::views_are_held;
 use rope::Rope;
 use std::alloc::Global;
 use std::env;
@@ -42,10 +41,7 @@ fn put_arrival(store: &HgStore, order: &mut IdList, arrival: &Arrival) -> Result
         return Ok(());
     }
     match store.view_of(&arrival.node) {
-        Ok(_) => {
-            views_are_held(store, &arrival.node);
-            order.push(arrival.node)
-        }
+        Ok(_) => order.push(arrival.node),
         Err(_) => Ok(()),
     }
 }

@@ -21,6 +21,7 @@ use Rattle.pair_known.specs.Over.{IsCommitOver}
 use Rattle.changeset_rule.proofs.RuledLemmas.{has-parents, ruled}
 use Rattle.changeset_rule.proofs.ViewLemmas.{date-plain}
 use Rattle.partner_model.specs.Mark.{with_extras, mark_changeset}
+use Rattle.mark_law.proofs.MarkExtras.{marks-extras}
 use Rattle.changeset_mark.specs.Marks.{marks_over, HasDateOf}
 
 -- ---- the changeset with extras
@@ -41,6 +42,10 @@ pub date-of : (blocks : List Block) (v : CommitView) (given : UserDate) → give
 date-of blocks v given g = subst (λ (x : UserDate). HasDateOf x (changeset_by_rule blocks v)) (sym g) (ruled-date blocks v)
 
 -- ---- with extras
+
+-- the extras of marks have the form of extras
+pub are-extras : (extras : List Extra) (m : ChangesetMarks) → AreExtrasOf extras m → AreExtras extras
+are-extras extras m are = subst AreExtras (sym are.1) (marks-extras m are.0)
 
 module _ (h : ChangesetView) (given : UserDate) (has : HasDateOf given h) (extras : List Extra) (are : AreExtras extras) where
   fields-with : IsChangeset h.fields → IsChangeset (with_extras h given extras).fields

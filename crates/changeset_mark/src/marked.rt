@@ -1,5 +1,6 @@
 ghost use Rattle.std.specs.Prelude.{◌≡◌, ◌≤◌, List, length, Some, Err, IfOk, OnOk};
 ghost use Rattle.text_model.specs.Lists.{Each};
+ghost use Rattle.hg_model.specs.Changeset.{AreExtras};
 ghost use Rattle.hg_model.specs.Revision.{Revision};
 ghost use Rattle.view_model.specs.View.{ChangesetView, CommitView, ChangesetFits};
 ghost use Rattle.pair_model.specs.Block.{Block};
@@ -34,10 +35,9 @@ pub fn mark_changeset(alloc: Global, known: &Known, c: &GitDraft) -> Result<HgDr
 {
     let given = user_of_line(alloc, c.commit.author.as_slice())?;
     let extras = marks_of(alloc, known, c, &given)?.to_extras(alloc)?;
-    extras.are_extras();
     let plain = make_changeset(alloc, known, c, &[])?;
     let marked = with_extras(alloc, plain, &given, extras)?;
-    if !changeset_fits(alloc, known, &marked)? {
+    if !changeset_fits(alloc, &marked)? {
         return Err(PairFault::PairLimit);
     }
     Ok(marked)
@@ -50,13 +50,12 @@ fn with_extras(
     given: &UserDate,
     extras: Extras,
 ) -> Result<HgDraft, NoMemory>
-    ensures { IfOk result (λ d. (known : List Revision) (h : ChangesetView) → IsMadeChangeset known plain h → HasDateOf given.now h
+    ensures { IfOk result (λ d. AreExtras extras → (known : List Revision) (h : ChangesetView) → IsMadeChangeset known plain h → HasDateOf given.now h
         → IsMadeChangeset known d (mark.with_extras h given.now extras)) }
 {
     if extras.is_empty() {
         return Ok(plain);
     }
-    extras.are_extras();
     let mut marked = plain;
     set_date(&mut marked.changeset, given, extras);
     let text = text_of(alloc, &marked.changeset)?;

@@ -4,7 +4,7 @@ ghost use Rattle.hg_model.specs.Changeset.{Plain, changeset_text};
 ghost use Rattle.hg_changeset.specs.Values.{changeset_value};
 ghost use Rattle.pair_model.specs.User.{user_of_line, description_of};
 
-use bridge_text::{Bytes, Id, NoMemory, Paths, each_is_byte};
+use bridge_text::{Bytes, Id, NoMemory, Paths};
 use git_object::Commit;
 use hg_changeset::{Changeset, DateLine, Extras};
 use name_rule::{desc_of_message, user_of_line};
@@ -27,10 +27,30 @@ pub fn fields_of(
     ensures user { IfOk result (λ x. IsBytes x.user) }
     ensures desc { IfOk result (λ x. IsBytes x.desc) }
 {
-    let author = user_of_line(alloc, commit.author.as_slice())?;
-    each_is_byte(author.user.as_slice());
-    let desc = Bytes::of(alloc, desc_of_message(commit.message.as_slice()))?;
-    each_is_byte(desc.as_slice());
+    let author = commit.author.as_slice();
+    let message = commit.message.as_slice();
+    changeset_of(alloc, author, message, manifest, files)
+}
+
+// The changeset with this author's line, message, manifest and files.
+fn changeset_of(
+    alloc: Global,
+    author: &[u8],
+    message: &[u8],
+    manifest: Id,
+    files: Paths,
+) -> Result<Changeset, NoMemory>
+    ensures fields { IfOk result (λ x. changeset_value x ≡ record {
+      manifest = manifest;
+      user = (user_of_line author.now).user;
+      date = Plain (user_of_line author.now).time (user_of_line author.now).tz [];
+      files = files;
+      description = description_of message.now;
+    }) }
+    ensures user { IfOk result (λ x. IsBytes x.user) }
+    ensures desc { IfOk result (λ x. IsBytes x.desc) }
+{
+    let author = user_of_line(alloc, author)?;
     Ok(Changeset {
         manifest,
         user: author.user,
@@ -40,7 +60,7 @@ pub fn fields_of(
             extras: Extras::new(alloc),
         },
         files,
-        desc,
+        desc: Bytes::of(alloc, desc_of_message(message))?,
     })
 }
 

@@ -1,6 +1,8 @@
-ghost use Rattle.std.specs.Prelude.{◌≡◌, ◌≤◌, ◌↔◌, length, map, IfOk, IsTrue};
+ghost use Rattle.std.specs.Prelude.{◌≡◌, ◌≤◌, ◌↔◌, List, length, map, IfOk, IsTrue};
 ghost use Rattle.text_model.specs.Lists.{Each};
 ghost use Rattle.hg_model.specs.Changeset.{changeset_text};
+ghost use Rattle.hg_model.specs.Revision.{Revision};
+ghost use Rattle.hg_store.specs.Known.{AreAdded};
 ghost use Rattle.hg_changeset.specs.Values.{changeset_value};
 ghost use Rattle.view_model.specs.View.{ChangesetView, ChangesetFits, commit_limit, text_limit, rows_text};
 ghost use Rattle.pair_known.specs.Drafts.{AreTextsOf};
@@ -10,15 +12,14 @@ ghost use Rattle.pair_known.specs.Ruled.{IsMadeChangeset};
 use crate::fields::text_of;
 use bridge_text::{COMMIT_LIMIT, NoMemory, TEXT_LIMIT};
 use manifest_rule::lines_fit;
-use pair_known::{FreshFiles, HgDraft, Known};
+use pair_known::{FreshFiles, HgDraft};
 use std::alloc::Global;
 
-/// Whether the texts of a changeset are within their limits: its own, its manifest's and those of its files. Nothing is hashed, and texts
-/// that the draft brings aren't written again.
-pub fn changeset_fits(alloc: Global, known: &Known, d: &HgDraft) -> Result<bool, NoMemory>
-    ensures { IfOk result (λ fits. (v : ChangesetView) → IsMadeChangeset known.now.hg d.now v → (IsTrue fits ↔ ChangesetFits v)) }
+/// Whether the texts of a changeset are within their limits: its own, its manifest's and those of its files. Those of the files that it
+/// doesn't bring are, since each revision of a store is. Nothing is hashed, and texts that the draft brings aren't written again.
+pub fn changeset_fits(alloc: Global, d: &HgDraft) -> Result<bool, NoMemory>
+    ensures { IfOk result (λ fits. (known : List Revision) (v : ChangesetView) → AreAdded known → IsMadeChangeset known d.now v → (IsTrue fits ↔ ChangesetFits v)) }
 {
-    known.hg.check();
     if !manifest_fits(d) {
         return Ok(false);
     }

@@ -68,7 +68,7 @@ pub fn rule_changeset(alloc: Global, known: &Known, c: &GitDraft) -> Result<HgDr
         → ChangesetFits (changeset_by_rule blocks v) → ⊥ }
 {
     let changeset = make_changeset(alloc, known, c, &[])?;
-    if !changeset_fits(alloc, known, &changeset)? {
+    if !changeset_fits(alloc, &changeset)? {
         return Err(PairFault::PairLimit);
     }
     Ok(changeset)

@@ -9,7 +9,7 @@ use Rattle.hg_store.specs.Known.{AreAdded}
 use Rattle.view_model.specs.View.{ChangesetView, CommitView}
 use Rattle.hg_model.specs.Changeset.{Changeset}
 use Rattle.hg_changeset.specs.Values.{changeset_value}
-use Rattle.pair_model.specs.Block.{Block, Parents}
+use Rattle.pair_model.specs.Block.{Block, Parents, block_of_node}
 use Rattle.pair_model.specs.MarkList.{ChangesetMarks}
 use Rattle.pair_model.specs.Octopus.{links_of, parents_of_commit}
 use Rattle.partner_model.specs.Partner.{UnmarksChangeset, IsHeldView}
@@ -20,7 +20,7 @@ use Rattle.pair_known.specs.Ruled.{IsMadeCommit}
 use Rattle.file_rule.specs.Parents.{IsParent, IsParentView}
 use Rattle.file_rule.specs.declared.parents.Parent.{Parent}
 use Rattle.commit_rule.specs.Parts.{AreShortBodies}
-use Rattle.commit_rule.proofs.RuledLemmas.{some-old}
+use Rattle.commit_rule.proofs.RuledLemmas.{some-old, asked-with}
 use Rattle.link_rule.specs.Links.{links_along}
 use Rattle.changeset_unmark.specs.Drafts.{IsBuiltCommit}
 use Rattle.changeset_unmark.specs.Heads.{IsDateOf}
@@ -40,7 +40,7 @@ many-count ids h = by (nat_le (length ids) 2) refl
     by true e = absurd (omega (arith, leb-true (length ids) 2 e))
     by false e = refl
 
-module _ (k : Known) (added : AreAdded k.hg) (are : AreKnown k.git) (blocks : List Block) (d : HgDraft) (v : ChangesetView) (ids nodes : List Id) (over : IsOctopusOver k blocks d v ids nodes)
+module _ (k : Known) (added : AreAdded k.hg) (blocks : List Block) (d : HgDraft) (v : ChangesetView) (ids nodes : List Id) (over : IsOctopusOver k blocks d v ids nodes)
     (m : ChangesetMarks) (dated : IsDateOf (changeset_value d.changeset).date m) (many : m.parents ≡ Some (length ids)) where
   date : IsDateOf (v.fields).date m
   date = subst (λ (x : Changeset). IsDateOf x.date m) (sym over.inside.draft.fields) dated
@@ -88,13 +88,13 @@ module _ (k : Known) (added : AreAdded k.hg) (are : AreKnown k.git) (blocks : Li
           let there = unmarked k added blocks d v ids nodes over c same u in
           true≢false (sym (test.1 (subst (λ (X : Type 0). X) (same-links c same (ap (λ (x : CommitView). x.value) it ∙ some.1.value)) there)) ∙ isnt)
 
-      pub octopus-some : t ≡ true → (c : CommitView) × UnmarksChangeset blocks (IsHeldView k.hg) v c × IsBuiltCommit k.git made c × (AreShortBodies v.rows → IsMadeCommit k.git made c)
-      octopus-some on =
+      pub octopus-some : ((b : Block) → block_of_node blocks node ≡ Some b → AreKnown k.git) → t ≡ true → (c : CommitView) × UnmarksChangeset blocks (IsHeldView k.hg) v c × IsBuiltCommit k.git made c × (AreShortBodies v.rows → IsMadeCommit k.git made c)
+      octopus-some known on =
           let there = subst (λ (X : Type 0). X) (sym (same-links (commit_named blocks ids v m) refl some.1.value)) (test.0 on) in
           let same = alike k added blocks d v ids nodes over (commit_named blocks ids v m) refl there in
           let back = named-back blocks ids (parents_of_commit blocks (commit_named blocks ids v m)) (own k added blocks d v ids nodes over) v m same some.0 in
-          let old = some-old k blocks over.inside.history.held are node in
-          let fit = items-right k added blocks d v ids node (own k added blocks d v ids nodes over) named are old.0 old.1 m.tree date.3.tree some.0.residue.fit in (
+          let old = some-old blocks node in
+          let fit = items-right k added blocks d v ids node (own k added blocks d v ids nodes over) named old.0 old.1 (asked-with k blocks node known old.0 old.1) m.tree date.3.tree some.0.residue.fit in (
             commit_named blocks ids v m,
             unmarks blocks (IsHeldView k.hg) v over.inside.view m date ids (parents_of_commit blocks (commit_named blocks ids v m)) fit refl same.p same.q over.paired over.most over.distinct
                 (many-count ids over.least ∙ sym many) (walked k added blocks d v ids nodes over (commit_named blocks ids v m) refl there) back,

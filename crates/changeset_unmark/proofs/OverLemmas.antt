@@ -10,7 +10,6 @@ use Rattle.git_model.specs.Object.{Object, knows_object}
 use Rattle.git_model.specs.Unfold.{FileRow}
 use Rattle.git_model.specs.Shape.{root_of, trees_of}
 use Rattle.git_model.specs.Residue.{ResidueItem, fits, carried, residue_of, rows_with}
-use Rattle.git_store.specs.Known.{AreKnown}
 use Rattle.hg_model.specs.Changeset.{Changeset}
 use Rattle.hg_model.specs.Revision.{Revision}
 use Rattle.hg_store.specs.Known.{AreAdded}
@@ -32,7 +31,7 @@ use Rattle.file_rule.specs.declared.parents.Parent.{Parent}
 use Rattle.unmark_law.proofs.TreeRows.{files_of, files_with, old_first}
 use Rattle.commit_rule.specs.Parts.{file_of_row, residue_below, AreRowsOf, AreBrought}
 use Rattle.commit_rule.proofs.FileLemmas.{view-files, same-files}
-use Rattle.commit_rule.proofs.RuledLemmas.{IsOld, rows_below, are-old, residue-below, residue-old, some-mapped, all-mapped, same-root}
+use Rattle.commit_rule.proofs.RuledLemmas.{IsOld, AreAsked, rows_below, old-rows, residue-rows, below-rows, some-mapped, all-mapped, same-root}
 use Rattle.changeset_unmark.specs.Drafts.{IsBuiltCommit}
 use Rattle.changeset_unmark.specs.Heads.{IsHead, head_named}
 use Rattle.changeset_unmark.specs.Residues.{items_named, AreItemsFit, IsResidueNamed}
@@ -84,19 +83,21 @@ module _ (k : Known) (added : AreAdded k.hg) (blocks : List Block) (d : HgDraft)
 
   -- ---- what is handed on
 
-  module _ (are : AreKnown k.git) (old : Option Id) (is-old : IsOld blocks node old) where
+  module _ (old : Option Id) (is-old : IsOld blocks node old) (asked : AreAsked k old) where
+    residue-is : old_residue blocks node ≡ residue_of (rows_below k.git old)
+    residue-is = residue-rows k blocks over.inside.history.held node old is-old asked
+
     handed : carried (residue_below k.git old) (map file_of_row d.rows) ≡ handed_on blocks ids v.rows
     handed =
-        (λ i. carried (sym (residue-old k blocks over.inside.history.held are node old is-old) i) (files-of i))
+        (λ i. carried ((below-rows k.git old ∙ sym residue-is) i) (files-of i))
         ∙ ap (λ (items : List ResidueItem). carried items (files_in v.rows)) (ap (old_residue blocks) over.node_is ∙ old_first blocks (table k blocks over.inside.history) ids over.paired)
 
     handed-right : AreFit (files_of v.rows) (handed_on blocks ids v.rows)
     handed-right =
         let below : residue_of (rows_below k.git old) ≡ first_residue blocks ids =
-        sym (residue-below k blocks over.inside.history.held are node old) ∙ sym (residue-old k blocks over.inside.history.held are node old is-old)
-        ∙ ap (old_residue blocks) over.node_is ∙ old_first blocks (table k blocks over.inside.history) ids over.paired in
+        sym residue-is ∙ ap (old_residue blocks) over.node_is ∙ old_first blocks (table k blocks over.inside.history) ids over.paired in
         subst (λ (items : List ResidueItem). AreFit (files_of v.rows) (carried items (files_of v.rows))) below
-        (handed_fit (rows_below k.git old) (files_of v.rows) (are-old k blocks over.inside.history.held are node old is-old).files)
+        (handed_fit (rows_below k.git old) (files_of v.rows) (old-rows k blocks over.inside.history.held node old is-old asked).files)
 
     -- the items are fit
     pub items-right : (tree : Option (List ResidueItem)) → IsTreePart tree → AreItemsFit (files_in v.rows) tree → AreFit (files_of v.rows) (items_named (handed_on blocks ids v.rows) tree)

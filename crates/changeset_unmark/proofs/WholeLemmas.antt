@@ -11,7 +11,7 @@ use Rattle.mark_code.specs.declared.changeset_marks.ChangesetMarks as code
 use Rattle.pair_model.specs.User.{user_of_line}
 use Rattle.unmark_law.proofs.ChangesetOne.{marks_in, marks_are, date_is}
 use Rattle.view_model.specs.View.{ChangesetView, CommitView}
-use Rattle.pair_model.specs.Block.{Block, Parents}
+use Rattle.pair_model.specs.Block.{Block, Parents, block_of_node}
 use Rattle.pair_model.specs.MarkList.{ChangesetMarks}
 use Rattle.pair_model.specs.Octopus.{links_of, parents_of_commit}
 use Rattle.partner_model.specs.Partner.{UnmarksChangeset, IsHeldView, IsKnownAs}
@@ -20,7 +20,7 @@ use Rattle.pair_known.specs.declared.hg_draft.HgDraft.{HgDraft}
 use Rattle.pair_known.specs.declared.git_draft.GitDraft.{GitDraft}
 use Rattle.pair_known.specs.Ruled.{IsMadeCommit}
 use Rattle.commit_rule.specs.Parts.{AreShortBodies}
-use Rattle.commit_rule.proofs.RuledLemmas.{some-old}
+use Rattle.commit_rule.proofs.RuledLemmas.{some-old, asked-with}
 use Rattle.changeset_unmark.specs.Drafts.{IsBuiltCommit}
 use Rattle.changeset_unmark.specs.Heads.{IsDateOf}
 use Rattle.changeset_unmark.specs.Over.{IsNamedOver}
@@ -39,16 +39,16 @@ abbrev pub Answer : Known → List Block → ChangesetView → Option GitDraft �
 Answer k blocks v found =
     MatchOption found ((c : CommitView) → ¬ (UnmarksChangeset blocks (IsHeldView k.hg) v c)) (λ d. (c : CommitView) × UnmarksChangeset blocks (IsHeldView k.hg) v c × IsBuiltCommit k.git d c × (AreShortBodies v.rows → IsMadeCommit k.git d c))
 
-module _ (k : Known) (added : AreAdded k.hg) (are : AreKnown k.git) (blocks : List Block) (d : HgDraft) (v : ChangesetView) (ids : List Id) (node : Id) (ps : Parents) (over : IsNamedOver k blocks d v ids node ps)
-    (m : ChangesetMarks) (date : IsDateOf (v.fields).date m) (count : count_of ids ≡ m.parents) where
+module _ (k : Known) (added : AreAdded k.hg) (blocks : List Block) (d : HgDraft) (v : ChangesetView) (ids : List Id) (node : Id) (ps : Parents) (over : IsNamedOver k blocks d v ids node ps)
+    (m : ChangesetMarks) (date : IsDateOf (v.fields).date m) (count : count_of ids ≡ m.parents) (known : (b : Block) → block_of_node blocks node ≡ Some b → AreKnown k.git) where
   -- over the parents that the commit has
   pub answer-over : ((c : CommitView) → (c.value).parents ≡ ids → parents_of_commit blocks c ≡ ps) → (IsNamed blocks ids ps v m → Each (IsKnownAs (IsHeldView k.hg)) (links_of blocks (commit_named blocks ids v m)))
       → ((c : CommitView) → UnmarksChangeset blocks (IsHeldView k.hg) v c → (c.value).parents ≡ ids) → (found : Option GitDraft) → OverAnswer k blocks v ids ps m found → Answer k blocks v found
   answer-over parents walked only None none = λ c u. none
       (subst (λ (xs : List Id). IsNamed blocks xs ps v m) (only c u) (comes_back blocks (IsHeldView k.hg) v over.inside.view m date c u ps (parents c (only c u))))
   answer-over parents walked only (Some made) some =
-      let old = some-old k blocks over.inside.history.held are node in
-      let fit = items-right k added blocks d v ids node ps over are old.0 old.1 m.tree date.3.tree some.0.residue.fit in
+      let old = some-old blocks node in
+      let fit = items-right k added blocks d v ids node ps over old.0 old.1 (asked-with k blocks node known old.0 old.1) m.tree date.3.tree some.0.residue.fit in
       let c = commit_named blocks ids v m in (
         commit_named blocks ids v m,
         unmarks blocks (IsHeldView k.hg) v over.inside.view m date ids ps fit (parents (commit_named blocks ids v m) refl) over.parents.0 over.parents.1 over.paired over.few over.distinct count (walked some.0) some.0,

@@ -4,9 +4,10 @@ ghost use Rattle.text_model.specs.Lists.{Each};
 ghost use Rattle.git_store.specs.Known.{AreKnown};
 ghost use Rattle.hg_changeset.specs.Values.{date_value};
 ghost use Rattle.view_model.specs.View.{ChangesetView, CommitView};
-ghost use Rattle.pair_model.specs.Block.{Block, Parents};
+ghost use Rattle.pair_model.specs.Block.{Block, Parents, block_of_node};
 ghost use Rattle.pair_model.specs.MarkList as model;
 ghost use Rattle.partner_model.specs.Partner.{UnmarksChangeset, IsHeldView};
+ghost use Rattle.pair_known.specs.Blocks.{AreBlocksHeld};
 ghost use Rattle.pair_known.specs.Over.{IsChangesetIn};
 ghost use Rattle.pair_known.specs.Ruled.{IsMadeCommit};
 ghost use Rattle.mark_code.specs.Values.{changeset_marks};
@@ -195,15 +196,14 @@ fn unmark_over(
         (λ d. IsNamed blocks parents ps v (changeset_marks marks)
         × IsBuiltCommit known.now.git d (commit_named blocks parents v (changeset_marks marks))
         × (AreShortBodies v.rows → IsMadeCommit known.now.git d (commit_named blocks parents v (changeset_marks marks))))) }
-    ensures known { AreKnown known.now.git }
+    ensures known { (blocks : List Block) (b : Block) → AreBlocksHeld known.now blocks → block_of_node blocks node.now ≡ Some b → AreKnown known.now.git }
 {
-    known.git.check();
+    let old = tree_of_partner(known, node);
     let first = parent_of(&known.hg, node);
     let second = parent_of(&known.hg, &h.p2);
     if !lists_come_back(alloc, &known.hg, h, &first, &second)? {
         return Ok(None);
     }
-    let old = tree_of_partner(known, node);
     let Some(files) = rows_named(alloc, &known.git, &h.rows, old, &marks.tree)? else {
         return Ok(None);
     };

@@ -23,11 +23,10 @@ pub fn mark_commit(alloc: Global, known: &Known, h: &HgDraft) -> Result<GitDraft
     ensures limit { result ≡ Err PairLimit → (blocks : List Block) (v : ChangesetView) → IsChangesetOver known.now blocks h.now v
         → CommitFits (mark.mark_commit blocks v) → ⊥ }
 {
-    known.git.check();
+    let plain = make_commit(alloc, known, h)?;
     if !bodies_fit(known, h) {
         return Err(PairFault::PairLimit);
     }
-    let plain = make_commit(alloc, known, h)?;
     let marks = marks_of(alloc, known, h)?;
     let marked = with_headers(plain, headers_of(alloc, &marks)?);
     if !commit_fits(alloc, &marked)? {

@@ -150,6 +150,14 @@ rows_below known (Some root) = tree_rows known root
 abbrev pub IsOld : List Block → Id → Option Id → Type 0
 IsOld blocks node old = MatchOption old (block_of_node blocks node ≡ None) (IsTreeOf blocks node)
 
+-- there is one, or none
+pub some-old : (blocks : List Block) (node : Id) → (old : Option Id) × IsOld blocks node old
+some-old blocks node = by (block_of_node blocks node) refl
+  where
+    by : (o : Option Block) → block_of_node blocks node ≡ o → (old : Option Id) × IsOld blocks node old
+    by None e = (None, e)
+    by (Some b) e = (Some ((b.commit).value).tree_id, (b, e, refl))
+
 module _ (k : Known) (blocks : List Block) (held : AreBlocksHeld k blocks) (are : AreKnown k.git) (node : Id) where
   module _ (b : Block) (at : block_of_node blocks node ≡ Some b) where
     there : In b blocks
@@ -189,34 +197,35 @@ module _ (k : Known) (blocks : List Block) (held : AreBlocksHeld k blocks) (are 
   residue-below None = refl
   residue-below (Some root) = refl
 
-  -- there is one, or none
-  pub some-old : (old : Option Id) × IsOld blocks node old
-  some-old = by (block_of_node blocks node) refl
-    where
-      by : (o : Option Block) → block_of_node blocks node ≡ o → (old : Option Id) × IsOld blocks node old
-      by None e = (None, e)
-      by (Some b) e = (Some ((b.commit).value).tree_id, (b, e, refl))
-
 -- the same where the store is asked only for a tree that is there
 abbrev pub AreAsked : Known → Option Id → Type 0
 AreAsked k old = IfSome old (λ _. AreKnown k.git)
+
+-- the store is asked where a block has the node
+pub asked-of : (k : Known) (blocks : List Block) (node : Id) (b : Block) (old : Option Id) → IsOld blocks node old → AreAsked k old → block_of_node blocks node ≡ Some b → AreKnown k.git
+asked-of k blocks node b None is are at = absurd (none-some b (sym is ∙ at))
+asked-of k blocks node b (Some root) is are at = are
+
+pub asked-with : (k : Known) (blocks : List Block) (node : Id) → ((b : Block) → block_of_node blocks node ≡ Some b → AreKnown k.git) → (old : Option Id) → IsOld blocks node old → AreAsked k old
+asked-with k blocks node are None is = tt
+asked-with k blocks node are (Some root) is = are is.0 is.1
 
 module _ (k : Known) (blocks : List Block) (held : AreBlocksHeld k blocks) (node : Id) where
   pub walks-through : (old : Option Id) → IsOld blocks node old → AreAsked k old → WalksThrough k.git old
   walks-through None is are = tt
   walks-through (Some root) is are = walks-old k blocks held are node (Some root) is
 
-  old-rows : (old : Option Id) → IsOld blocks node old → AreAsked k old → AreOld (rows_below k.git old)
+  pub old-rows : (old : Option Id) → IsOld blocks node old → AreAsked k old → AreOld (rows_below k.git old)
   unfolding rows_below
   old-rows None is are = record { files = record { each = tt; in_order = refl }; apart = λ a b i j. absurd i }
   old-rows (Some root) is are = are-old k blocks held are node (Some root) is
 
-  residue-rows : (old : Option Id) → IsOld blocks node old → AreAsked k old → old_residue blocks node ≡ residue_of (rows_below k.git old)
+  pub residue-rows : (old : Option Id) → IsOld blocks node old → AreAsked k old → old_residue blocks node ≡ residue_of (rows_below k.git old)
   unfolding rows_below
   residue-rows None is are = ap (λ (o : Option Block). unwrap_or (option_map (λ b. residue_of (map file_row_of (b.commit).rows)) o) []) is
   residue-rows (Some root) is are = residue-old k blocks held are node (Some root) is ∙ residue-below k blocks held are node (Some root)
 
-below-rows : (known : List Object) (old : Option Id) → residue_below known old ≡ residue_of (rows_below known old)
+pub below-rows : (known : List Object) (old : Option Id) → residue_below known old ≡ residue_of (rows_below known old)
 unfolding rows_below
 below-rows known None = refl
 below-rows known (Some root) = refl
@@ -411,9 +420,5 @@ module _ (k : Known) (blocks : List Block) (d : HgDraft) (v : ChangesetView) (ov
         view = view-of bytes;
       })
 
-  pub bodies-short : AreKnown k.git → has_clash (paths_of v.rows) ≡ false → (old : Option Id) → IsOld blocks d.p1 old → CommitFits (rule_commit blocks v) → AreShortBodies v.rows
-  bodies-short are clear old is-old = short-bodies old (by old) clear is-old
-    where
-      by : (o : Option Id) → AreAsked k o
-      by None = tt
-      by (Some root) = are
+  pub bodies-short : ((b : Block) → block_of_node blocks d.p1 ≡ Some b → AreKnown k.git) → has_clash (paths_of v.rows) ≡ false → CommitFits (rule_commit blocks v) → AreShortBodies v.rows
+  bodies-short are clear = let old = some-old blocks d.p1 in short-bodies old.0 (asked-with k blocks d.p1 are old.0 old.1) clear old.1

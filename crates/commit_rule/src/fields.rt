@@ -1,13 +1,13 @@
 ghost use Rattle.std.specs.Prelude.{◌≡◌, ◌++◌, ◌∷◌, [], is_some, IfOk, OnOk, IsTrue, false};
 ghost use Rattle.text_model.specs.Text.{IsBytes};
 ghost use Rattle.text_model.specs.Id as id;
-ghost use Rattle.hg_changeset.specs.Values.{changeset_value};
+ghost use Rattle.hg_changeset.specs.Values.{changeset_value, date_value};
 ghost use Rattle.pair_model.specs.Rule.{author_by};
 ghost use Rattle.pair_model.specs.User.{message_of};
 ghost use Rattle.pair_known.specs.Partners.{git_at};
 ghost use Rattle.commit_rule.specs.Parts.{partners_at};
 
-use bridge_text::{Bytes, Id, IdList, NoMemory, each_is_byte};
+use bridge_text::{Bytes, Id, IdList, NoMemory};
 use git_object::Commit;
 use hg_changeset::{Changeset, DateLine};
 use name_rule::{line_of_user, message_of_desc};
@@ -45,13 +45,19 @@ pub fn author_of(alloc: Global, changeset: &Changeset) -> Result<Bytes, NoMemory
     ensures line { IfOk result (λ line. line ≡ author_by (changeset_value changeset.now).user (changeset_value changeset.now).date) }
     ensures bytes { IfOk result (λ line. IsBytes line) }
 {
-    let (time, tz) = match changeset.date {
+    line_at(alloc, changeset.user.as_slice(), &changeset.date)
+}
+
+// The line of a user at a date.
+fn line_at(alloc: Global, user: &[u8], date: &DateLine) -> Result<Bytes, NoMemory>
+    ensures line { IfOk result (λ line. line ≡ author_by user.now (date_value date.now)) }
+    ensures bytes { IfOk result (λ line. IsBytes line) }
+{
+    let (time, tz) = match *date {
         DateLine::Plain { time, tz, .. } => (time, tz),
         DateLine::Raw(_) => (0, 0),
     };
-    let line = line_of_user(alloc, changeset.user.as_slice(), time, tz)?;
-    each_is_byte(line.as_slice());
-    Ok(line)
+    line_of_user(alloc, user, time, tz)
 }
 
 /// The fields of the commit of a changeset with this tree, whose parents have partners.

@@ -1,7 +1,9 @@
-ghost use Rattle.std.specs.Prelude.{◌≡◌, false, List, Err, IfOk};
+ghost use Rattle.std.specs.Prelude.{◌≡◌, false, List, Some, Err, IfOk, OnOk};
+ghost use Rattle.git_store.specs.Known.{AreKnown};
 ghost use Rattle.view_model.specs.View.{ChangesetView, CommitFits, paths_of, has_clash};
-ghost use Rattle.pair_model.specs.Block.{Block};
+ghost use Rattle.pair_model.specs.Block.{Block, block_of_node};
 ghost use Rattle.pair_model.specs.Rule as rule;
+ghost use Rattle.pair_known.specs.Blocks.{AreBlocksHeld};
 ghost use Rattle.pair_known.specs.Over.{IsChangesetOver};
 ghost use Rattle.pair_known.specs.Ruled.{IsMadeCommit, IsRuledCommit};
 ghost use Rattle.pair_known.specs.declared.fault.PairFault.TheVariants.{PairLimit};
@@ -17,11 +19,13 @@ use pair_known::{GitDraft, HgDraft, Known, PairFault};
 use std::alloc::Global;
 
 /// The commit that the rule gives for a changeset whose parents have partners, and of whose paths none lies below another, whatever the
-/// sizes of its tree and of its text. Each body of the changeset is within the limit of a text, as those of stored changesets are.
+/// sizes of its tree and of its text. Each body of the changeset is within the limit of a text, as those of stored changesets are. A first parent's
+/// tree is looked up, so Git's store is known then.
 pub fn make_commit(alloc: Global, known: &Known, h: &HgDraft) -> Result<GitDraft, NoMemory>
     requires over { (blocks : List Block) × (v : ChangesetView) × IsChangesetOver known.now blocks h.now v × (has_clash (paths_of v.rows) ≡ false) }
-    ensures { IfOk result (λ d. (blocks : List Block) (v : ChangesetView) → IsChangesetOver known.now blocks h.now v → AreShortBodies v.rows
+    ensures made { IfOk result (λ d. (blocks : List Block) (v : ChangesetView) → IsChangesetOver known.now blocks h.now v → AreShortBodies v.rows
         → IsMadeCommit known.now.git d (rule.rule_commit blocks v)) }
+    ensures known { OnOk result ((blocks : List Block) (b : Block) → AreBlocksHeld known.now blocks → block_of_node blocks h.now.p1 ≡ Some b → AreKnown known.now.git) }
 {
     let old = tree_of_partner(known, &h.p1);
     let files = hand_on(alloc, &known.git, old, files_of(alloc, &h.rows)?)?;
@@ -52,11 +56,10 @@ pub fn rule_commit(alloc: Global, known: &Known, h: &HgDraft) -> Result<GitDraft
     ensures limit { result ≡ Err PairLimit → (blocks : List Block) (v : ChangesetView) → IsChangesetOver known.now blocks h.now v
         → CommitFits (rule.rule_commit blocks v) → ⊥ }
 {
-    known.git.check();
+    let draft = make_commit(alloc, known, h)?;
     if !bodies_fit(known, h) {
         return Err(PairFault::PairLimit);
     }
-    let draft = make_commit(alloc, known, h)?;
     if !commit_fits(alloc, &draft)? {
         return Err(PairFault::PairLimit);
     }

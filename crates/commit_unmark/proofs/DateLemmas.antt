@@ -4,7 +4,9 @@ use Rattle.std.specs.Prelude.{is_some, unwrap_or, MatchOption, ℤ}
 use Rattle.std.specs.List.{find}
 use Rattle.text_model.specs.Lists.{Each}
 use Rattle.text_model.proofs.Options.{none_some, some_is}
-use Rattle.hg_model.specs.Changeset.{DateLine, Plain, Extra, IsDateLine}
+use Rattle.text_model.specs.Text.{Bytes, IsBytes, has_byte}
+use Rattle.hg_model.specs.Changeset.{DateLine, Plain, Raw, Extra, IsDateLine, date_text, date_of}
+use Rattle.hg_model.proofs.DateLemmas.{date_of-is, date_of-text}
 use Rattle.hg_changeset.specs.Values.{date_value}
 use Rattle.hg_changeset.specs.declared.date.DateLine as value
 use Rattle.pair_model.specs.MarkList.{Mark, Rename, File, Manifest, Files, User, Date, RawDate, OneExtra}
@@ -85,3 +87,17 @@ module _ (marks : List Mark) (time tz : ℤ) where
       → MatchOption found (IsDateLine (Plain time tz (extras_by marks)) → ⊥) (λ date. (date_value date ≡ Plain time tz (extras_by marks)) × IsDateLine (Plain time tz (extras_by marks)))
       → MatchOption found (IsDateLine (date_by marks time tz) → ⊥) (λ date. (date_value date ≡ date_by marks time tz) × IsDateLine (date_by marks time tz))
   by-given e found h = subst (λ (d : DateLine). MatchOption found (IsDateLine d → ⊥) (λ date. (date_value date ≡ d) × IsDateLine d)) (sym (none-dated e)) h
+
+-- ---- a text that a mark names as a date line
+
+-- a text that reads as a raw line is that line
+pub raw-found : (text : Bytes) → IsBytes text → has_byte 10 text ≡ false → (d : DateLine) → d ≡ date_of text → (raw : Bytes) → d ≡ Raw raw → (d ≡ Raw text) × IsDateLine (Raw text)
+raw-found text bytes one_line d read raw is =
+    let of = date_of-is text bytes one_line in
+    let same : raw ≡ text = ap date_text (sym is ∙ read) ∙ of.1 in
+    (is ∙ ap Raw same, subst IsDateLine (sym read ∙ is ∙ ap Raw same) of.0)
+
+-- a text that reads as another line is no raw one
+pub plain-found : (text : Bytes) (d : DateLine) → d ≡ date_of text → (time tz : ℤ) (extras : List Extra) → d ≡ Plain time tz extras → IsDateLine (Raw text) → ⊥
+plain-found text d read time tz extras is right =
+    let raw : Plain time tz extras ≡ Raw text = sym is ∙ read ∙ date_of-text (Raw text) right in cc

@@ -1,5 +1,5 @@
 -- The extras that marks name, mark by mark.
-use Rattle.std.proofs.Common.{◌≡◌, ◌≢◌, ◌+◌, ◌++◌, ℕ, zero, suc, true, false, true≢false, List, [], ◌∷◌, take, drop, Some, refl, sym, ap, subst, ◌∙◌, take-append-drop}
+use Rattle.std.proofs.Common.{◌≡◌, ◌≢◌, ◌+◌, ◌++◌, ℕ, zero, suc, true, false, true≢false, List, [], ◌∷◌, take, drop, Some, refl, sym, ap, subst, ◌∙◌, append-nil, take-append-drop}
 use Rattle.std.specs.Prelude.{slice_get, IfSome, IsTrue}
 use Rattle.std.specs.List.{cons_option}
 use Rattle.std.proofs.lemmas.Bool.{and_parts}
@@ -7,9 +7,10 @@ use Rattle.std.proofs.lemmas.List.Elements.{filter_map-append}
 use Rattle.text_model.specs.Lists.{Each, rises}
 use Rattle.text_model.specs.Text.{IsBytes, has_byte}
 use Rattle.text_model.proofs.Options.{none_some, some_is}
-use Rattle.text_model.proofs.Elements.{take_push}
+use Rattle.text_model.proofs.Elements.{each_at, take_push}
 use Rattle.hg_model.specs.Changeset.{Extra, AreExtras, key_rises, last_key}
-use Rattle.pair_model.specs.MarkList.{Mark, Rename, File, Manifest, Files, User, Date, RawDate, OneExtra, may_follow, IsMarkList}
+use Rattle.hg_model.proofs.ExtrasLemmas.{AreExtras-push}
+use Rattle.pair_model.specs.MarkList.{Mark, Rename, File, Manifest, Files, User, Date, RawDate, OneExtra, may_follow, IsMark, IsMarkList}
 use Rattle.partner_model.specs.Filled.{extra_mark}
 use Rattle.mark_law.proofs.Decided.{list-front}
 use Rattle.commit_unmark.specs.Parts.{extras_by, IsKey}
@@ -69,6 +70,22 @@ key-rises marks i (Files a) list at extras is = tt
 key-rises marks i (User a) list at extras is = tt
 key-rises marks i (Date a b) list at extras is = tt
 key-rises marks i (RawDate a) list at extras is = tt
+
+-- where the extras before a place have their form, and the mark there has a key if it is an extra, those with it have their form
+pub extras-are : (marks : List Mark) (i : ℕ) (m : Mark) → IsMarkList marks → slice_get marks i ≡ Some m → IfSome (extra_mark m) (λ e. IsKey e.key) → AreExtras (extras_by (take i marks)) → AreExtras (extras_by (take (i + 1) marks))
+extras-are marks i m list at key are = subst AreExtras (sym (extras-more marks i m at)) (by m at key)
+  where
+    by : (n : Mark) → slice_get marks i ≡ Some n → IfSome (extra_mark n) (λ e. IsKey e.key) → AreExtras (extras_by (take i marks) ++ cons_option (extra_mark n) [])
+    by (OneExtra e) here k =
+        let bytes = each_at IsMark marks i (OneExtra e) here list.0 in
+        AreExtras-push (extras_by (take i marks)) e are (k.0, k.1, bytes.0, bytes.1) (key-rises marks i (OneExtra e) list here (extras_by (take i marks)) refl)
+    by (Rename a b) here k = rw (append-nil (extras_by (take i marks))) are
+    by (File a b c d) here k = rw (append-nil (extras_by (take i marks))) are
+    by (Manifest a) here k = rw (append-nil (extras_by (take i marks))) are
+    by (Files a) here k = rw (append-nil (extras_by (take i marks))) are
+    by (User a) here k = rw (append-nil (extras_by (take i marks))) are
+    by (Date a b) here k = rw (append-nil (extras_by (take i marks))) are
+    by (RawDate a) here k = rw (append-nil (extras_by (take i marks))) are
 
 -- each of the extras has a key
 keyed : (m : Mark) (es : List Extra) → Each (λ e. (e.key ≢ []) × (has_byte 58 e.key ≡ false)) (cons_option (extra_mark m) es) → IfSome (extra_mark m) (λ e. IsKey e.key) × Each (λ e. (e.key ≢ []) × (has_byte 58 e.key ≡ false)) es

@@ -1,5 +1,5 @@
 // The extras that marks name.
-ghost use Rattle.std.specs.Prelude.{◌≡◌, ◌↔◌, ◌++◌, [], true, false, IfOk, IfSome, IsTrue, MatchOption, option_map};
+ghost use Rattle.std.specs.Prelude.{◌≡◌, ◌↔◌, ◌++◌, [], true, IfOk, IfSome, IsTrue, MatchOption, option_map};
 ghost use Rattle.hg_model.specs.Changeset.{AreExtras, key_rises, last_key};
 ghost use Rattle.std.specs.List.{cons_option};
 ghost use Rattle.partner_model.specs.Filled.{extra_mark};
@@ -14,9 +14,8 @@ use std::alloc::Global;
 
 /// The extras that marks name; `None` exactly where those are no extras, since a key is empty or has a `:`.
 pub fn named_extras(alloc: Global, marks: &CommitMarks) -> Result<Option<Extras>, NoMemory>
-    ensures { IfOk result (λ found. MatchOption found (AreExtras (extras_by marks.now) → ⊥) (λ extras. extras ≡ extras_by marks.now)) }
+    ensures { IfOk result (λ found. MatchOption found (AreExtras (extras_by marks.now) → ⊥) (λ extras. (extras ≡ extras_by marks.now) × AreExtras (extras_by marks.now))) }
 {
-    marks.are_marks();
     let mut extras = Extras::new(alloc);
     for place in 0..marks.len() {
         let put = put_extra(alloc, &mut extras, marks.at(place))?;
@@ -31,7 +30,7 @@ pub fn named_extras(alloc: Global, marks: &CommitMarks) -> Result<Option<Extras>
 fn put_extra(alloc: Global, extras: &mut Extras, mark: &Mark) -> Result<bool, NoMemory>
     requires rises { IfSome (extra_mark (mark_value mark.now)) (λ e. IsTrue (key_rises (last_key extras.old) e.key)) }
     ensures put { IfOk result (λ put. put ≡ true → extras.new ≡ extras.old ++ cons_option (extra_mark (mark_value mark.now)) []) }
-    ensures none { IfOk result (λ put. put ≡ false → IfSome (extra_mark (mark_value mark.now)) (λ e. IsKey e.key) → ⊥) }
+    ensures key { IfOk result (λ put. IsTrue put ↔ IfSome (extra_mark (mark_value mark.now)) (λ e. IsKey e.key)) }
 {
     let Some((key, value)) = extra_in(mark) else {
         return Ok(true);

@@ -1,9 +1,11 @@
 // The fields of the changeset that marks name.
 ghost use Rattle.std.specs.Prelude.{◌≡◌, [], Some, IfOk, MatchOption, option_map};
+ghost use Rattle.text_model.specs.Text.{IsBytes};
 ghost use Rattle.hg_model.specs.Changeset as model;
 ghost use Rattle.hg_model.specs.Changeset.{Plain, Raw, IsChangeset, IsDateLine, IsPlainDate};
 ghost use Rattle.hg_changeset.specs.Values.{changeset_value, date_value};
 ghost use Rattle.pair_model.specs.MarkList.{IsMark};
+ghost use Rattle.pair_model.specs.User.{description_of};
 ghost use Rattle.partner_model.specs.Filled.{user_mark, date_mark, first_mark};
 ghost use Rattle.mark_code.specs.Values.{mark_value};
 ghost use Rattle.commit_unmark.specs.Parts.{extras_by, user_by, date_by, fields_by};
@@ -11,9 +13,9 @@ ghost use Rattle.commit_unmark.specs.Parts.{extras_by, user_by, date_by, fields_
 use crate::extras::named_extras;
 use crate::line::{are_lines, is_line, is_without};
 use crate::marks::{Kind, first_of};
-use bridge_text::{Bytes, Id, NoMemory, Paths, each_is_byte};
+use bridge_text::{Bytes, Id, NoMemory, Paths};
 use git_object::Commit;
-use hg_changeset::{Changeset, DateLine, date_laws};
+use hg_changeset::{Changeset, DateLine};
 use mark_code::{CommitMarks, Mark};
 use name_rule::{desc_of_message, user_of_line};
 use std::alloc::Global;
@@ -38,8 +40,7 @@ pub fn named_fields(
     if !is_line(user.as_slice()) || !are_lines(&files) {
         return Ok(None);
     }
-    let desc = Bytes::of(alloc, desc_of_message(commit.message.as_slice()))?;
-    each_is_byte(desc.as_slice());
+    let desc = ruled_desc(alloc, commit.message.as_slice())?;
     Ok(Some(Changeset {
         manifest,
         user,
@@ -47,6 +48,14 @@ pub fn named_fields(
         files,
         desc,
     }))
+}
+
+// The description that the rule gives for a message.
+fn ruled_desc(alloc: Global, message: &[u8]) -> Result<Bytes, NoMemory>
+    ensures desc { IfOk result (λ desc. desc ≡ description_of message.now) }
+    ensures bytes { IfOk result (λ desc. IsBytes desc) }
+{
+    Bytes::of(alloc, desc_of_message(message))
 }
 
 // The user that a mark names, or the given one.
@@ -86,7 +95,6 @@ fn named_date(
     ensures { IfOk result (λ found. MatchOption found (IsDateLine (date_by marks.now time tz) → ⊥)
         (λ date. (date_value date ≡ date_by marks.now time tz) × IsDateLine (date_by marks.now time tz))) }
 {
-    marks.are_marks();
     match first_of(marks, Kind::Date) {
         Some(mark) => marked_date(alloc, marks, mark),
         None => plain_date(alloc, marks, time, tz),
@@ -122,10 +130,7 @@ fn plain_date(
         (λ date. (date_value date ≡ Plain time tz (extras_by marks.now)) × IsPlainDate time tz (extras_by marks.now))) }
 {
     match named_extras(alloc, marks)? {
-        Some(extras) => {
-            extras.are_extras();
-            Ok(Some(DateLine::Plain { time, tz, extras }))
-        }
+        Some(extras) => Ok(Some(DateLine::Plain { time, tz, extras })),
         None => Ok(None),
     }
 }
@@ -134,8 +139,6 @@ fn plain_date(
 fn raw_date(alloc: Global, text: &[u8]) -> Result<Option<DateLine>, NoMemory>
     ensures { IfOk result (λ found. MatchOption found (IsDateLine (Raw text.now) → ⊥) (λ date. (date_value date ≡ Raw text.now) × IsDateLine (Raw text.now))) }
 {
-    date_laws();
-    each_is_byte(text);
     if !is_without(b'\n', text) {
         return Ok(None);
     }

@@ -4,13 +4,12 @@ ghost use Rattle.text_model.specs.Lists.{Each};
 ghost use Rattle.text_model.specs.Text.{has_byte};
 ghost use Rattle.commit_unmark.specs.Parts.{IsOneLine};
 
-use bridge_text::{Paths, cut_at, each_is_byte};
+use bridge_text::{Paths, cut_at};
 
 /// Whether a text is one line, and not an empty one.
 pub fn is_line(text: &[u8]) -> bool
     ensures { IsTrue result ↔ IsOneLine text.now }
 {
-    each_is_byte(text);
     !text.is_empty() && is_without(b'\n', text)
 }
 

@@ -2,6 +2,7 @@
 ghost use Rattle.std.specs.Prelude.{◌≡◌, ◌↔◌, List, [], map, IfOk, IsTrue, MatchOption, option_map};
 ghost use Rattle.view_model.specs.View.{Row, AreManifestParents};
 ghost use Rattle.pair_model.specs.Block.{Parents};
+ghost use Rattle.pair_model.specs.MarkList.{IsMarkList};
 ghost use Rattle.partner_model.specs.Filled.{manifest_mark, files_mark, first_mark};
 ghost use Rattle.hg_manifest.specs.Values.{manifest_value};
 ghost use Rattle.mark_code.specs.Values.{mark_value};
@@ -116,7 +117,7 @@ fn is_manifest(manifest: &ManifestRev, rows: &HgRows) -> bool
     }
 }
 
-/// The list of files of a changeset that a mark names, or the rule where it has none.
+/// The list of files of a changeset that a mark of a mark list names, or the rule where it has none.
 pub fn named_files(
     alloc: Global,
     marks: &CommitMarks,
@@ -124,7 +125,8 @@ pub fn named_files(
     first: &Parent<'_>,
     second: &Parent<'_>,
 ) -> Result<Paths, NoMemory>
-    ensures { IfOk result (λ files. (ps : Parents) (hs : List Row) → AreListedOver rows.now first.now second.now ps hs → files ≡ files_by ps marks.now hs) }
+    ensures files { IfOk result (λ files. (ps : Parents) (hs : List Row) → AreListedOver rows.now first.now second.now ps hs → files ≡ files_by ps marks.now hs) }
+    ensures list { IsMarkList marks.now }
 {
     match marked_files(marks) {
         Some(paths) => copy_of(alloc, paths),
@@ -134,7 +136,8 @@ pub fn named_files(
 
 // The list that a mark names.
 fn marked_files(marks: &CommitMarks) -> Option<&Paths>
-    ensures { option_map (λ paths. paths.now) result ≡ first_mark files_mark marks.now }
+    ensures named { option_map (λ paths. paths.now) result ≡ first_mark files_mark marks.now }
+    ensures list { IsMarkList marks.now }
 {
     let mark = first_of(marks, Kind::Files)?;
     files_in(mark)

@@ -1,6 +1,7 @@
 // Looking up marks.
 ghost use Rattle.std.specs.Prelude.{◌≡◌, option_map};
 ghost use Rattle.std.specs.List.{find};
+ghost use Rattle.pair_model.specs.MarkList.{IsMarkList};
 ghost use Rattle.mark_code.specs.Values.{mark_value};
 ghost use Rattle.commit_unmark.specs.Parts.{is_of};
 
@@ -19,9 +20,10 @@ pub enum Kind {
     Date,
 }
 
-/// The first mark of a kind; `None` exactly where there is none.
+/// The first mark of a kind in a mark list; `None` exactly where there is none.
 pub fn first_of(marks: &CommitMarks, kind: Kind) -> Option<&Mark>
-    ensures { option_map (λ m. mark_value m.now) result ≡ find (is_of kind) marks.now }
+    ensures first { option_map (λ m. mark_value m.now) result ≡ find (is_of kind) marks.now }
+    ensures list { IsMarkList marks.now }
 {
     for place in 0..marks.len() {
         let mark = marks.at(place);

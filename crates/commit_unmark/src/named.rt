@@ -27,7 +27,6 @@ pub fn named_changeset(
     ensures { IfOk result (λ found. (blocks : List Block) (v : CommitView) → IsCommitOver known.now blocks c.now v
         → MatchOption found (NamesNoChangeset blocks v marks.now) (NamesChangeset known.now.hg blocks v marks.now)) }
 {
-    marks.are_marks();
     let nodes = parent_nodes(alloc, known, c)?;
     let first = parent_with(&known.hg, &nodes.p1, &nodes.first);
     let second = parent_with(&known.hg, &nodes.p2, &nodes.second);

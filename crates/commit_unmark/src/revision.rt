@@ -12,7 +12,7 @@ ghost use Rattle.file_rule.specs.Made.{IsFresh, IsMadeRow};
 ghost use Rattle.file_rule.specs.Parents.{row_with};
 ghost use Rattle.commit_unmark.specs.Named.{revision_with, IsContentOf};
 
-use bridge_text::{Id, NoMemory, each_is_byte};
+use bridge_text::{Id, NoMemory};
 use file_rule::{RuledRow, content_text, row_with_text};
 use hg_filelog::{file_order, join_into};
 use memchr::memmem;
@@ -78,7 +78,6 @@ fn is_revision(p: Id, q: Id, meta: Option<&[u8]>, body: &[u8]) -> bool
 fn is_file(meta: Option<&[u8]>, body: &[u8]) -> bool
     ensures { IsTrue result ↔ IsFile (option_copied meta.entry) body.now }
 {
-    each_is_byte(body);
     match meta {
         Some(meta) => is_meta(meta),
         None => !body.starts_with(MARK),
@@ -90,6 +89,5 @@ fn is_meta(meta: &[u8]) -> bool
     ensures clear { IsTrue result ↔ has_piece file_text.mark meta.now ≡ false }
     ensures bytes { IsBytes meta.now }
 {
-    each_is_byte(meta);
     memmem::find(meta, MARK).is_none()
 }

@@ -5,6 +5,7 @@ ghost use Rattle.hg_store.specs.Known.{knows_same};
 ghost use Rattle.view_model.specs.View.{TreeRow};
 ghost use Rattle.view_model.specs.Held.{IsRowHeld, file_row_of};
 ghost use Rattle.pair_model.specs.Block.{Parents};
+ghost use Rattle.pair_model.specs.MarkList.{IsMarkList};
 ghost use Rattle.partner_model.specs.Filled.{entry_path, is_at};
 ghost use Rattle.mark_code.specs.Values.{mark_value};
 ghost use Rattle.filled_law.specs.Walks as walks;
@@ -32,7 +33,6 @@ pub fn named_rows(
         → MatchOption found (NamesNoRows ps marks.now ts) (NamesRows known.now.hg ps marks.now ts)) }
     ensures new { IfOk result (λ found. IfSome found (λ made. Each (λ r. knows_same known.now.hg r ≡ false) made.fresh)) }
 {
-    marks.are_marks();
     let files = c.files.as_slice();
     let mut named = RuledRows::with_capacity(alloc, files.len())?;
     let mut first_walk = Cursor::new(first.manifest);
@@ -69,6 +69,7 @@ fn take_mark<'a>(marks: &'a CommitMarks, place: &mut usize, path: &[u8]) -> Opti
     ensures mark { option_map (λ m. mark_value m.now) result ≡ walks.mark_at path.now (drop place.old marks.now) }
     ensures rest { drop place.new marks.now ≡ walks.behind path.now (drop place.old marks.now) }
     ensures within { place.new ≤ length marks.now }
+    ensures list { IsMarkList marks.now }
 {
     if *place == marks.len() {
         return None;
@@ -104,7 +105,8 @@ fn entry_path(mark: &Mark) -> Option<&[u8]>
 // Whether the mark at a place, if there is one, is that of a file.
 fn has_entry(marks: &CommitMarks, place: usize) -> bool
     requires { place ≤ length marks.now }
-    ensures { result ≡ walks.starts_entry (drop place marks.now) }
+    ensures entry { result ≡ walks.starts_entry (drop place marks.now) }
+    ensures list { IsMarkList marks.now }
 {
     place < marks.len() && entry_path(marks.at(place)).is_some()
 }

@@ -1,5 +1,5 @@
 // What was read of a bundle so far, and how an entry adds to it.
-ghost use Rattle.std.specs.Prelude.{◌≡◌, ◌≤◌, ◌<◌, ◌^◌, [], None, Some, true, if◌then◌else◌, IfOk, IfErr, OnOk, option_map, length};
+ghost use Rattle.std.specs.Prelude.{◌≡◌, ◌≤◌, ◌<◌, ◌^◌, [], None, Some, true, ◌==◌, if◌then◌else◌, IfOk, IfErr, OnOk, option_map, length};
 ghost use Rattle.std.specs.Option.{option_copied};
 ghost use Rattle.text_model.specs.Text.{IsBytes};
 ghost use Rattle.text_model.specs.Path.{is_fit_path};
@@ -7,7 +7,7 @@ ghost use Rattle.text_model.specs.Fault.{refusal_at, input_limit};
 ghost use Rattle.text_model.specs.Fault as fault;
 ghost use Rattle.hg_model.specs.Revision.{FilesAt};
 ghost use Rattle.hg_model.specs.Reading.{hunk_place, sum_limit};
-ghost use Rattle.hg_store.specs.Known.{HasFitPath};
+ghost use Rattle.hg_store.specs.Known.{AreAdded, HasFitPath};
 ghost use Rattle.hg_bundle.specs.Entry.{entry_value, base_for, fault_for, EndsPayload, HasLast, HasText, Patches, IsReadPatch};
 ghost use Rattle.hg_bundle.specs.Faults.{IsJudgement, IsReadFault};
 ghost use Rattle.hg_bundle.specs.Listing.{next_place};
@@ -82,8 +82,9 @@ impl Gathered {
         ensures bytes { OnOk result (IsBytes (payload_bytes payload.now)) }
         ensures fault { IfErr result (IsJudgement (step_refusal (place_value place) at (payload_bytes payload.now) self.old)) }
         ensures names { IfErr result IsReadFault }
+        ensures added { OnOk result (AreAdded self.old.store → AreAdded self.new.store) }
     {
-        if payload.bytes().is_empty() {
+        if is_end(payload.bytes()) {
             self.last = None;
             return Ok(place.after_empty());
         }
@@ -120,6 +121,7 @@ impl Gathered {
         ensures adds { OnOk result (Adds (group_value group.now) at (entry_value entry.now) self.old self.new) }
         ensures fault { IfErr result (IsJudgement (fault_for self.old.store self.old.sum (group_value group.now) self.old.last at (entry_value entry.now))) }
         ensures names { IfErr result IsReadFault }
+        ensures added { OnOk result (AreAdded self.new.store) }
     {
         let path = group.path(alloc)?;
         let text = self.text(alloc, group, at, entry)?;
@@ -221,6 +223,14 @@ impl Gathered {
             None => self.store.revision_text(group.of_store(), parent),
         }
     }
+}
+
+// Whether a chunk is the empty one behind the last of a group. What was read is bytes.
+fn is_end(chunk: &[u8]) -> bool
+    ensures end { result ≡ (length chunk.now == 0) }
+    ensures bytes { IsBytes chunk.now }
+{
+    chunk.is_empty()
 }
 
 // The group of the file at a path, which is fit.

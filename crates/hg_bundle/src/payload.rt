@@ -1,10 +1,8 @@
 // The payload of a chunk.
 ghost use Rattle.std.specs.Prelude.{◌≡◌};
-ghost use Rattle.text_model.specs.Text.{IsBytes};
 ghost use Rattle.hg_chunk.specs.Reader.{payload_of};
 ghost use Rattle.hg_bundle.specs.Payload.{payload_bytes};
 
-use bridge_text::each_is_byte;
 use shared_text::Text;
 
 /// The payload of a chunk, as it came.
@@ -29,14 +27,11 @@ impl<'a> Payload<'a> {
 
     /// Its bytes.
     pub fn bytes(&self) -> &'a [u8]
-        ensures value { result.now ≡ payload_bytes self.now }
-        ensures bytes { IsBytes result.now }
+        ensures { result.now ≡ payload_bytes self.now }
     {
-        let bytes = match self {
+        match self {
             Payload::Lent(text) => text.as_slice(),
             Payload::Read(bytes) => bytes,
-        };
-        each_is_byte(bytes);
-        bytes
+        }
     }
 }

@@ -2,6 +2,7 @@
 ghost use Rattle.std.specs.Prelude.{◌≡◌, IfSome, IfOk, IfErr, OnOk};
 ghost use Rattle.std.specs.Io.KnownBytes.{IsAtEnd};
 ghost use Rattle.text_model.specs.Text.{IsBytes};
+ghost use Rattle.hg_store.specs.Known.{AreAdded};
 ghost use Rattle.hg_bundle.specs.Arrivals.{Reads, AreArrivals};
 ghost use Rattle.hg_bundle.specs.Brought.{BringsBundle, TellsUnreadable};
 ghost use Rattle.hg_bundle.specs.Faults.{AnswerCause, IsReadFault};
@@ -41,6 +42,8 @@ pub fn read_into<S: Source>(
     ensures reads { IfSome (S.left src.old) (λ bytes. Reads store bytes result) }
     // what was listed was added, and marked as fresh or not, also where the source doesn't tell its bytes
     ensures grown { IfOk result (λ read. AreArrivals store read.0 read.1) }
+    // where each revision of the store was added to those before it, so was each that came
+    ensures added { IfOk result (λ read. AreAdded store → AreAdded read.0) }
     ensures end { OnOk result (IsAtEnd (S.left src.new)) }
     ensures bytes { OnOk result (IfSome (S.left src.old) IsBytes) }
     ensures cause { AnswerCause (S.faults src.old) (S.faults src.new) result }

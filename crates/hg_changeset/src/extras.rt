@@ -2,12 +2,12 @@ ghost use Rattle.std.specs.Prelude.{◌≡◌, ◌≢◌, ◌==◌, ◌<◌, ◌
 ghost use Rattle.std.specs.List.{flat_map};
 ghost use Rattle.std.specs.Io.{StartsWith};
 ghost use Rattle.std.specs.Option.{option_and_then};
-ghost use Rattle.text_model.specs.Text.{nul, has_byte};
-ghost use Rattle.hg_model.specs.Changeset.{AreExtras, extra_at, extra_text, extra_of, extras_of, last_key, key_rises, with_extra};
+ghost use Rattle.text_model.specs.Text.{nul, has_byte, IsBytes};
+ghost use Rattle.hg_model.specs.Changeset.{extra_at, extra_text, extra_of, extras_of, last_key, key_rises, with_extra};
 ghost use Rattle.hg_changeset.specs.Reading.{extras_part};
 
 use crate::escape::{put_escaped, unescaped};
-use bridge_text::{Bytes, NoMemory, cut_at, each_is_byte};
+use bridge_text::{Bytes, NoMemory, cut_at};
 use std::alloc::Global;
 use std::cmp::Ordering;
 use std::marker::Model;
@@ -96,16 +96,11 @@ impl Extras {
         ensures ok { OnOk result (self.new ≡ self.old ++ item ∷ []) }
         ensures err { OnErr result (self.new ≡ self.old) }
     {
-        each_is_byte(item.key.as_slice());
-        each_is_byte(item.value.as_slice());
+        let item = ExtraItem {
+            key: fitted(item.key),
+            value: fitted(item.value),
+        };
         Ok(self.items.push(item)?)
-    }
-
-    /// A law, which does nothing when it runs: the items have their form.
-    pub fn are_extras(&self)
-        ensures { AreExtras self.now }
-    {
-        let _items = &self.items;
     }
 
     /// How many items there are.
@@ -200,6 +195,16 @@ impl Extras {
             }
         }
     }
+}
+
+// The bytes with no room to spare, since a store keeps what it has read.
+fn fitted(bytes: Bytes) -> Bytes
+    ensures same { result ≡ bytes }
+    ensures bytes { IsBytes result }
+{
+    let mut raw = bytes.into_vec();
+    raw.shrink_to_fit();
+    Bytes::keep(raw)
 }
 
 fn put_others(out: &mut Vec<u8>, items: &[ExtraItem]) -> Result<(), NoMemory>

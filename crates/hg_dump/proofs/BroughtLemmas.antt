@@ -1,5 +1,5 @@
 -- The marks that were met are those of the revisions that are written.
-use Rattle.std.proofs.Common.{◌≡◌, ◌||◌, Bool, true, false, not, List, [], ◌∷◌, ◌++◌, map, refl, sym, ap, subst, ◌∙◌, append-nil, append_assoc}
+use Rattle.std.proofs.Common.{◌≡◌, ◌<◌, ◌||◌, Bool, true, false, not, List, [], ◌∷◌, ◌++◌, length, map, arith, refl, sym, ap, subst, ◌∙◌, append-nil, append_assoc}
 use Rattle.std.specs.Prelude.{if◌then◌else◌}
 use Rattle.std.specs.List.{list_any}
 use Rattle.std.proofs.lemmas.List.Folds.{list_any-append}
@@ -89,10 +89,17 @@ held-group known group (r ∷ rs) held = by (same_group group r.group) refl (hel
     by true e rest = rw e (subst (λ (g : Group). IsHeldIn known g r) (sym (same_group-is group r.group e)) held.0, rest)
     by false e rest = rw e rest
 
-pub are-brought : (known : List Revision) (nodes : List Id) (old new : List ChangesetView) (b : Brought) → AreAdded known → AreChangesetsHeld known nodes new → IsMet (met_of old new) (referred_in b)
+-- without changesets nothing has to be known
+held-new : (known : List Revision) (nodes : List Id) (new : List ChangesetView) → (0 < length nodes → AreAdded known) → AreChangesetsHeld known nodes new
+    → Each (λ r. IsHeldIn known r.group r) (revisions_in new)
+held-new known [] [] added held = tt
+held-new known [] (h ∷ hs) added held = absurd held
+held-new known (n ∷ nodes) new added held = held-revisions known (added (omega arith)) (n ∷ nodes) new held
+
+pub are-brought : (known : List Revision) (nodes : List Id) (old new : List ChangesetView) (b : Brought) → (0 < length nodes → AreAdded known) → AreChangesetsHeld known nodes new → IsMet (met_of old new) (referred_in b)
     → AreBrought known b (brought_by old new)
 unfolding brought_by
 are-brought known nodes old new b added held met group = record {
   references_are = met.brought group ∙ ap (references_at group) (sym (brought-marks old new)) ∙ references-are group (brought_by old new);
-  are_held = held-group known group (brought_by old new) (Each-new (λ r. IsHeldIn known r.group r) same_revision (revisions_in old) (revisions_in new) (held-revisions known added nodes new held));
+  are_held = held-group known group (brought_by old new) (Each-new (λ r. IsHeldIn known r.group r) same_revision (revisions_in old) (revisions_in new) (held-new known nodes new added held));
 }

@@ -1,16 +1,18 @@
 // What changesets refer to.
-ghost use Rattle.std.specs.Prelude.{◌≡◌, ◌∷◌, [], false, Bool, List, map, take, drop, length, ◌≤◌, IfOk, OnOk, if◌then◌else◌, ℕ, bytes_eq};
+ghost use Rattle.std.specs.Prelude.{◌≡◌, ◌∷◌, [], false, Bool, List, map, take, drop, length, ◌≤◌, ◌<◌, IfOk, OnOk, if◌then◌else◌, ℕ, bytes_eq};
 ghost use Rattle.std.specs.Bool.{OnTrue};
 ghost use Rattle.text_model.specs.Id.{has_id};
 ghost use Rattle.hg_model.specs.Revision as model;
 ghost use Rattle.hg_store.specs.Groups.{group_value};
 ghost use Rattle.hg_store.specs.Views.{IsManifestOf};
-ghost use Rattle.view_model.specs.View.{ChangesetView};
+ghost use Rattle.view_model.specs.View.{ChangesetView, entry_of_row};
+ghost use Rattle.view_model.specs.Dump.{brought_by};
+ghost use Rattle.hg_store.specs.Known.{AreAdded};
 ghost use Rattle.hg_manifest.specs.Values.{manifest_entry};
 ghost use Rattle.view_model.specs.Held.{IsChangesetHeld, AreChangesetsHeld};
 ghost use Rattle.hg_dump.specs.Referred.{referred, nothing};
 ghost use Rattle.hg_dump.specs.Marks.{file_mark, manifest_marks, view_marks, marks_of, marks_in, IsMet, Met, meet};
-ghost use Rattle.hg_dump.specs.State.{files_at, referred_in, met_of, Steps, StepsAfter, IsLineMet};
+ghost use Rattle.hg_dump.specs.State.{AreBrought, files_at, referred_in, met_of, Steps, StepsAfter, IsLineMet};
 
 use crate::references::{Reference, References};
 use bridge_text::{Id, NoMemory};
@@ -61,8 +63,10 @@ impl Brought {
     ) -> Result<Brought, NoMemory>
         requires from { from ≤ length nodes.now }
         requires held { (hs : List ChangesetView) × AreChangesetsHeld store.now nodes.now hs }
-        ensures { IfOk result (λ brought. (hs : List ChangesetView) → AreChangesetsHeld store.now nodes.now hs
+        ensures met { IfOk result (λ brought. (hs : List ChangesetView) → AreChangesetsHeld store.now nodes.now hs
             → IsMet (met_of (take from hs) (drop from hs)) (referred_in brought)) }
+        ensures brought { IfOk result (λ brought. (hs : List ChangesetView) → AreChangesetsHeld store.now nodes.now hs
+            → AreBrought store.now brought (brought_by (take from hs) (drop from hs))) }
     {
         let mut brought = Brought::new(alloc);
         brought.refer_all(store, &nodes[..from], Id::NULL, Near::none(), false)?;
@@ -92,7 +96,8 @@ impl Brought {
     ) -> Result<(), NoMemory>
         requires held { (hs : List ChangesetView) × AreChangesetsHeld store.now nodes.now hs }
         requires before { IsManifestOf store.now before previous }
-        ensures { OnOk result ((hs : List ChangesetView) → AreChangesetsHeld store.now nodes.now hs → StepsAfter previous.entry is_new (marks_in hs) self.old self.new) }
+        ensures steps { OnOk result ((hs : List ChangesetView) → AreChangesetsHeld store.now nodes.now hs → StepsAfter previous.entry is_new (marks_in hs) self.old self.new) }
+        ensures known { OnOk result (0 < length nodes.now → AreAdded store.now) }
     {
         for node in nodes {
             let (manifest_node, lines) = named_lines(store, node);
@@ -189,11 +194,13 @@ impl Brought {
     }
 }
 
-// The lines of the manifest of a changeset that is held, with its node. The file revisions that they name are not looked up.
-fn named_lines<'a>(store: &'a HgStore, node: &Id) -> (Id, Near<'a>)
+/// The lines of the manifest of a changeset that is held, with its node. The file revisions that they name are not looked up.
+pub fn named_lines<'a>(store: &'a HgStore, node: &Id) -> (Id, Near<'a>)
     requires held { (h : ChangesetView) × IsChangesetHeld store.now node.now h }
     ensures marks { (h : ChangesetView) → IsChangesetHeld store.now node.now h → marks_of h ≡ view_marks node.now result.0 result.1 }
+    ensures lines { (h : ChangesetView) → IsChangesetHeld store.now node.now h → map entry_of_row h.rows ≡ result.1 }
     ensures manifest { IsManifestOf store.now result.0 result.1 }
+    ensures known { AreAdded store.now }
 {
     match store.lines_of_changeset(node) {
         Some(found) => found,

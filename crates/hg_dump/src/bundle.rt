@@ -51,7 +51,6 @@ pub fn is_dump(
     ensures { IfOk result (λ yes. (hs : List ChangesetView) → AreChangesetsHeld store.now order.now hs
         → (yes ≡ true) ↔ (bytes.now ≡ hg_increment store.now [] hs)) }
 {
-    store.check();
     let brought = Brought::collect(alloc, store, order.as_slice(), 0)?;
     Ok(is_bundle(bytes, store, &brought))
 }

@@ -36,7 +36,6 @@ impl<'a> Dump<'a> {
         ensures text { IfOk result (λ dump. (hs : List ChangesetView) → AreChangesetsHeld store.now nodes.now hs
             → IsDumpOf dump (hg_increment store.now (take from hs) (drop from hs))) }
     {
-        store.check();
         let brought = Brought::collect(alloc, store, nodes, from)?;
         Ok(Dump { store, brought })
     }

@@ -6,6 +6,7 @@ ghost use Rattle.text_model.specs.Id.{IsId};
 ghost use Rattle.hg_model.specs.Revision.{Revision, revision_of, knows};
 ghost use Rattle.hg_model.specs.Delta.{whole_delta};
 ghost use Rattle.hg_store.specs.Groups.{group_value};
+ghost use Rattle.hg_store.specs.Known.{AreAdded};
 ghost use Rattle.hg_dump.specs.Written.{IsOf, AreParentsOf, entry_over, entry_chunk};
 
 use crate::references::Reference;
@@ -46,15 +47,14 @@ pub fn put_entry(
 pub fn entry_len(
     store: &HgStore,
     group: Group<'_>,
-    reference: &Reference,
+    reference: Reference,
     base_len: u32,
 ) -> (u64, u32)
-    requires { (r : Revision) × IsOf store.now (group_value group) reference.now r }
-    ensures entry { (r : Revision) → IsOf store.now (group_value group.entry) reference.now r → result.0 ≡ length (entry_chunk (entry_over base_len r)) }
-    ensures len { (r : Revision) → IsOf store.now (group_value group.entry) reference.now r → result.1 ≡ length r.text }
+    requires { (r : Revision) × IsOf store.now (group_value group) reference r }
+    ensures entry { (r : Revision) → IsOf store.now (group_value group.entry) reference r → result.0 ≡ length (entry_chunk (entry_over base_len r)) }
+    ensures len { (r : Revision) → IsOf store.now (group_value group.entry) reference r → result.1 ≡ length r.text }
 {
     let text = store.revision_text(group, &reference.node).unwrap();
-    let _ids = (reference.node.bytes(), reference.link.bytes());
     let len = HEADER_LEN + delta_len(base_len, text);
     (len as u64, text.len() as u32)
 }
@@ -62,7 +62,8 @@ pub fn entry_len(
 /// The parents of a known revision in the order in which they are written.
 pub fn parents(store: &HgStore, group: Group<'_>, node: &Id) -> (Id, Id)
     requires { IsTrue (knows store.now (group_value group) node.now) }
-    ensures { (r : Revision) → revision_of store.now (group_value group.entry) node.now ≡ Some r → AreParentsOf store.now (group_value group.entry) node.now r result }
+    ensures parents { (r : Revision) → revision_of store.now (group_value group.entry) node.now ≡ Some r → AreParentsOf store.now (group_value group.entry) node.now r result }
+    ensures known { AreAdded store.now }
 {
     match group {
         Group::Changesets => store.parents_of(node).unwrap(),

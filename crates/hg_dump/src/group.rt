@@ -1,10 +1,11 @@
 // The groups of a bundle.
-ghost use Rattle.std.specs.Prelude.{◌≡◌, ◌++◌, List, OnOk};
+ghost use Rattle.std.specs.Prelude.{◌≡◌, ◌++◌, ◌<◌, List, length, OnOk};
 ghost use Rattle.std.specs.Io.{StartsWith};
 ghost use Rattle.std.specs.List.{flat_map};
 ghost use Rattle.hg_model.specs.Revision.{FilesAt, Revision};
 ghost use Rattle.hg_model.specs.Bundle.{group_text};
 ghost use Rattle.hg_store.specs.Groups.{group_value};
+ghost use Rattle.hg_store.specs.Known.{AreAdded};
 ghost use Rattle.view_model.specs.Dump.{written_group};
 ghost use Rattle.hg_dump.specs.Written.{AreOf, base_size, file_part, file_part_of};
 ghost use Rattle.hg_dump.specs.State.{AreFiles, AreRising, paths_of};
@@ -29,7 +30,25 @@ pub fn put_group(
         → out.new ≡ out.old ++ group_text (written_group store.now (group_value group.entry) rs)) }
     ensures front { StartsWith out.new out.old }
 {
-    let mut base_len = first_base_len(store, group, references);
+    let base_len = first_base_len(store, group, references);
+    put_entries(out, store, group, references, base_len)
+}
+
+// Appends an entry for each reference, the first over a base of this length, and the empty chunk.
+fn put_entries(
+    out: &mut Rope,
+    store: &HgStore,
+    group: Group<'_>,
+    references: &[Reference],
+    base_len: u32,
+) -> Result<(), NoMemory>
+    requires are { (rs : List Revision) × AreOf store.now (group_value group) references.now rs }
+    requires base { (rs : List Revision) → AreOf store.now (group_value group) references.now rs → base_len ≡ base_size store.now (group_value group) rs }
+    ensures ok { OnOk result ((rs : List Revision) → AreOf store.now (group_value group.entry) references.now rs
+        → out.new ≡ out.old ++ group_text (written_group store.now (group_value group.entry) rs)) }
+    ensures front { StartsWith out.new out.old }
+{
+    let mut base_len = base_len;
     for reference in references {
         base_len = put_entry(out, store, group, reference, base_len)?;
     }
@@ -39,7 +58,8 @@ pub fn put_group(
 /// How long the base of a group's first entry is: the text of the first parent.
 pub fn first_base_len(store: &HgStore, group: Group<'_>, references: &[Reference]) -> u32
     requires { (rs : List Revision) × AreOf store.now (group_value group) references.now rs }
-    ensures { (rs : List Revision) → AreOf store.now (group_value group.entry) references.now rs → result ≡ base_size store.now (group_value group.entry) rs }
+    ensures len { (rs : List Revision) → AreOf store.now (group_value group.entry) references.now rs → result ≡ base_size store.now (group_value group.entry) rs }
+    ensures known { 0 < length references.now → AreAdded store.now }
 {
     let Some(reference) = references.first() else {
         return 0;
@@ -85,7 +105,8 @@ fn put_file(
     if references.is_empty() {
         return Ok(());
     }
-    store.check();
+    let group = Group::FilesAt(path);
+    let base_len = first_base_len(store, group, references);
     put_chunk(out, path)?;
-    put_group(out, store, Group::FilesAt(path), references)
+    put_entries(out, store, group, references, base_len)
 }

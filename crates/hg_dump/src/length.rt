@@ -44,7 +44,7 @@ fn group_len(store: &HgStore, group: Group<'_>, references: &[Reference]) -> u64
     let mut base_len = first_base_len(store, group, references);
     let mut len = CHUNK_LEN;
     for reference in references {
-        let (entry, text_len) = entry_len(store, group, reference, base_len);
+        let (entry, text_len) = entry_len(store, group, *reference, base_len);
         len = len.saturating_add(entry);
         base_len = text_len;
     }

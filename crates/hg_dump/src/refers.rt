@@ -8,7 +8,7 @@ ghost use Rattle.view_model.specs.Held.{IsChangesetHeld, AreChangesetsHeld};
 ghost use Rattle.view_model.specs.Dump.{revisions_in};
 ghost use Rattle.hg_dump.specs.Refers.{RefersTo, HasFilesOf, AreNamedBy};
 
-use crate::brought::Brought;
+use crate::brought::{Brought, named_lines};
 use bridge_text::{Id, NoMemory};
 use hg_manifest::{Beside, Manifest, Near};
 use hg_store::{Group, HgStore};
@@ -76,20 +76,8 @@ fn lines_near<'a>(store: &'a HgStore, near: Option<&Id>) -> (Id, Near<'a>)
     ensures manifest { IsManifestOf store.now result.0 result.1 }
 {
     match near {
-        Some(node) => named_lines_of(store, node),
+        Some(node) => named_lines(store, node),
         None => (Id::NULL, Near::none()),
-    }
-}
-
-// The lines of the manifest of a changeset that is held, with its node.
-fn named_lines_of<'a>(store: &'a HgStore, node: &Id) -> (Id, Near<'a>)
-    requires held { (h : ChangesetView) × IsChangesetHeld store.now node.now h }
-    ensures lines { (h : ChangesetView) → IsChangesetHeld store.now node.now h → map entry_of_row h.rows ≡ result.1 }
-    ensures manifest { IsManifestOf store.now result.0 result.1 }
-{
-    match store.lines_of_changeset(node) {
-        Some(found) => found,
-        None => unreachable!(),
     }
 }
 
@@ -98,7 +86,7 @@ pub fn lines_of<'a>(store: &'a HgStore, node: &Id) -> Near<'a>
     requires held { (h : ChangesetView) × IsChangesetHeld store.now node.now h }
     ensures { (h : ChangesetView) → IsChangesetHeld store.now node.now h → map entry_of_row h.rows ≡ result }
 {
-    let (_, lines) = named_lines_of(store, node);
+    let (_, lines) = named_lines(store, node);
     lines
 }
 

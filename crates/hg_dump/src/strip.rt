@@ -11,7 +11,7 @@ ghost use Rattle.hg_store.specs.Groups.{group_value};
 ghost use Rattle.view_model.specs.Dump.{written_bundle, written_group};
 ghost use Rattle.hg_dump.specs.Begins.{LacksFront, HasFront, IsBehind};
 ghost use Rattle.hg_dump.specs.State.{AreBrought, AreFiles, AreRising, paths_of};
-ghost use Rattle.hg_dump.specs.Written.{AreOf, IsOf, entry_over, entry_chunk, file_part, file_part_of};
+ghost use Rattle.hg_dump.specs.Written.{AreOf, IsOf, base_size, entry_over, entry_chunk, file_part, file_part_of};
 
 use crate::brought::Brought;
 use crate::bundle::MAGIC;
@@ -87,9 +87,10 @@ fn strip_file<'a>(
     if references.is_empty() {
         return Some(bytes);
     }
-    store.check();
+    let group = Group::FilesAt(path);
+    let base_len = first_base_len(store, group, references);
     let entries = strip_chunk(bytes, path)?;
-    strip_group(entries, store, Group::FilesAt(path), references)
+    strip_entries(entries, store, group, references, base_len)
 }
 
 // What follows a group: an entry for each reference, and the empty chunk.
@@ -103,7 +104,24 @@ fn strip_group<'a>(
     ensures { (rs : List Revision) → AreOf store.now (group_value group.entry) references.now rs
         → IsBehind bytes.entry.now (group_text (written_group store.now (group_value group.entry) rs)) result }
 {
-    let mut base_len = first_base_len(store, group, references);
+    let base_len = first_base_len(store, group, references);
+    strip_entries(bytes, store, group, references, base_len)
+}
+
+// What follows an entry for each reference, the first over a base of this length, and the empty chunk.
+fn strip_entries<'a>(
+    bytes: &'a [u8],
+    store: &HgStore,
+    group: Group<'_>,
+    references: &[Reference],
+    base_len: u32,
+) -> Option<&'a [u8]>
+    requires are { (rs : List Revision) × AreOf store.now (group_value group) references.now rs }
+    requires base { (rs : List Revision) → AreOf store.now (group_value group) references.now rs → base_len ≡ base_size store.now (group_value group) rs }
+    ensures { (rs : List Revision) → AreOf store.now (group_value group.entry) references.now rs
+        → IsBehind bytes.entry.now (group_text (written_group store.now (group_value group.entry) rs)) result }
+{
+    let mut base_len = base_len;
     let mut rest = bytes;
     for reference in references {
         let (behind, text_len) = strip_entry(rest, store, group, reference, base_len)?;

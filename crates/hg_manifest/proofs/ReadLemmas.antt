@@ -1,11 +1,11 @@
 -- How far a text is read: what was read, and what is left to judge.
-use Rattle.std.proofs.Common.{◌≡◌, ◌+◌, ◌-◌, ◌<◌, ◌≤◌, ℕ, true, false, List, [], ◌∷◌, ◌++◌, length, take, drop, Option, Some, None, refl, sym, ap, subst, ◌∙◌, append_assoc, arith, map, IsTrue}
+use Rattle.std.proofs.Common.{◌≡◌, ◌+◌, ◌-◌, ◌<◌, ◌≤◌, ℕ, true, List, [], ◌∷◌, ◌++◌, length, take, drop, Option, Some, None, refl, sym, ap, subst, ◌∙◌, append_assoc, arith, map, IsTrue}
 use Rattle.std.specs.Prelude.{slice_range, slice_get}
 use Rattle.std.proofs.lemmas.Bool.{and_parts, and_from}
 use Rattle.std.proofs.lemmas.List.{length-append, append-nil, map-append, take-append-drop, take_at, drop_at}
 use Rattle.text_model.specs.Text.{Bytes, IsBytes, whole_lines}
 use Rattle.hg_model.specs.Manifest.{ManifestEntry, flag_text, entry_text, manifest_text, IsManifest, IsManifestText, ManifestFault, BadLine, UnfitPath, last_path, rises_above, entry_of_line, entry_fault, path_of_line, lines_fault, manifest_fault}
-use Rattle.text_model.specs.Id.{IsId, hex}
+use Rattle.text_model.specs.Id.{hex}
 use Rattle.text_model.specs.Path.{is_fit_path}
 use Rattle.hg_manifest.specs.declared.entry.Entry.{Entry}
 use Rattle.hg_manifest.specs.declared.fault.ManifestFault.{ManifestFault as Fault}
@@ -17,7 +17,7 @@ use Rattle.text_model.proofs.Elements.{drop_next, map_take_push}
 use Rattle.hg_manifest.specs.Near.{IsFit, AreFirstLines, first_rises}
 use Rattle.text_model.proofs.ByteLemmas.{IsBytes-front, IsBytes-rest}
 use Rattle.hg_model.proofs.EntryLemmas.{entry_of_line-text, entry_of_line-takes, at_nul, path_of_line-text, whole_lines-text, is_fit_path-plain}
-use Rattle.hg_model.proofs.ManifestLemmas.{path_after, last_path-is, rises_from, rises-is, manifest_text-cons, IsManifest-push, manifest_text-none, manifest_text-push, last_path-push, entry_fault-fits, entry_fault-falls, entry_fault-unfit, lines_fault-bad, lines_fault-fits}
+use Rattle.hg_model.proofs.ManifestLemmas.{path_after, last_path-is, rises_from, rises-is, manifest_text-cons, IsManifest-push, manifest_text-none, manifest_text-push, last_path-push, entry_fault-fits, lines_fault-bad, lines_fault-fits}
 
 -- the entries are the lines before the rest, and the fault of the text is that of the rest
 pub record IsReadTo (text : Bytes) (last : Option Bytes) (entries : List ManifestEntry) (rest : Bytes) : Type 0 where
@@ -63,13 +63,19 @@ module _ (text : Bytes) (last : Option Bytes) (entries : List ManifestEntry) (re
   line_fault (PathUnfit place) h = fault_at (UnfitPath place) h
   line_fault Memory h = tt
 
+  -- the entry of the line
+  pub line_entry : (e : ManifestEntry) → Some e ≡ entry_of_line line → is_fit_path e.path ≡ true → IsFit e
+  line_entry e reads fit =
+      let spelled = entry_of_line-takes line e (sym reads) in
+      let both : IsBytes (line ++ after) = subst (λ (x : Bytes). IsBytes x) l.whole r.fits in
+      (fit, IsBytes-front e.path _ (subst (λ (x : Bytes). IsBytes x) (spelled.whole ∙ at_nul e) (IsBytes-front line after both)), spelled.node)
+
   -- one entry more
   pub goes_on : (e : ManifestEntry) → Some e ≡ entry_of_line line → rises_above last e.path ≡ true → is_fit_path e.path ≡ true → IsReadTo text (Some e.path) (entries ++ e ∷ []) after
   goes_on e reads above fit =
       let spelled = entry_of_line-takes line e (sym reads) in
       let plain = is_fit_path-plain e.path fit in
       let both : IsBytes (line ++ after) = subst (λ (x : Bytes). IsBytes x) l.whole r.fits in
-      let bytes : IsBytes e.path = IsBytes-front e.path _ (subst (λ (x : Bytes). IsBytes x) (spelled.whole ∙ at_nul e) (IsBytes-front line after both)) in
       let at : length text - length rest + length line ≡ length text - length after =
       omega (arith, ap (λ (x : Bytes). length x) r.whole, length-append (manifest_text entries) rest, ap (λ (x : Bytes). length x) l.whole, length-append line after) in
       let fits = ap (entry_fault last (length text - length rest)) (sym reads) ∙ entry_fault-fits last (length text - length rest) e above fit in
@@ -79,7 +85,7 @@ module _ (text : Bytes) (last : Option Bytes) (entries : List ManifestEntry) (re
             r.whole ∙ ap (λ (x : Bytes). manifest_text entries ++ x) (l.whole ∙ ap (λ (x : Bytes). x ++ after) spelled.whole)
             ∙ sym (append_assoc (manifest_text entries) (entry_text e) after) ∙ ap (λ (x : Bytes). x ++ after) (sym (manifest_text-push entries e));
         last_is = sym (last_path-push entries e);
-        is = IsManifest-push entries e r.is (fit, bytes, spelled.node) (ap (λ (x : Option Bytes). rises_above x e.path) (sym r.last_is) ∙ above);
+        is = IsManifest-push entries e r.is (line_entry e reads fit) (ap (λ (x : Option Bytes). rises_above x e.path) (sym r.last_is) ∙ above);
         fits = IsBytes-rest line after both;
         fault =
             r.fault ∙ ap (lines_fault last (length text - length rest)) l.lines ∙ lines_fault-fits last (length text - length rest) line (whole_lines after) fits
@@ -187,7 +193,7 @@ last-of entries e front whole = sym (ap (λ (es : List Entry). last_path (map ma
 
 -- an entry put behind the others
 pub pushed : (items new : List Entry) (e : Entry) → new ≡ items ++ e ∷ [] → IsManifest (map manifest_entry items)
-    → IsTrue (is_fit_path e.path) → IsBytes e.path → IsId e.node → IsTrue (rises_above (last_path (map manifest_entry items)) e.path) → IsManifest (map manifest_entry new)
-pushed items new e same is fit bytes node above =
+    → IsFit (manifest_entry e) → IsTrue (rises_above (last_path (map manifest_entry items)) e.path) → IsManifest (map manifest_entry new)
+pushed items new e same is fit above =
     let whole : map manifest_entry new ≡ map manifest_entry items ++ manifest_entry e ∷ [] = ap (map manifest_entry) same ∙ map-append manifest_entry items (e ∷ []) in
-    subst (λ (es : List ManifestEntry). IsManifest es) (sym whole) (IsManifest-push (map manifest_entry items) (manifest_entry e) is (fit, bytes, node) above)
+    subst (λ (es : List ManifestEntry). IsManifest es) (sym whole) (IsManifest-push (map manifest_entry items) (manifest_entry e) is fit above)

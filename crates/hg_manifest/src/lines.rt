@@ -1,6 +1,5 @@
 ghost use Rattle.std.specs.Prelude.{◌≡◌, ◌++◌, List, ℕ, OnOk, length, map};
 ghost use Rattle.std.specs.Io.{StartsWith};
-ghost use Rattle.text_model.specs.Id.{IsId};
 ghost use Rattle.hg_model.specs.Manifest.{flag_text, entry_text, manifest_text};
 ghost use Rattle.hg_manifest.specs.Values.{file_flag, manifest_entry};
 ghost use Rattle.hg_manifest.specs.Near.{StartsWithLines};
@@ -32,11 +31,11 @@ pub fn put_line(out: &mut Vec<u8>, path: &[u8], node: &Id, flag: Flag) -> Result
     Ok(())
 }
 
-/// How many bytes the line of a file has: beside its path and the letter of its flag a NUL, 40 digits and an LF.
-pub fn line_len(path: &[u8], flag: Flag) -> usize
-    ensures { (node : List ℕ) → IsId node → result ≡ length (entry_text (record { path = path.now; node = node; flag = file_flag flag })) }
+/// How many bytes the line of a file has: its path, NUL, two digits for each byte of its node, the letter of its flag if it has one, and LF.
+pub fn line_len(path: &[u8], node: &Id, flag: Flag) -> usize
+    ensures { result ≡ length (entry_text (record { path = path.now; node = node.now; flag = file_flag flag })) }
 {
-    path.len() + flag_bytes(flag).len() + 42
+    path.len() + 2 * node.bytes().len() + flag_bytes(flag).len() + 2
 }
 
 // How many bytes of a text stand behind the lines of these entries, with which it begins.
@@ -47,7 +46,7 @@ pub(crate) fn len_behind(text: &[u8], entries: &[SharedEntry]) -> usize
     let mut behind = text.len();
     for entry in entries {
         let entry = entry.get();
-        behind -= line_len(entry.path.as_slice(), entry.flag);
+        behind -= line_len(entry.path.as_slice(), &entry.node, entry.flag);
     }
     behind
 }

@@ -2,11 +2,10 @@ ghost use Rattle.std.specs.Prelude.{◌≡◌, ◌==◌, ◌<◌, ◌++◌, [], 
 ghost use Rattle.std.specs.Option.{option_copied};
 ghost use Rattle.std.specs.Ordering.{nat_cmp};
 ghost use Rattle.std.specs.Cmp.Lexicographic.{slice_cmp};
-ghost use Rattle.text_model.specs.Path.{is_fit_path};
 ghost use Rattle.hg_model.specs.Manifest.{IsManifest, IsManifestText, manifest_text, rises_above, last_path, entry_of_line, entry_fault};
 ghost use Rattle.hg_manifest.specs.Values.{file_flag, manifest_entry, IsFault, IsNamed};
 ghost use Rattle.hg_manifest.specs.Beside.{IsNewer};
-ghost use Rattle.hg_manifest.specs.Near.{first_rises, IsEntryOf};
+ghost use Rattle.hg_manifest.specs.Near.{first_rises, IsEntryOf, IsFit};
 
 use crate::entry::{Entry, SharedEntry};
 use crate::fault::ManifestFault;
@@ -14,7 +13,7 @@ use crate::line::{Line, read_line};
 use crate::lines::put_lines;
 use crate::near::Near;
 use crate::newer::Newer;
-use bridge_text::{NoMemory, each_is_byte, first_line, fit_path};
+use bridge_text::{NoMemory, first_line, fit_path};
 use shared_text::{Text, part};
 use std::alloc::Global;
 use std::cmp::Ordering;
@@ -93,11 +92,12 @@ impl Manifest {
                 };
                 near.pass(line.path);
                 newer.push(manifest.len() - told)?;
-                manifest.push(Entry {
+                let entry = Entry {
                     path: part(text, place..place + line.path.len())?,
                     node: line.node,
                     flag: line.flag,
-                })?;
+                };
+                manifest.push_shared(SharedEntry::new(alloc, entry)?)?;
                 told = manifest.len();
                 last = Some(line.path);
                 rest = after;
@@ -107,27 +107,14 @@ impl Manifest {
         Ok((manifest, newer))
     }
 
-    /// Adds an entry behind the others: its path is fit, and stands after that of the last one. After want of memory the manifest is as it was.
-    pub fn push(&mut self, entry: Entry) -> Result<(), NoMemory>
-        requires fit { IsTrue (is_fit_path entry.path) }
-        requires rises { IsTrue (rises_above (last_path self.old) entry.path) }
-        ensures ok { OnOk result (self.new ≡ self.old ++ manifest_entry entry ∷ []) }
-        ensures err { OnErr result (self.new ≡ self.old) }
-    {
-        let shared = SharedEntry::new(*self.entries.allocator(), entry)?;
-        self.push_shared(shared)
-    }
-
-    // The same of an entry that may have other owners.
+    // Adds an entry behind the others, which may have other owners: it may stand in a manifest, and its path stands after that of the last one. After want of
+    // memory the manifest is as it was.
     fn push_shared(&mut self, shared: SharedEntry) -> Result<(), NoMemory>
-        requires fit { IsTrue (is_fit_path shared.path) }
+        requires fit { IsFit (manifest_entry shared) }
         requires rises { IsTrue (rises_above (last_path self.old) shared.path) }
         ensures ok { OnOk result (self.new ≡ self.old ++ manifest_entry shared ∷ []) }
         ensures err { OnErr result (self.new ≡ self.old) }
     {
-        let entry = shared.get();
-        each_is_byte(entry.path.as_slice());
-        let _bytes = entry.node.bytes();
         Ok(self.entries.push(shared)?)
     }
 
@@ -140,13 +127,6 @@ impl Manifest {
             self.push_shared(entry.again()?)?;
         }
         Ok(())
-    }
-
-    /// A law, which does nothing when it runs: the entries are those of a manifest.
-    pub fn is_manifest(&self)
-        ensures { IsManifest self.now }
-    {
-        let _entries = &self.entries;
     }
 
     // The entries.

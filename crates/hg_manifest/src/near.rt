@@ -129,7 +129,7 @@ impl<'a> Near<'a> {
         let (_, entries) = self.entries.split_at(1);
         let (line, lines) = self
             .lines
-            .split_at(line_len(entry.path.as_slice(), entry.flag));
+            .split_at(line_len(entry.path.as_slice(), &entry.node, entry.flag));
         Some((entry, line, Near { entries, lines }))
     }
 }

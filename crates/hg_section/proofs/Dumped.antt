@@ -100,11 +100,11 @@ module _ (known : List Revision) (added : AreAdded known) where
       let others = held-views nodes hs held.1 in
       ((held-is_view known added node h held.0, others.0), (λ i. sym (held-node known added node h held.0) i ∷ others.1 i))
 
-pub is-section : (bytes : Bytes) (store : List Revision) (listed : List Arrival) → IsRead bytes store listed → AreAdded store → list_any is_again listed ≡ false
+pub is-section : (bytes : Bytes) (store : List Revision) (listed : List Arrival) → IsRead bytes store listed → list_any is_again listed ≡ false
     → (nodes : List Id) → nodes ≡ nodes_of listed → length nodes ≤ changeset_limit → (hs : List ChangesetView) → IsWrittenOf store nodes bytes hs
     → IsSectionOf bytes (record { store = store; nodes = nodes; arrivals = listed })
-is-section bytes store listed read added once nodes are few hs written =
-    let views = held-views store added nodes hs written.0 in
+is-section bytes store listed read once nodes are few hs written =
+    let views = held-views store read.added nodes hs written.0 in
     let ok : IsTrue (is_ok (bundle_reading [] (hg_increment store [] hs))) = ap (λ (b : Bytes). is_ok (bundle_reading [] b)) written.1 ∙ ap is_ok read.reads.1 in
     let is = sym (read-is-dump store hs views.0 (omega (arith, read.short, ap (λ (l : Bytes). length l) written.1)) ok) ∙ written.1 in
     let came_here = came bytes store listed read in
@@ -115,6 +115,6 @@ is-section bytes store listed read added once nodes are few hs written =
       few = omega (arith, few, ap (λ (l : List Id). length l) views.1, length-map hs changeset_node);
       short = omega (arith, read.short, ap (λ (l : Bytes). length l) is);
       read = ap (λ (b : Bytes). is_ok (bundle_reading [] b)) is ∙ ap is_ok read.reads.1;
-      one = held-one store added nodes hs written.0;
+      one = held-one store read.added nodes hs written.0;
     } in
-    (hs, dumped, is, record { nodes = views.1; held = written.0; known = (of-dump bytes store listed read hs dumped is).store_is })
+    (hs, dumped, is, record { nodes = views.1; held = written.0; known = (of-dump bytes store listed read hs dumped is).store_is; added = read.added })

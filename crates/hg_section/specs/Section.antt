@@ -4,6 +4,7 @@ use Rattle.text_model.specs.Text.{Bytes}
 use Rattle.text_model.specs.Id.{Id}
 use Rattle.hg_model.specs.Revision.{Revision, known_after_all}
 use Rattle.hg_model.specs.Reading.{bundle_reading}
+use Rattle.hg_store.specs.Known.{AreAdded}
 use Rattle.hg_bundle.specs.declared.arrival.Arrival.{Arrival}
 use Rattle.hg_bundle.specs.declared.arrival.RevKind.TheVariants.{Changeset}
 use Rattle.hg_bundle.specs.Arrivals.{same_kind, Reads}
@@ -14,11 +15,12 @@ use Rattle.state_model.specs.Limits.{dump_limit}
 use Rattle.hg_dump_law.specs.Taken.{in_bundle_order}
 use Rattle.hg_section.specs.declared.section.HgSection.{HgSection}
 
--- the changesets are held under their nodes, and nothing is known but what their dump brings, in its order
+-- the changesets are held under their nodes, and nothing is known but what their dump brings, in its order: each revision was added to those before it
 pub record HoldsChangesets (s : HgSection) (hs : List ChangesetView) : Type 0 where
   pub nodes : s.nodes ≡ map changeset_node hs
   pub held : AreChangesetsHeld s.store s.nodes hs
   pub known : s.store ≡ known_after_all [] (in_bundle_order (brought_by [] hs))
+  pub added : AreAdded s.store
 
 -- ---- the steps
 
@@ -26,10 +28,11 @@ pub record HoldsChangesets (s : HgSection) (hs : List ChangesetView) : Type 0 wh
 abbrev pub IsRefused : Bytes → Type 0
 IsRefused bytes = is_ok (bundle_reading [] bytes) ≡ false
 
--- the bytes are read: what is known then, and the arrivals
+-- the bytes are read: what is known then, each revision added to those before it, and the arrivals
 pub record IsRead (bytes : Bytes) (store : List Revision) (listed : List Arrival) : Type 0 where
   pub reads : Reads [] bytes (Ok (store, listed))
   pub short : length bytes ≤ dump_limit
+  pub added : AreAdded store
 
 abbrev pub is_changeset : Arrival → Bool
 is_changeset a = same_kind Changeset a.kind

@@ -1,6 +1,5 @@
 ghost use Rattle.std.specs.Prelude.{List, IfOk, IsTrue};
 ghost use Rattle.std.specs.Bool.{OnTrue};
-ghost use Rattle.hg_store.specs.Known.{AreAdded};
 ghost use Rattle.view_model.specs.View.{ChangesetView};
 ghost use Rattle.hg_section.specs.Section.{IsWrittenOf};
 
@@ -17,11 +16,9 @@ pub fn is_written(
     nodes: &IdList,
     bytes: &[u8],
 ) -> Result<bool, NoMemory>
-    ensures added { AreAdded store.now }
     ensures yes { IfOk result (λ yes. OnTrue yes ((hs : List ChangesetView) × IsWrittenOf store.now nodes.now bytes.now hs)) }
     ensures no { IfOk result (λ yes. (hs : List ChangesetView) → IsWrittenOf store.now nodes.now bytes.now hs → IsTrue yes) }
 {
-    store.check();
     if !are_held(store, nodes) {
         return Ok(false);
     }

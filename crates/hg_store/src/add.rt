@@ -1,4 +1,5 @@
 ghost use Rattle.std.specs.Prelude.{◌≡◌, ◌≢◌, ◌≤◌, [], None, Err, false, not, ◌&&◌, ◌||◌, length, IfOk, OnOk, OnErr, IfErr, IfSome, IsTrue};
+ghost use Rattle.text_model.specs.Text.{IsBytes};
 ghost use Rattle.text_model.specs.Id.{is_null, node_id};
 ghost use Rattle.text_model.specs.Path.{is_fit_path};
 ghost use Rattle.hg_model.specs.Revision.{Manifests, addition_fault, known_after, ancestry_fault, text_fault, is_known_parent, is_bad_link, knows};
@@ -34,6 +35,7 @@ impl HgStore {
         ensures faultless { OnOk result (addition_fault self.old (changeset_revision node p1 p2 link text) ≡ None) }
         ensures answer { IfOk result (λ added. added ≡ answer_of self.old (changeset_revision node p1 p2 link text)) }
         ensures ok { OnOk result (self.new ≡ known_after self.old (changeset_revision node p1 p2 link text)) }
+        ensures added { OnOk result (AreAdded self.new) }
         ensures fault { IfErr result (IsFault (addition_fault self.old (changeset_revision node p1 p2 link text))) }
         ensures err { OnErr result (self.new ≡ self.old) }
     {
@@ -62,6 +64,7 @@ impl HgStore {
         ensures faultless { OnOk result (addition_fault self.old (manifest_revision node p q link text) ≡ None) }
         ensures answer { IfOk result (λ added. added ≡ answer_of self.old (manifest_revision node p q link text)) }
         ensures ok { OnOk result (self.new ≡ known_after self.old (manifest_revision node p q link text)) }
+        ensures added { OnOk result (AreAdded self.new) }
         ensures fault { IfErr result (IsFault (addition_fault self.old (manifest_revision node p q link text))) }
         ensures err { OnErr result (self.new ≡ self.old) }
     {
@@ -93,6 +96,7 @@ impl HgStore {
         ensures faultless { OnOk result (addition_fault self.old (file_revision path.now node p q link text) ≡ None) }
         ensures answer { IfOk result (λ added. added ≡ answer_of self.old (file_revision path.now node p q link text)) }
         ensures ok { OnOk result (self.new ≡ known_after self.old (file_revision path.now node p q link text)) }
+        ensures added { OnOk result (AreAdded self.new) }
         ensures fault { IfErr result (IsFault (addition_fault self.old (file_revision path.now node p q link text))) }
         ensures err { OnErr result (self.new ≡ self.old) }
     {
@@ -115,6 +119,7 @@ impl HgStore {
         ensures faultless { OnOk result (addition_fault self.old (revision_value addition.entry) ≡ None) }
         ensures answer { IfOk result (λ added. added ≡ answer_of self.old (revision_value addition.entry)) }
         ensures ok { OnOk result (self.new ≡ known_after self.old (revision_value addition.entry)) }
+        ensures added { OnOk result (AreAdded self.new) }
         ensures fault { IfErr result (IsFault (addition_fault self.old (revision_value addition.entry))) }
         ensures err { OnErr result (self.new ≡ self.old) }
     {
@@ -141,6 +146,7 @@ impl HgStore {
         ensures faultless { OnOk result (addition_fault self.old (revision_value addition.entry) ≡ None) }
         ensures answer { IfOk result (λ added. added ≡ answer_of self.old (revision_value addition.entry)) }
         ensures ok { OnOk result (self.new ≡ known_after self.old (revision_value addition.entry)) }
+        ensures added { OnOk result (AreAdded self.new) }
         ensures fault { IfErr result (IsFault (addition_fault self.old (revision_value addition.entry))) }
         ensures err { OnErr result (self.new ≡ self.old) }
     {
@@ -216,6 +222,7 @@ impl HgStore {
         ensures fresh { OnOk result (knows self.now (group_value addition.now.group) addition.now.node ≡ false) }
         ensures value { IfOk result (HasValue (group_value addition.now.group) addition.now.text) }
         ensures newer { IfOk result (IsNewerIn self.now addition.now.p) }
+        ensures bytes { OnOk result (IsBytes addition.now.text) }
         ensures fault { IfErr result (IsFault (text_fault self.now (revision_value addition.now))) }
     {
         if node_id(&addition.p, &addition.q, addition.text.as_slice()) != addition.node {
@@ -236,6 +243,7 @@ impl HgStore {
         ensures fresh { OnOk result (knows self.now (group_value addition.now.group) addition.now.node ≡ false) }
         ensures value { IfOk result (HasValue (group_value addition.now.group) addition.now.text) }
         ensures newer { IfOk result (IsNewerIn self.now addition.now.p) }
+        ensures bytes { OnOk result (IsBytes addition.now.text) }
         ensures fault { IfErr result (IsFault (text_fault self.now (revision_value addition.now))) }
     {
         let near = self.near(addition);

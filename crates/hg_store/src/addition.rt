@@ -1,14 +1,12 @@
 ghost use Rattle.std.specs.Prelude.{◌≡◌, ◌&&◌, ◌||◌, not, bytes_eq};
-ghost use Rattle.text_model.specs.Text.{IsBytes};
-ghost use Rattle.text_model.specs.Id.{IsId, is_null};
+ghost use Rattle.text_model.specs.Id.{is_null};
 ghost use Rattle.text_model.specs.Fault as fault;
 ghost use Rattle.hg_model.specs.Revision.{order_fault, named_if, same_parents};
 ghost use Rattle.hg_store.specs.Groups.{group_value, revision_value};
-ghost use Rattle.hg_store.specs.Known.{HasPathOfBytes};
 
 use crate::group::Group;
 use crate::held::Held;
-use bridge_text::{Id, each_is_byte};
+use bridge_text::Id;
 use shared_text::Text;
 
 /// A revision that is to be added, with its parents as they were written (help topic `internals.changegroups`).
@@ -62,27 +60,6 @@ impl<'a> Addition<'a> {
         ensures { result ≡ (bytes_eq self.now.p p.now && bytes_eq self.now.q q.now) }
     {
         self.p == *p && self.q == *q
-    }
-
-    // A law, which does nothing when it runs.
-    pub(crate) fn is_of_bytes(&self)
-        ensures node { IsId self.now.node }
-        ensures p { IsId self.now.p }
-        ensures q { IsId self.now.q }
-        ensures link { IsId self.now.link }
-        ensures text { IsBytes self.now.text }
-        ensures path { HasPathOfBytes (group_value self.now.group) }
-    {
-        let _node = self.node.bytes();
-        let _p = self.p.bytes();
-        let _q = self.q.bytes();
-        let _link = self.link.bytes();
-        each_is_byte(self.text.as_slice());
-        match self.group {
-            Group::Changesets => {}
-            Group::Manifests => {}
-            Group::FilesAt(path) => each_is_byte(path),
-        }
     }
 }
 

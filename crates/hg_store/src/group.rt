@@ -1,5 +1,7 @@
 ghost use Rattle.std.specs.Prelude.{◌≡◌, IfOk, Some, slice_get};
+ghost use Rattle.text_model.specs.Text.{IsBytes};
 ghost use Rattle.hg_store.specs.Groups.{group_value, key_group, paths_in, IsNumberOf, AreGrown};
+ghost use Rattle.hg_store.specs.Known.{HasPathOfBytes};
 
 use bridge_text::NoMemory;
 use indexmap::IndexSet;
@@ -43,6 +45,7 @@ pub fn number_group(
 ) -> Result<KeyGroup, NoMemory>
     ensures number { IfOk result (IsNumberOf (paths_in paths.new.keys) (group_value group.entry)) }
     ensures grown { AreGrown (paths_in paths.old.keys) (paths_in paths.new.keys) }
+    ensures path { HasPathOfBytes (group_value group.entry) }
 {
     match group {
         Group::Changesets => Ok(KeyGroup::Changesets),
@@ -54,6 +57,7 @@ pub fn number_group(
 fn number_path(paths: &mut IndexSet<Vec<u8>>, alloc: Global, path: &[u8]) -> Result<usize, NoMemory>
     ensures number { IfOk result (λ number. slice_get (paths_in paths.new.keys) number ≡ Some path.now) }
     ensures grown { AreGrown (paths_in paths.old.keys) (paths_in paths.new.keys) }
+    ensures bytes { IsBytes path.now }
 {
     match paths.get_index_of(path) {
         Some(number) => Ok(number),

@@ -1,4 +1,5 @@
 ghost use Rattle.std.specs.Prelude.{◌≡◌, false, None, OnOk, IfOk, IfErr, IfSome};
+ghost use Rattle.text_model.specs.Text.{IsBytes};
 ghost use Rattle.text_model.specs.Fault as name;
 ghost use Rattle.hg_model.specs.FileText.{lacks_second_mark};
 ghost use Rattle.hg_model.specs.Revision.{Changesets, Manifests, named_if, shape_fault};
@@ -30,11 +31,13 @@ pub fn parse(
     ensures value { IfOk result (HasValue (group_value group.entry) text.now) }
     ensures newer { IfOk result (IsNewerThan near.entry) }
     ensures fault { IfErr result (IsFault (shape_fault (group_value group.entry) text.now)) }
+    ensures bytes { IsBytes text.now }
 {
+    let raw = text.as_slice();
     match group {
-        Group::Changesets => parse_changeset(alloc, text.as_slice()),
+        Group::Changesets => parse_changeset(alloc, raw),
         Group::Manifests => parse_manifest(alloc, text, near),
-        Group::FilesAt(_) => Ok(Parsed::File(blob_of(text.as_slice(), blob)?)),
+        Group::FilesAt(_) => Ok(Parsed::File(blob_of(raw, blob)?)),
     }
 }
 

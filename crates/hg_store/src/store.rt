@@ -1,5 +1,6 @@
 ghost use Rattle.std.specs.Prelude.{◌≡◌, ◌≤◌, ◌++◌, [], ◌∷◌, None, false, length, OnOk, OnErr, IfSome, option_map};
 ghost use Rattle.std.specs.Option.{option_copied};
+ghost use Rattle.text_model.specs.Text.{IsBytes};
 ghost use Rattle.hg_model.specs.Revision.{revision_of, knows, addition_fault};
 ghost use Rattle.hg_store.specs.Groups.{group_value, revision_value, held_revision, HasValue, IsNewerIn};
 ghost use Rattle.hg_store.specs.Known.{text_limit, AreAdded, HasFitPath};
@@ -104,11 +105,12 @@ impl HgStore {
         requires value { HasValue (group_value addition.group) addition.text parsed }
         requires newer { IsNewerIn self.old addition.p parsed }
         requires short { length addition.text ≤ text_limit }
+        requires bytes { IsBytes addition.text }
         requires path { HasFitPath (group_value addition.group) }
         ensures ok { OnOk result (self.new ≡ self.old ++ revision_value addition.entry ∷ []) }
+        ensures added { OnOk result (AreAdded self.new) }
         ensures err { OnErr result (self.new ≡ self.old) }
     {
-        addition.is_of_bytes();
         let group = number_group(&mut self.paths, self.alloc, addition.group)?;
         let key = Key {
             group,

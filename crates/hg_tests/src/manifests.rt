@@ -212,26 +212,11 @@ fn entries_by_place_and_path(rt: HostRuntime) -> Result<(), Fail> {
     Ok(())
 }
 
-// A manifest of the program `a` with a null node.
-fn with_entry(rt: &impl Abort, alloc: Global) -> Result<Manifest, Fail> {
-    let mut manifest = Manifest::new(alloc);
-    assert!(rt; manifest.is_empty());
-    let path = text(alloc, b"a")?;
-    assert!(rt; fit_path(path.as_slice()));
-    let entry = Entry {
-        path,
-        node: Id::NULL,
-        flag: Flag::Exec,
-    };
-    manifest.push(entry)?;
-    Ok(manifest)
-}
-
 #[test]
-fn an_entry_is_pushed(rt: HostRuntime) -> Result<(), Fail> {
-    let manifest = with_entry(&rt, rt.alloc())?;
-    let line = b"a\00000000000000000000000000000000000000000x\n";
-    let is_appended = is_appended(rt.alloc(), &manifest, line)?;
+fn a_new_manifest_has_no_entries(rt: HostRuntime) -> Result<(), Fail> {
+    let manifest = Manifest::new(rt.alloc());
+    assert!(rt; manifest.is_empty() && manifest.len() == 0);
+    let is_appended = is_appended(rt.alloc(), &manifest, b"")?;
     assert!(rt; is_appended);
     Ok(())
 }

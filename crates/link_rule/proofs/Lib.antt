@@ -5,3 +5,4 @@ pub mod PartnerViews
 pub mod HasViews
 pub mod DraftLemmas
 pub mod ChainLemmas
+pub mod LinkDates

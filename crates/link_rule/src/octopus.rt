@@ -1,5 +1,6 @@
-ghost use Rattle.std.specs.Prelude.{◌≡◌, ◌<◌, ◌^◌, length, IfOk};
+ghost use Rattle.std.specs.Prelude.{◌≡◌, ◌<◌, ◌^◌, ◌++◌, length, IfOk, OnOk};
 ghost use Rattle.std.specs.List.{AllZip};
+ghost use Rattle.text_model.specs.Text.{IsBytes};
 ghost use Rattle.text_model.specs.Id as text;
 ghost use Rattle.hg_model.specs.Changeset.{IsDateLine};
 ghost use Rattle.hg_changeset.specs.Values.{changeset_value, date_value};
@@ -69,10 +70,11 @@ impl Octopus {
         ensures date { IfOk result (λ x. IsDateLine (date_value x.date)) }
     {
         let key = Bytes::of(alloc, LINK_KEY)?;
-        let value = self.value(alloc, number)?;
+        let mut value = Vec::new(alloc);
+        self.value_into(&mut value, number)?;
+        let value = Bytes::keep(value);
         let mut extras = Extras::new(alloc);
         extras.push(ExtraItem { key, value })?;
-        extras.are_extras();
         Ok(Changeset {
             manifest: self.manifest,
             user: Bytes::of(alloc, LINK_USER)?,
@@ -86,16 +88,15 @@ impl Octopus {
         })
     }
 
-    // The value of the item of the link with this number.
-    fn value(&self, alloc: Global, number: u64) -> Result<Bytes, NoMemory>
-        ensures { IfOk result (λ value. value ≡ model.link_value self.now.commit number self.now.count) }
+    // Appends the value of the item of the link with this number.
+    fn value_into(&self, out: &mut Vec<u8>, number: u64) -> Result<(), NoMemory>
+        ensures value { OnOk result (out.new.items ≡ out.old.items ++ model.link_value self.now.commit number self.now.count) }
+        ensures bytes { OnOk result (IsBytes out.new.items) }
     {
-        let mut value = Vec::new(alloc);
-        value.extend_from_slice(&self.commit.hex())?;
-        value.push(b':')?;
-        decimal_into(&mut value, number)?;
-        value.push(b':')?;
-        decimal_into(&mut value, self.count)?;
-        Ok(Bytes::keep(value))
+        out.extend_from_slice(&self.commit.hex())?;
+        out.push(b':')?;
+        decimal_into(out, number)?;
+        out.push(b':')?;
+        decimal_into(out, self.count)
     }
 }

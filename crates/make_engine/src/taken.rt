@@ -8,7 +8,7 @@ ghost use Rattle.make_engine.specs.Taken.{IsTaken, RefusesAlone};
 use crate::fault::{CountsFault, of_pull};
 use bridge_io::Steps;
 use pair_state::State;
-use pull_engine::{empty_is_read, pull_git, pull_hg};
+use pull_engine::{pull_git, pull_hg};
 use state_part::Part;
 use std::alloc::Global;
 use std::sync::ledger::Ledger;
@@ -24,7 +24,6 @@ pub fn state_of_bundle<L: Ledger>(
     ensures names { IfErr result IsOfCounts }
     ensures least { steps.old ≤ steps.new }
 {
-    empty_is_read();
     match pull_hg(State::empty(alloc), &mut Part::new(bundle), steps) {
         Ok(pulled) => Ok(pulled.state),
         Err(fault) => Err(of_pull(fault)),
@@ -42,7 +41,6 @@ pub fn state_of_stream<L: Ledger>(
     ensures names { IfErr result IsOfCounts }
     ensures least { steps.old ≤ steps.new }
 {
-    empty_is_read();
     match pull_git(State::empty(alloc), &mut Part::new(stream), steps) {
         Ok(pulled) => Ok(pulled.state),
         Err(fault) => Err(of_pull(fault)),

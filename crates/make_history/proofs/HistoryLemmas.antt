@@ -4,6 +4,7 @@ use Rattle.text_model.specs.Id.{Id}
 use Rattle.text_model.proofs.Options.{or_neither}
 use Rattle.text_model.proofs.Elements.{flat_map_append}
 use Rattle.hg_model.specs.Revision.{Revision, known_after}
+use Rattle.hg_store.specs.Known.{AreAdded}
 use Rattle.view_model.specs.Dump.{revisions_of}
 use Rattle.view_model.specs.Held.{AreChangesetsHeld}
 use Rattle.pair_state.specs.Came.{is_bad, AreClean}
@@ -59,6 +60,7 @@ collides-more seed n m few h = let e : n + (m - n) ≡ m = omega arith in subst 
 pub made-none : (seed : ℕ) (h : History) → h.store ≡ [] → h.nodes ≡ [] → IsMade h (made_history seed 0)
 made-none seed h store nodes = subst (IsMade h) (sym (history-none seed)) (record {
   came = record { are = store; clean = tt };
+  added = subst AreAdded (sym store) tt;
   nodes = nodes;
   held = subst (λ (l : List Id). AreChangesetsHeld h.store l []) (sym nodes) tt;
 })

@@ -5,6 +5,7 @@ use Rattle.text_model.specs.Id.{Id}
 use Rattle.text_model.proofs.Options.{or_parts}
 use Rattle.text_model.proofs.Elements.{flat_map_append, map_append, none_in}
 use Rattle.hg_model.specs.Revision.{Revision, known_after, known_after_all}
+use Rattle.hg_store.specs.Known.{AreAdded}
 use Rattle.view_model.specs.View.{ChangesetView, changeset_node}
 use Rattle.view_model.specs.Held.{AreChangesetsHeld}
 use Rattle.view_model.specs.Dump.{revisions_of, revisions_in}
@@ -61,15 +62,16 @@ next-collides seed n store come bad =
     ∙ ap (λ (l : List Revision). has_collision l (revisions_of (next_of seed n))) (sym come.are) ∙ bad-collides store (revisions_of (next_of seed n)) bad
 
 -- where all came, the history is made
-pub next-made : (seed n : ℕ) (old new : History) → IsMade old (made_history seed n) → IsLooseView (next_of seed n) → HaveCome old.store new.store (revisions_of (next_of seed n)) → new.nodes ≡ old.nodes ++ changeset_node (next_of seed n) ∷ []
+pub next-made : (seed n : ℕ) (old new : History) → IsMade old (made_history seed n) → IsLooseView (next_of seed n) → HaveCome old.store new.store (revisions_of (next_of seed n)) → AreAdded new.store → new.nodes ≡ old.nodes ++ changeset_node (next_of seed n) ∷ []
     → IsMade new (made_history seed (n + 1))
-next-made seed n old new made view come nodes =
+next-made seed n old new made view come added nodes =
     let k = next_of seed n in
     let all : Each (CameAs new.store) (revisions_of k) = subst (λ (l : List Revision). Each (CameAs l) (revisions_of k)) (sym come.are) (all-as old.store (revisions_of k) come.clean) in
     let stay : AreChangesetsHeld new.store old.nodes (made_history seed n) = subst (λ (l : List Revision). AreChangesetsHeld l old.nodes (made_history seed n)) (sym come.are)
     (changesets-on old.store (known_after_all old.store (revisions_of k)) (within-all old.store (revisions_of k)) old.nodes (made_history seed n) made.held) in
     record {
       came = subst (HaveCome [] new.store) (sym (revisions-next seed n)) (come-more [] old.store new.store (made_revisions n seed) (revisions_of k) made.came come);
+      added = added;
       nodes = nodes ∙ ap (λ (l : List Id). l ++ changeset_node k ∷ []) made.nodes ∙ sym (map_append changeset_node (made_history seed n) (k ∷ [])) ∙ ap (map changeset_node) (sym (history-next seed n));
       held = subst (λ (l : List Id). AreChangesetsHeld new.store l (made_history seed (n + 1))) (sym nodes)
           (subst (AreChangesetsHeld new.store (old.nodes ++ changeset_node k ∷ [])) (sym (history-next seed n)) (held-push new.store old.nodes (made_history seed n) (changeset_node k) k stay (new-changeset new.store k view all)));

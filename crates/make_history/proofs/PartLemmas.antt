@@ -127,12 +127,15 @@ pub drafted-rows : (known : List Revision) (d : HgDraft) (before : List Changese
 unfolding changeset_over
 drafted-rows known d before x n is = is.draft.rows
 
-module _ (seed n : ℕ) (h : History) (made : IsMade h (made_history seed n)) (added : AreAdded h.store) (few : n < 20000) where
+module _ (seed n : ℕ) (h : History) (made : IsMade h (made_history seed n)) (few : n < 20000) where
   abbrev known : List Revision
   known = h.store
 
   abbrev before : List ChangesetView
   before = made_history seed n
+
+  added : AreAdded known
+  added = made.added
 
   held : Each (parents.IsHeld known) before
   held = parents.held-each known before (subst (λ (l : List Id). AreChangesetsHeld known l before) made.nodes made.held)

@@ -1,5 +1,6 @@
 -- Histories that are made, with what is held of them.
 use Rattle.std.specs.Prelude.{◌≡◌, ℕ, ◌+◌, true, List, [], map, ⊤}
+use Rattle.hg_store.specs.Known.{AreAdded}
 use Rattle.view_model.specs.View.{ChangesetView, changeset_node}
 use Rattle.view_model.specs.Held.{AreChangesetsHeld}
 use Rattle.view_model.specs.Dump.{revisions_in}
@@ -9,9 +10,10 @@ use Rattle.make_history.specs.declared.add.History.{History}
 use Rattle.make_history.specs.declared.fault.MakeFault.{MakeFault}
 use Rattle.make_history.specs.declared.fault.MakeFault.TheVariants.{CountLimit, Collision, Memory}
 
--- the revisions of the changesets came, of which none collided, and these are their nodes
+-- the revisions of the changesets came, of which none collided, each over those before it, and these are their nodes
 pub record IsMade (h : History) (changesets : List ChangesetView) : Type 0 where
   pub came : HaveCome [] h.store (revisions_in changesets)
+  pub added : AreAdded h.store
   pub nodes : h.nodes ≡ map changeset_node changesets
   pub held : AreChangesetsHeld h.store h.nodes changesets
 

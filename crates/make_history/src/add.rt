@@ -56,7 +56,6 @@ fn add_next(
     ensures fault { IfErr result (λ fault. (seed : ℕ) → IsMade history.old (model.made_history seed number) → numbers_value numbers.now ≡ numbers_of seed number
         → IsNextFault seed number fault) }
 {
-    history.store.check();
     let (p1, p2) = parents_behind(numbers.parents, history.nodes.as_slice());
     let Next { draft, lines } = make_draft(alloc, &history.store, p1, p2, numbers, number)?;
     let text = text_of(alloc, &draft.changeset)?;

@@ -1,9 +1,9 @@
 // The file that a changeset changes or copies.
-ghost use Rattle.std.specs.Prelude.{◌≡◌, false, List, map, option_map, IfOk, IfSome};
+ghost use Rattle.std.specs.Prelude.{◌≡◌, false, List, map, Some, option_map, OnOk, IfOk, IfSome};
 ghost use Rattle.text_model.specs.Lists.{Each};
-ghost use Rattle.text_model.specs.Text.{has_byte};
-ghost use Rattle.text_model.specs.Id.{blob_id};
-ghost use Rattle.hg_model.specs.FileText.{copy_meta};
+ghost use Rattle.text_model.specs.Text.{IsBytes, has_byte};
+ghost use Rattle.text_model.specs.Id.{IsId, blob_id};
+ghost use Rattle.hg_model.specs.FileText.{copy_meta, file_text};
 ghost use Rattle.hg_model.specs.Revision.{Revision};
 ghost use Rattle.hg_manifest.specs.Values.{manifest_entry};
 ghost use Rattle.git_object.specs.Values.{mode_value};
@@ -18,7 +18,7 @@ ghost use Rattle.make_history.specs.Rows.{new_at, copied_revision, copy_with};
 
 use crate::numbers::Numbers;
 use crate::paths::{body_of, path_of};
-use bridge_text::{Bytes, Id, Kind, NoMemory, each_is_byte, object_id};
+use bridge_text::{Bytes, Id, Kind, NoMemory, object_id};
 use file_rule::{Parent, RuledRow, node_or_null, parents_over, row_with_text};
 use git_object::Mode;
 use hg_filelog::plain_into;
@@ -128,7 +128,6 @@ fn make_new(
     ensures { IfOk result (λ made. (known : List Revision) (ps : Parents) → IsParent known first.now ps.first → IsParent known second.now ps.second
         → IsRevisionOver (new_at ps path.now body.now) (blob_id body.now) made.p made.q made.text) }
 {
-    each_is_byte(body);
     let p = node_or_null(first.manifest.get(path));
     let q = node_or_null(second.manifest.get(path));
     let (p, q) = parents_over(p, q);
@@ -162,24 +161,30 @@ fn make_copy(alloc: Global, source: &Entry, body: &[u8]) -> Result<Made, NoMemor
         → IsRevisionOver (copy_with (copy_meta source.now.path source.now.node) body.now) (blob_id body.now) made.p made.q made.text) }
 {
     let meta = meta_of(alloc, source)?;
-    let _node = source.node.bytes();
-    each_is_byte(meta.as_slice());
-    each_is_byte(body);
-    let mut text = Vec::new(alloc);
-    text.extend_from_slice(MARK)?;
-    text.extend_from_slice(meta.as_slice())?;
-    text.extend_from_slice(MARK)?;
-    text.extend_from_slice(body)?;
     Ok(Made {
         p: Id::NULL,
         q: Id::NULL,
-        text: keep(text)?,
+        text: marked_text(alloc, meta.as_slice(), body)?,
     })
+}
+
+// The text of a file revision that has metadata.
+fn marked_text(alloc: Global, meta: &[u8], body: &[u8]) -> Result<Text, NoMemory>
+    ensures text { IfOk result (λ text. text ≡ file_text (Some meta.now) body.now) }
+    ensures bytes { OnOk result (IsBytes meta.now × IsBytes body.now) }
+{
+    let mut text = Vec::new(alloc);
+    text.extend_from_slice(MARK)?;
+    text.extend_from_slice(meta)?;
+    text.extend_from_slice(MARK)?;
+    text.extend_from_slice(body)?;
+    keep(text)
 }
 
 // The metadata of a copy.
 fn meta_of(alloc: Global, source: &Entry) -> Result<Bytes, NoMemory>
-    ensures { IfOk result (λ meta. meta ≡ copy_meta source.now.path source.now.node) }
+    ensures meta { IfOk result (λ meta. meta ≡ copy_meta source.now.path source.now.node) }
+    ensures id { OnOk result (IsId source.now.node) }
 {
     let mut meta = Vec::new(alloc);
     meta.extend_from_slice(b"copy: ")?;

@@ -148,8 +148,7 @@ fn room_behind(room: usize, row: &HgRow) -> Option<usize>
     ensures there { IfSome result (λ left. room ≡ length (entry_text (entry_of_value row.now)) + left) }
     ensures none { IfNone result (room < length (entry_text (entry_of_value row.now))) }
 {
-    let _bytes = row.node.bytes();
-    room.checked_sub(line_len(row.path.as_slice(), row.flag))
+    room.checked_sub(line_len(row.path.as_slice(), &row.node, row.flag))
 }
 
 // No bytes, with room for the lines of rows, so that none are moved while others are added.
@@ -158,7 +157,7 @@ fn room_for(alloc: Global, rows: &[HgRow]) -> Result<Vec<u8>, NoMemory>
 {
     let mut room: usize = 0;
     for row in rows {
-        room = room.saturating_add(line_len(row.path.as_slice(), row.flag));
+        room = room.saturating_add(line_len(row.path.as_slice(), &row.node, row.flag));
     }
     Ok(Vec::with_capacity(alloc, room)?)
 }

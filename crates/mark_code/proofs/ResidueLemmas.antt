@@ -18,13 +18,10 @@ use Rattle.git_model.specs.Residue.{ResidueKind, Group, Link, Empty, ResidueItem
 use Rattle.git_object.specs.Values.{AreItems, stands_above}
 use Rattle.pair_model.specs.MarkList.{item_word, residue_words, residue_text, IsItemKind, IsResidue}
 use Rattle.mark_code.specs.Reading.{raw_of}
-use Rattle.mark_code.specs.ResidueText.{item_of_path, link_of, item_of_kind, item_of_word, items_behind, residue_of_text}
+use Rattle.mark_code.specs.ResidueText.{item_of_path, link_of, item_of_kind, item_of_word, items_behind, residue_of_text, IsItem}
 use Rattle.mark_code.proofs.PathsLemmas.{pieces-cut, pieces-one}
 use Rattle.mark_code.proofs.RawLemmas.{raw_of-escape, raw_of-takes}
 use Rattle.mark_code.proofs.WordLemmas.{pieces, pieces-spaced}
-
-abbrev pub IsItem : ResidueItem → Type 0
-IsItem item = IsBytes item.path × IsItemKind item.kind
 
 -- ---- one word
 

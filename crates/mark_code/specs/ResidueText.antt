@@ -2,11 +2,12 @@
 use Rattle.std.specs.Prelude.{◌==◌, if◌then◌else◌, List, [], ◌∷◌, ◌++◌, Option, Some, None, option_map, bytes_eq, codes}
 use Rattle.std.specs.Option.{option_and_then}
 use Rattle.std.specs.List.{slice_split}
-use Rattle.text_model.specs.Text.{Bytes, sp}
+use Rattle.text_model.specs.Text.{Bytes, IsBytes, sp}
 use Rattle.text_model.specs.Cuts.{cut_of}
 use Rattle.text_model.specs.Id.{id_of_hex}
 use Rattle.git_model.specs.Residue.{ResidueKind, Group, Link, Empty, ResidueItem}
 use Rattle.git_object.specs.Values.{stands_above}
+use Rattle.pair_model.specs.MarkList.{IsItemKind}
 use Rattle.mark_code.specs.Reading.{◌>>=◌, raw_of}
 
 -- what stands behind the word of the kind
@@ -42,3 +43,7 @@ items_behind before (word ∷ words) =
 unfoldable pub residue_of_text : Bytes → Option (List ResidueItem)
 residue_of_text [] = Some []
 residue_of_text (b ∷ text) = items_behind [] (slice_split (λ c. c == sp) (b ∷ text))
+
+-- the path is bytes, and a link is an id
+abbrev pub IsItem : ResidueItem → Type 0
+IsItem item = IsBytes item.path × IsItemKind item.kind

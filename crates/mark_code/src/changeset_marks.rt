@@ -5,8 +5,8 @@ ghost use Rattle.mark_code.specs.Values.{changeset_marks};
 ghost use Rattle.mark_code.specs.Extras.{part_at, count_at, count_of, tree_at, marks_in_extras, is_key, AreBelow};
 
 use crate::escape::{escaped, unescaped};
-use crate::residue_text::{is_residue, read_residue, residue_text};
-use bridge_text::{Bytes, NoMemory, decimal_into, decimal_of, each_is_byte};
+use crate::residue_text::{read_residue, residue_text};
+use bridge_text::{Bytes, NoMemory, decimal_into, decimal_of};
 use git_object::Residue;
 use hg_changeset::{ExtraItem, Extras};
 use std::alloc::Global;
@@ -58,7 +58,6 @@ impl ChangesetMarks {
         requires { IsParentCount self.now.parents }
         ensures { IfOk result (λ extras. AreExtrasOf extras (changeset_marks self.now)) }
     {
-        self.are_parts();
         let mut extras = Extras::new(alloc);
         put_part(alloc, &mut extras, AUTHOR, &self.author)?;
         put_part(alloc, &mut extras, COMMITTER, &self.committer)?;
@@ -67,39 +66,6 @@ impl ChangesetMarks {
         put_count(alloc, &mut extras, self.parents)?;
         put_tree(alloc, &mut extras, &self.tree)?;
         Ok(extras)
-    }
-
-    /// A law, which does nothing when it runs: each part is bytes, and the residue is one.
-    pub fn are_parts(&self)
-        ensures author { IsPart self.now.author }
-        ensures committer { IsPart self.now.committer }
-        ensures headers { IsPart self.now.headers }
-        ensures message { IsPart self.now.message }
-        ensures tree { IsTreePart self.now.tree }
-    {
-        is_part(&self.author);
-        is_part(&self.committer);
-        is_part(&self.headers);
-        is_part(&self.message);
-        is_tree_part(&self.tree);
-    }
-}
-
-// A law, which does nothing when it runs.
-fn is_part(part: &Option<Bytes>)
-    ensures { IsPart part.now }
-{
-    if let Some(part) = part {
-        each_is_byte(part.as_slice());
-    }
-}
-
-// A law, which does nothing when it runs.
-fn is_tree_part(tree: &Option<Residue>)
-    ensures { IsTreePart tree.now }
-{
-    if let Some(tree) = tree {
-        is_residue(tree);
     }
 }
 
@@ -112,7 +78,8 @@ fn put_part(
 ) -> Result<(), NoMemory>
     requires key { IsTrue (is_key key.now) }
     requires above { AreBelow key.now extras.old }
-    ensures { OnOk result (extras.new ≡ extras.old ++ extra_of key.now part.now) }
+    ensures put { OnOk result (extras.new ≡ extras.old ++ extra_of key.now part.now) }
+    ensures bytes { OnOk result (IsPart part.now) }
 {
     match part {
         Some(part) => put_item(alloc, extras, key, escaped(alloc, part.as_slice())?),
@@ -134,7 +101,8 @@ fn put_count(alloc: Global, extras: &mut Extras, count: Option<u8>) -> Result<()
 // Puts the item of the residue at the end, where there is one.
 fn put_tree(alloc: Global, extras: &mut Extras, tree: &Option<Residue>) -> Result<(), NoMemory>
     requires above { AreBelow (codes "hg-git-tree") extras.old }
-    ensures { OnOk result (extras.new ≡ extras.old ++ tree_extra tree.now) }
+    ensures put { OnOk result (extras.new ≡ extras.old ++ tree_extra tree.now) }
+    ensures residue { OnOk result (IsTreePart tree.now) }
 {
     match tree {
         Some(tree) => put_item(alloc, extras, TREE, residue_text(alloc, tree)?),

@@ -1,5 +1,6 @@
 // Words that are escapes, as values of their own.
 ghost use Rattle.std.specs.Prelude.{◌≡◌, IfOk};
+ghost use Rattle.text_model.specs.Text.{IsBytes};
 ghost use Rattle.text_model.specs.Escape.{escape};
 ghost use Rattle.mark_code.specs.Reading.{raw_of};
 
@@ -20,7 +21,8 @@ pub fn unescaped(alloc: Global, text: &[u8]) -> Result<Option<Bytes>, NoMemory>
 
 /// The escape of these bytes, as a value of its own.
 pub fn escaped(alloc: Global, raw: &[u8]) -> Result<Bytes, NoMemory>
-    ensures { IfOk result (λ text. text ≡ escape raw.now) }
+    ensures text { IfOk result (λ text. text ≡ escape raw.now) }
+    ensures bytes { IsBytes raw.now }
 {
     let mut text = Vec::new(alloc);
     escape_into(&mut text, raw)?;

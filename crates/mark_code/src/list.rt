@@ -8,7 +8,7 @@ use crate::mark::Mark;
 use crate::order::may_follow;
 use crate::reading::read_mark;
 use crate::writing::put_marks;
-use bridge_text::{NoMemory, cut_at, each_is_byte};
+use bridge_text::{NoMemory, cut_at};
 use std::alloc::Global;
 use std::marker::Model;
 
@@ -47,7 +47,6 @@ impl CommitMarks {
     pub fn read(alloc: Global, headers: &[u8]) -> Result<Option<CommitMarks>, NoMemory>
         ensures { IfOk result (λ marks. MatchOption marks ((ms : List model.Mark) → ¬ (AreHeadersOf headers.now ms)) (AreHeadersOf headers.now)) }
     {
-        each_is_byte(headers);
         let mut marks = CommitMarks::new(alloc);
         let mut rest = headers;
         'lines: while let Some((line, after)) = cut_at(b'\n', rest) {
@@ -86,16 +85,10 @@ impl CommitMarks {
         Ok(self.marks.push(mark)?)
     }
 
-    /// A law, which does nothing when it runs: the marks are a mark list.
-    pub fn are_marks(&self)
-        ensures { IsMarkList self.now }
-    {
-        let _marks = &self.marks;
-    }
-
-    /// How many marks there are.
+    /// How many marks there are. They are a mark list.
     pub fn len(&self) -> usize
-        ensures { result ≡ length self.now }
+        ensures length { result ≡ length self.now }
+        ensures list { IsMarkList self.now }
     {
         self.marks.len()
     }

@@ -4,13 +4,13 @@ ghost use Rattle.std.specs.List.{flat_map};
 ghost use Rattle.text_model.specs.Lists.{Each};
 ghost use Rattle.text_model.specs.Text.{Bytes as Text, IsBytes, sp};
 ghost use Rattle.text_model.specs.Escape.{escape};
-ghost use Rattle.text_model.specs.Id.{hex};
-ghost use Rattle.git_object.specs.Values.{kind_value, stands_above, AreItems};
-ghost use Rattle.pair_model.specs.MarkList.{item_word, residue_words, residue_text, IsItemKind, IsResidue};
-ghost use Rattle.mark_code.specs.ResidueText.{item_of_path, link_of, item_of_kind, item_of_word, items_behind, residue_of_text};
+ghost use Rattle.text_model.specs.Id.{IsId, hex};
+ghost use Rattle.git_object.specs.Values.{kind_value};
+ghost use Rattle.pair_model.specs.MarkList.{item_word, residue_words, residue_text, IsResidue};
+ghost use Rattle.mark_code.specs.ResidueText.{item_of_path, link_of, item_of_kind, item_of_word, items_behind, residue_of_text, IsItem};
 
 use crate::escape::unescaped;
-use bridge_text::{Bytes, Id, NoMemory, cut_at, each_is_byte, escape_into};
+use bridge_text::{Bytes, Id, NoMemory, cut_at, escape_into};
 use git_object::{Residue, ResidueItem, ResidueKind};
 use std::alloc::Global;
 
@@ -53,7 +53,6 @@ fn take_word(alloc: Global, residue: &mut Residue, word: &[u8]) -> Result<bool, 
     if !residue.fits(&item) {
         return Ok(false);
     }
-    items_rise(residue);
     residue.push(item)?;
     Ok(true)
 }
@@ -106,9 +105,10 @@ fn read_path(alloc: Global, kind: ResidueKind, text: &[u8]) -> Result<Option<Res
     }
 }
 
-/// The text of a residue.
+/// The text of a residue. Its paths are bytes, and rise; its links are ids.
 pub fn residue_text(alloc: Global, residue: &Residue) -> Result<Bytes, NoMemory>
-    ensures { IfOk result (λ text. text ≡ residue_text residue.now) }
+    ensures text { IfOk result (λ text. text ≡ residue_text residue.now) }
+    ensures residue { OnOk result (IsResidue residue.now) }
 {
     let mut text = Vec::new(alloc);
     put_items(&mut text, residue.as_slice())?;
@@ -117,7 +117,8 @@ pub fn residue_text(alloc: Global, residue: &Residue) -> Result<Bytes, NoMemory>
 
 #[tactic(auto, unfolding(pair_model::specs::MarkList::residue_text))]
 fn put_items(out: &mut Vec<u8>, items: &[ResidueItem]) -> Result<(), NoMemory>
-    ensures { OnOk result (out.new.items ≡ out.old.items ++ residue_text items.now) }
+    ensures put { OnOk result (out.new.items ≡ out.old.items ++ residue_text items.now) }
+    ensures items { OnOk result (Each IsItem items.now) }
 {
     match items {
         [first, rest @ ..] => {
@@ -130,7 +131,8 @@ fn put_items(out: &mut Vec<u8>, items: &[ResidueItem]) -> Result<(), NoMemory>
 
 // The word of each item, with a space before it.
 fn put_more(out: &mut Vec<u8>, items: &[ResidueItem]) -> Result<(), NoMemory>
-    ensures { OnOk result (out.new.items ≡ out.old.items ++ flat_map (λ w. sp ∷ w) (residue_words items.now)) }
+    ensures put { OnOk result (out.new.items ≡ out.old.items ++ flat_map (λ w. sp ∷ w) (residue_words items.now)) }
+    ensures items { OnOk result (Each IsItem items.now) }
 {
     for item in items {
         out.push(b' ')?;
@@ -140,48 +142,31 @@ fn put_more(out: &mut Vec<u8>, items: &[ResidueItem]) -> Result<(), NoMemory>
 }
 
 fn put_item(out: &mut Vec<u8>, item: &ResidueItem) -> Result<(), NoMemory>
-    ensures { OnOk result (out.new.items ≡ out.old.items ++ item_word item.now.path item.now.kind) }
+    ensures put { OnOk result (out.new.items ≡ out.old.items ++ item_word item.now.path item.now.kind) }
+    ensures item { OnOk result (IsItem item.now) }
 {
     match item.kind() {
         ResidueKind::Group => out.extend_from_slice(b"group:")?,
         ResidueKind::Link(id) => put_link(out, &id)?,
         ResidueKind::Empty => out.extend_from_slice(b"empty:")?,
     }
-    escape_into(out, item.path())
+    put_path(out, item.path())
+}
+
+// The escape of a path, which is bytes.
+fn put_path(out: &mut Vec<u8>, path: &[u8]) -> Result<(), NoMemory>
+    ensures put { OnOk result (out.new.items ≡ out.old.items ++ escape path.now) }
+    ensures bytes { IsBytes path.now }
+{
+    escape_into(out, path)
 }
 
 // `link:HEX:`.
 fn put_link(out: &mut Vec<u8>, id: &Id) -> Result<(), NoMemory>
-    ensures { OnOk result (out.new.items ≡ out.old.items ++ codes "link:" ++ hex id.now ++ 58 ∷ []) }
+    ensures put { OnOk result (out.new.items ≡ out.old.items ++ codes "link:" ++ hex id.now ++ 58 ∷ []) }
+    ensures id { OnOk result (IsId id.now) }
 {
     out.extend_from_slice(b"link:")?;
     out.extend_from_slice(&id.hex())?;
     Ok(out.push(b':')?)
-}
-
-// A law, which does nothing when it runs.
-fn items_rise(residue: &Residue)
-    ensures { AreItems residue.now }
-{
-    let _items = residue.as_slice();
-}
-
-/// A law: the paths are bytes, the links are ids, and the paths rise.
-pub fn is_residue(residue: &Residue)
-    ensures { IsResidue residue.now }
-{
-    for item in residue.as_slice() {
-        is_item(item);
-    }
-}
-
-// A law, which does nothing when it runs.
-fn is_item(item: &ResidueItem)
-    ensures path { IsBytes item.now.path }
-    ensures kind { IsItemKind item.now.kind }
-{
-    each_is_byte(item.path());
-    if let ResidueKind::Link(id) = item.kind() {
-        let _bytes = id.bytes();
-    }
 }

@@ -2,6 +2,8 @@ pub mod TextFacts
 pub mod Marks
 pub mod Residues
 pub mod Extras
+pub mod MarkExtras
+pub mod LineBytes
 pub mod Copies
 pub mod MarkTypes
 pub mod Sections

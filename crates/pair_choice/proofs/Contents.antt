@@ -1,18 +1,15 @@
 -- The content of the blob that has an id, and whether it is the body of a file.
-use Rattle.std.proofs.Common.{◌≡◌, Bool, true, false, true≢false, List, [], ◌∷◌, ◌++◌, map, Some, None, Option, refl, sym, ap, ◌∙◌, inl, inr}
-use Rattle.std.specs.Prelude.{IsTrue, bytes_eq, not, option_map, ◌↔◌, if◌then◌else◌}
-use Rattle.std.specs.List.{list_any}
+use Rattle.std.proofs.Common.{◌≡◌, Bool, true, false, true≢false, List, ◌++◌, Some, None, Option, refl, sym, ap, ◌∙◌}
+use Rattle.std.specs.Prelude.{IsTrue, bytes_eq, option_map, ◌↔◌, if◌then◌else◌}
 use Rattle.std.proofs.lemmas.Slice.Eq.{bytes_eq-Decides}
-use Rattle.text_model.specs.Lists.{In}
 use Rattle.text_model.specs.Text.{Bytes}
 use Rattle.text_model.specs.Id.{Id, ObjectKind, blob, blob_id, same_kind}
-use Rattle.text_model.proofs.Options.{some_is, none_some, some_none, not_true}
-use Rattle.text_model.proofs.Elements.{in_any, none_all}
-use Rattle.text_model.proofs.TestLemmas.{both}
+use Rattle.text_model.proofs.Options.{some_is, none_some, some_none}
+use Rattle.text_model.proofs.Elements.{none_all}
 use Rattle.git_model.specs.Object.{Object, AreObjects, object_at, is_other_content}
-use Rattle.git_model.specs.Tree.{has_distinct}
 use Rattle.git_store.specs.Known.{content_of, content_at}
 use Rattle.git_store.proofs.KnownLemmas.{same_kind-is}
+use Rattle.git_store.proofs.Places.{found-one}
 use Rattle.view_model.specs.View.{Row}
 use Rattle.pair_known.specs.declared.fresh_blobs.FreshBlob.{FreshBlob}
 use Rattle.pair_known.specs.Fresh.{fresh_object}
@@ -60,33 +57,6 @@ content-fresh xs ys id b bytes e f is =
 pub content-none : (xs ys : List Object) (id : Id) → None ≡ option_map {U = ObjectKind × Bytes} (λ o. (o.kind, o.content)) (object_at xs id) → None ≡ object_at ys id → None ≡ content_at blob (xs ++ ys) id
 content-none xs ys id e f = sym (ap (content_of blob) (object-behind xs ys id (none-answered xs id e) ∙ sym f))
 
--- ---- one object with an id
-
--- where no two have one id, the object that is found is the only one
-found-one : (xs : List Object) (id : Id) (o : Object) → has_distinct (map (λ (o : Object). o.id) xs) ≡ true → In o xs → id ≡ o.id → object_at xs id ≡ Some o
-found-one [] id o distinct i e = absurd i
-found-one (x ∷ xs) id o distinct i e = by (bytes_eq id x.id) refl (found-one xs id o parts.1)
-  where
-    parts : (not (list_any (bytes_eq x.id) (map (λ (o : Object). o.id) xs)) ≡ true) × (has_distinct (map (λ (o : Object). o.id) xs) ≡ true)
-    parts = both (not (list_any (bytes_eq x.id) (map (λ (o : Object). o.id) xs))) (has_distinct (map (λ (o : Object). o.id) xs)) distinct
-
-    later : (ys : List Object) → In o ys → x.id ≡ o.id → list_any (bytes_eq x.id) (map (λ (o : Object). o.id) ys) ≡ true
-    later ys j same = in_any (bytes_eq x.id) (map (λ (o : Object). o.id) ys) o.id (ids ys j) ((bytes_eq-Decides x.id o.id).1 same)
-      where
-        ids : (ys : List Object) → In o ys → In o.id (map (λ (o : Object). o.id) ys)
-        ids [] j = absurd j
-        ids (y ∷ ys) j = elim j [ inl q ↦ inl (ap (λ (o : Object). o.id) q) | inr k ↦ inr (ids ys k) ]
-
-    by : (t : Bool) → bytes_eq id x.id ≡ t → (In o xs → id ≡ o.id → object_at xs id ≡ Some o) → object_at (x ∷ xs) id ≡ Some o
-    by true t rest = elim i [
-      | inl q ↦ rw t (ap Some (sym q))
-      | inr j ↦ absurd (true≢false (sym (later xs j (sym ((bytes_eq-Decides id x.id).0 t) ∙ e)) ∙ not_true (list_any (bytes_eq x.id) (map (λ (o : Object). o.id) xs)) parts.0))
-    ]
-    by false t rest = elim i [
-      | inl q ↦ absurd (true≢false (sym ((bytes_eq-Decides id x.id).1 (e ∙ ap (λ (o : Object). o.id) q)) ∙ t))
-      | inr j ↦ rw t (rest j e)
-    ]
-
 -- ---- whether the blob is the body
 
 module _ (git fresh : List Object) (are : AreObjects git) (row : Row) where
@@ -95,7 +65,7 @@ module _ (git fresh : List Object) (are : AreObjects git) (row : Row) where
   alone held = record {
     held = held;
     alone = none_all (is_other_content (body_object row)) git (λ o i. is-no-other row o (λ id.
-        some_is (sym (object-front git fresh (blob_id (row.revision).body) o (found-one git (blob_id (row.revision).body) o are.distinct i id)) ∙ held)));
+        some_is (sym (object-front git fresh (blob_id (row.revision).body) o (ap (λ (x : Id). object_at git x) id ∙ found-one git are.distinct o i)) ∙ held)));
   }
 
   pub body-alone : (content body : Bytes) → Some content ≡ content_at blob (git ++ fresh) (blob_id (row.revision).body) → body ≡ (row.revision).body → IsTrue (bytes_eq content body) ↔ IsBodyAlone git fresh row

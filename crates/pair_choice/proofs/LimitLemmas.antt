@@ -13,6 +13,7 @@ use Rattle.git_model.specs.Object.{Object, object_of}
 use Rattle.git_model.specs.Shape.{shape_objects, shape_depth, first_clash}
 use Rattle.git_model.specs.Tree.{is_blob_mode}
 use Rattle.hg_model.specs.Revision.{Revision}
+use Rattle.hg_store.specs.Known.{AreAdded}
 use Rattle.tree_shape.specs.Sets.{IsFiles}
 use Rattle.view_model.specs.View.{Row, TreeRow, ChangesetView, CommitView, CommitFits, ChangesetFits, HaveSameBodies, files_among, tree_paths, leaf_of_row, commit_objects, text_limit}
 use Rattle.view_model.specs.Held.{file_row_of}
@@ -61,8 +62,8 @@ module _ (git : List Object) (d : GitDraft) (c : CommitView) (built : IsBuiltCom
 -- ---- links
 
 -- a changeset that the draft stands for is within its limits
-abbrev pub IsWithin : List Revision → HgDraft → Type 0
-IsWithin known d = (l : ChangesetView) → IsMadeChangeset known d l → ChangesetFits l
+abbrev pub IsWithin : HgDraft → Type 0
+IsWithin d = (known : List Revision) (l : ChangesetView) → AreAdded known → IsMadeChangeset known d l → ChangesetFits l
 
 -- the view of a link that is made
 pub link-at : (known : List Revision) (ds : List HgDraft) (ls : List ChangesetView) → AreLinksMade known ds ls → (i : ℕ) (d : HgDraft) → slice_get ds i ≡ Some d → (l : ChangesetView) × In l ls × IsMadeChangeset known d l
@@ -72,11 +73,11 @@ link-at known (x ∷ ds) [] are i d at = absurd are
 link-at known (x ∷ ds) (l ∷ ls) are zero d at = (l, inl refl, subst (λ (y : HgDraft). IsMadeChangeset known y l) (some_is at) are.0)
 link-at known (x ∷ ds) (l ∷ ls) are (suc i) d at = let r = link-at known ds ls are.2 i d at in (r.0, inr r.1, r.2)
 
-pub links-fit : (known : List Revision) (ds : List HgDraft) (ls : List ChangesetView) → AreLinksMade known ds ls → Each (IsWithin known) ds → Each ChangesetFits ls
-links-fit known [] [] are h = tt
-links-fit known [] (l ∷ ls) are h = absurd are
-links-fit known (d ∷ ds) [] are h = absurd are
-links-fit known (d ∷ ds) (l ∷ ls) are h = (h.0 l are.0, links-fit known ds ls are.2 h.1)
+pub links-fit : (known : List Revision) (ds : List HgDraft) (ls : List ChangesetView) → AreAdded known → AreLinksMade known ds ls → Each IsWithin ds → Each ChangesetFits ls
+links-fit known [] [] added are h = tt
+links-fit known [] (l ∷ ls) added are h = absurd are
+links-fit known (d ∷ ds) [] added are h = absurd are
+links-fit known (d ∷ ds) (l ∷ ls) added are h = (h.0 known l added are.0, links-fit known ds ls added are.2 h.1)
 
 -- ---- faults
 

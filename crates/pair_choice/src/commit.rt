@@ -55,11 +55,11 @@ fn block_with<L: Ledger>(
     ensures steps { (steps.old ≤ steps.new) × (steps.new ≤ steps.old + 15) }
 {
     if c.commit.headers.is_empty() {
-        return Ok(unmarked_block(alloc, known, first)?);
+        return Ok(unmarked_block(alloc, first)?);
     }
     match depth_of_commit(alloc, known, c, &first, steps)? {
         Depth::Even => Ok(marked_block(alloc, known, c)?),
-        Depth::Odd => Ok(unmarked_block(alloc, known, first)?),
+        Depth::Odd => Ok(unmarked_block(alloc, first)?),
         Depth::TooDeep => Err(ChoiceFault::NestLimit),
         Depth::Collides => Err(ChoiceFault::Collision),
     }

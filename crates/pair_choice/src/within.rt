@@ -1,11 +1,14 @@
 // Partners within their limits.
 ghost use Rattle.std.specs.Prelude.{◌≡◌, ◌↔◌, ◌++◌, [], ◌∷◌, List, Err, IfOk, IsTrue};
 ghost use Rattle.text_model.specs.Lists.{Each};
+ghost use Rattle.hg_model.specs.Revision.{Revision};
+ghost use Rattle.hg_store.specs.Known.{AreAdded};
 ghost use Rattle.view_model.specs.View.{ChangesetView, CommitView, ChangesetFits, CommitFits};
 ghost use Rattle.pair_model.specs.Block.{Block};
 ghost use Rattle.pair_model.specs.Octopus as octopus;
 ghost use Rattle.partner_model.specs.Mark as mark;
 ghost use Rattle.partner_model.specs.Partner.{UnmarksCommit};
+ghost use Rattle.pair_known.specs.declared.known.Known as members;
 ghost use Rattle.pair_known.specs.Over.{IsCommitOver};
 ghost use Rattle.pair_known.specs.Ruled.{IsMadeChangeset, IsRuledCommit};
 ghost use Rattle.pair_known.specs.declared.fault.PairFault.TheVariants.{PairLimit};
@@ -41,12 +44,12 @@ pub fn unmarked_commit(
 }
 
 /// The block of a commit with its unmarking; it has no links. PairLimit comes exactly where a text of the unmarking passes its limit.
-pub fn unmarked_block(alloc: Global, known: &Known, first: HgDraft) -> Result<HgBlock, PairFault>
-    ensures ok { IfOk result (λ d. (blocks : List Block) (v : CommitView) (h : ChangesetView) → UnmarksCommit blocks v h → IsMadeChangeset known.now.hg first h
-        → IsBlockMade known.now blocks v d h) }
-    ensures limit { result ≡ Err PairLimit → (h : ChangesetView) → IsMadeChangeset known.now.hg first h → ¬ (ChangesetFits h) }
+pub fn unmarked_block(alloc: Global, first: HgDraft) -> Result<HgBlock, PairFault>
+    ensures ok { IfOk result (λ d. (known : members.Known) (blocks : List Block) (v : CommitView) (h : ChangesetView) → AreAdded known.hg → UnmarksCommit blocks v h
+        → IsMadeChangeset known.hg first h → IsBlockMade known blocks v d h) }
+    ensures limit { result ≡ Err PairLimit → (known : List Revision) (h : ChangesetView) → AreAdded known → IsMadeChangeset known first h → ¬ (ChangesetFits h) }
 {
-    if !changeset_fits(alloc, known, &first)? {
+    if !changeset_fits(alloc, &first)? {
         return Err(PairFault::PairLimit);
     }
     Ok(HgBlock {
@@ -64,18 +67,18 @@ pub fn marked_block(alloc: Global, known: &Known, c: &GitDraft) -> Result<HgBloc
 {
     let last = mark_changeset(alloc, known, c)?;
     let links = links_of(alloc, known, c)?;
-    if !links_fit(alloc, known, &links)? {
+    if !links_fit(alloc, &links)? {
         return Err(PairFault::PairLimit);
     }
     Ok(HgBlock { links, last })
 }
 
 // Whether the texts of each link are within their limits.
-fn links_fit(alloc: Global, known: &Known, links: &HgDrafts) -> Result<bool, NoMemory>
-    ensures { IfOk result (λ fit. (views : List ChangesetView) → AreLinksMade known.now.hg links.now views → (IsTrue fit ↔ Each ChangesetFits views)) }
+fn links_fit(alloc: Global, links: &HgDrafts) -> Result<bool, NoMemory>
+    ensures { IfOk result (λ fit. (known : List Revision) (views : List ChangesetView) → AreAdded known → AreLinksMade known links.now views → (IsTrue fit ↔ Each ChangesetFits views)) }
 {
     for link in links.as_slice() {
-        if !changeset_fits(alloc, known, link)? {
+        if !changeset_fits(alloc, link)? {
             return Ok(false);
         }
     }

@@ -105,24 +105,25 @@ impl FreshFiles {
     pub fn get(&self, path: &[u8], node: &Id) -> Option<&FreshFile>
         ensures { option_map (λ f. fresh_revision f.now) result ≡ revision_of self.now (FilesAt path.now) node.now }
     {
-        let _items = &self.items;
-        match self.at_path(path) {
+        match at_path(self.items.as_slice(), path) {
             Some(item) => { if item.node == *node { Some(item) } else { None } }
             None => None,
         }
     }
+}
 
-    fn at_path(&self, path: &[u8]) -> Option<&FreshFile>
-        ensures { option_map (λ f. fresh_revision f.now) result ≡ find (λ r. bytes_eq (group_path r.group) path.now) self.now }
-    {
-        let place = self.items.binary_search_by(
-            |item: &FreshFile| -> Ordering
-                ensures { result ≡ slice_cmp nat_cmp item.now.path path.entry.now }
-            { item.path.as_slice().cmp(path) },
-        );
-        match place {
-            Ok(i) => Some(&self.items[i]),
-            Err(_) => None,
-        }
+// The revision of the file at a path.
+fn at_path<'a>(items: &'a [FreshFile], path: &[u8]) -> Option<&'a FreshFile>
+    requires { AreFreshFiles (map fresh_revision items.now) }
+    ensures { option_map (λ f. fresh_revision f.now) result ≡ find (λ r. bytes_eq (group_path r.group) path.now) (map fresh_revision items.now) }
+{
+    let place = items.binary_search_by(
+        |item: &FreshFile| -> Ordering
+            ensures { result ≡ slice_cmp nat_cmp item.now.path path.entry.now }
+        { item.path.as_slice().cmp(path) },
+    );
+    match place {
+        Ok(i) => Some(&items[i]),
+        Err(_) => None,
     }
 }

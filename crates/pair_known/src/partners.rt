@@ -42,13 +42,6 @@ impl Partners {
         }
     }
 
-    /// A law, which does nothing when it runs: no node and no id stands twice.
-    pub fn check(&self)
-        ensures { ArePartners self.now }
-    {
-        let _git = &self.git;
-    }
-
     /// The id of the commit whose partner is the changeset with this node; `None` exactly where it has none.
     pub fn git_of(&self, node: &Id) -> Option<Id>
         ensures partner { result ≡ git_at self.now node.now }

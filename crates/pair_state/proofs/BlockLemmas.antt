@@ -120,14 +120,14 @@ pub record HasMore (old next : StateParts) (b : Block) : Type 0 where
   pub agreed : (node : Id) → IsTrue (has_id next.agreed node) → IsAgreed next.known.hg next.known.git node
 
 -- what was put behind the others is a block
-pub has-more : (old next : StateParts) (b : Block) (links : List Id) (node id : Id) → IsPushed old next links node id → links ≡ map changeset_node b.links → node ≡ node_of b → id ≡ id_of b
+pub has-more : (old next : StateParts) (b : Block) (links : List Id) (node id : Id) → IsPushed old next links node id → AreAdded old.known.hg → links ≡ map changeset_node b.links → node ≡ node_of b → id ≡ id_of b
     → (next_agreed : (node : Id) → IsTrue (has_id next.agreed node) → IsAgreed next.known.hg next.known.git node) → HasMore old next b
-has-more old next b links node id by links_are node_is id_is agreed = record {
+has-more old next b links node id by added links_are node_is id_is agreed = record {
   partners = by.partners ∙ (λ i. old.known.partners ++ (node_is i, id_is i) ∷ []);
   blocks = by.blocks ∙ (λ i. map value_of old.blocks ++ record { node = node_is i; commit = id_is i; links = (ap (λ (l : List Id). length l) links_are ∙ length-map b.links changeset_node) i } ∷ []);
   changesets = by.changesets ∙ ap (λ (l : List Id). old.changesets ++ l) ((λ i. links_are i ++ node_is i ∷ []) ∙ sym (map_append changeset_node b.links (b.changeset ∷ [])));
   commits = by.commits ∙ (λ i. old.commits ++ id_is i ∷ []);
-  added = by.added;
+  added = subst AreAdded (sym by.hg) added;
   one = by.one;
   agreed = agreed;
 }

@@ -87,8 +87,8 @@ module _ (known fresh : List Revision) (v : RowValue) (link : Id) (x : Row) (a :
 
   -- ---- it is known
 
-  pub file-known : AreAdded known → revision_of fresh (FilesAt v.path) v.node ≡ None → HaveCome known known (r ∷ [])
-  file-known added none = come-one known known r (sym (ap (λ (t : Bool). if t then known else known ++ r ∷ []) (ap is_some held))) (not-bad_of_text known r (same-has_no_fault known r added same))
+  pub file-known : revision_of fresh (FilesAt v.path) v.node ≡ None → HaveCome known known (r ∷ [])
+  file-known none = come-one known known r (sym (ap (λ (t : Bool). if t then known else known ++ r ∷ []) (ap is_some held))) (not-bad_of_text known r (same-has_no_fault known r a.added same))
     where
       held : revision_of known (FilesAt x.path) (file_node x.revision) ≡ Some a.held.revision
       held = sym (find-rest fresh known (FilesAt x.path) (file_node x.revision) (sym (λ i. revision_of fresh (FilesAt (a.value i).path) (a.value i).node) ∙ none)) ∙ a.held.is_held
@@ -161,14 +161,16 @@ module _ (base now : List Revision) (d : HgDraft) (link : Id) (k : ChangesetView
         short = each_at (λ (row : Row). length (file_text (row.revision).meta (row.revision).body) ≤ text_limit) k.rows i x.row x.at a.part.fits.files;
         fit = view.0;
         spells = view.2.2;
+        added = a.added;
       }
 
-  pub asked-on : (new rs : List Revision) → HaveCome now new rs → IsAskedOver base new d link k
-  asked-on new rs come =
+  pub asked-on : (new rs : List Revision) → HaveCome now new rs → AreAdded new → IsAskedOver base new d link k
+  asked-on new rs come added =
       let w : IsWithinHg now new = subst (IsWithinHg now) (sym come.are) (within-all now rs) in
       record {
         part = a.part;
         within = λ group node r e. w group node r (a.within group node r e);
         node_is = a.node_is;
         link = within-knows now new w Changesets link a.link;
+        added = added;
       }

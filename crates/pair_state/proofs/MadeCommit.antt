@@ -30,6 +30,7 @@ use Rattle.pair_known.specs.declared.git_draft.GitDraft.{GitDraft}
 use Rattle.pair_state.specs.Blocks.{body_blob}
 use Rattle.git_store.specs.Growth.{IsRight, HasGrown, Clash}
 use Rattle.git_store.proofs.Growth.{found-in}
+use Rattle.git_store.proofs.Places.{found-one}
 use Rattle.pair_state.specs.declared.state_parts.StateParts.{StateParts}
 use Rattle.pair_state.proofs.CommitParts.{own, are-files, no-clash, own-in, among, blob-of, tree-of, HoldsAll, known-part, clash-collides, blob-id}
 use Rattle.pair_state.proofs.TreeTexts.{trees-right}
@@ -52,23 +53,6 @@ each-of_map P f (x ∷ xs) h = (h.0, each-of_map P f xs h.1)
 pub each-to_map : {X Y : Type 0} (P : Y → Type 0) (f : X → Y) (xs : List X) → Each (λ x. P (f x)) xs → Each P (map f xs)
 each-to_map P f [] h = tt
 each-to_map P f (x ∷ xs) h = (h.0, each-to_map P f xs h.1)
-
--- an object among objects of which no two have one id is found
-pub found-at : (known : List Object) (o : Object) → has_distinct (map (λ (x : Object). x.id) known) ≡ true → In o known → object_at known o.id ≡ Some o
-found-at [] o distinct i = absurd i
-found-at (x ∷ known) o distinct (inl q) = ap (λ (t : Bool). if t then Some x else object_at known o.id) ((bytes_eq-Decides o.id x.id).1 (ap (λ (y : Object). y.id) q)) ∙ ap (λ (y : Object). Some y) (sym q)
-found-at (x ∷ known) o distinct (inr j) =
-    let parts = and_parts (not (list_any (bytes_eq x.id) (map (λ (x : Object). x.id) known))) (has_distinct (map (λ (x : Object). x.id) known)) distinct in
-    let apart : bytes_eq x.id o.id ≡ false = none_in (bytes_eq x.id) (map (λ (x : Object). x.id) known) o.id (not-false (list_any (bytes_eq x.id) (map (λ (x : Object). x.id) known)) parts.0) (in_map (λ (x : Object). x.id) o known j) in
-    by (bytes_eq o.id x.id) refl apart (found-at known o parts.1 j)
-  where
-    not-false : (t : Bool) → not t ≡ true → t ≡ false
-    not-false true h = absurd (true≢false (sym h))
-    not-false false h = refl
-
-    by : (t : Bool) → bytes_eq o.id x.id ≡ t → bytes_eq x.id o.id ≡ false → object_at known o.id ≡ Some o → (if t then Some x else object_at known o.id) ≡ Some o
-    by true e apart later = absurd (true≢false (sym ((bytes_eq-Decides x.id o.id).1 (sym ((bytes_eq-Decides o.id x.id).0 e))) ∙ apart))
-    by false e apart later = later
 
 -- an id that the new objects or the store have is known after they came
 pub knows-grown : (old new fresh : List Object) (id : Id) → ((id : Id) (o : Object) → object_at old id ≡ Some o → object_at new id ≡ Some o) → Each (IsKnown new) fresh → knows_object (fresh ++ old) id ≡ true → knows_object new id ≡ true
@@ -222,7 +206,7 @@ module _ (git : List Object) (d : GitDraft) (c : CommitView) (made : IsMadeCommi
         where
           tree : (o : Object) → In o d.trees ⊎ In o git → IsKnown new o
           tree o (inl j) = each_in (IsKnown new) d.trees o (Each-rest (IsKnown new) d.fresh d.trees added) j
-          tree o (inr j) = grown.kept o.id o (found-at git o before.are.distinct j)
+          tree o (inr j) = grown.kept o.id o (found-one git before.are.distinct o j)
 
       pub all-among : (o : Object) → In o (git ++ commit_objects c) → In o new
       all-among o i = by (in-append o git (commit_objects c) i)

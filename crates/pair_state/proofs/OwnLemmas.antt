@@ -8,6 +8,7 @@ use Rattle.text_model.specs.Fault as fault
 use Rattle.hg_model.specs.Changeset.{changeset_text}
 use Rattle.hg_model.specs.Revision.{Revision, Changesets, is_of, revision_of, knows, known_after, has_bad_order, named_if, ancestry_fault}
 use Rattle.hg_model.proofs.ChangesetLemmas.{changeset_fault-text}
+use Rattle.hg_store.specs.Known.{AreAdded}
 use Rattle.view_model.specs.View.{ChangesetView, changeset_node}
 use Rattle.view_model.specs.Dump.{own_revision, manifest_revision, file_revision, revisions_of}
 use Rattle.pair_known.specs.declared.hg_draft.HgDraft.{HgDraft}
@@ -66,12 +67,13 @@ module _ (base known : List Revision) (d : HgDraft) (node : Id) (text : Bytes) (
   own-short = omega (arith, a.part.fits.text, ap (λ (t : Bytes). length t) a.text_is)
 
   -- the store with the changeset
-  pub asked-over : (new : List Revision) → HaveCome known new (own ∷ []) → IsAskedOver base new d node k
-  asked-over new come = record {
+  pub asked-over : (new : List Revision) → HaveCome known new (own ∷ []) → AreAdded new → IsAskedOver base new d node k
+  asked-over new come added = record {
     part = a.part;
     within = λ group n r e. subst (λ (l : List Revision). revision_of l group n ≡ Some r) (sym come.are) (within-after known own group n r (a.within group n r e));
     node_is = a.node_is;
     link = ap (λ (l : List Revision). knows l Changesets node) come.are ∙ knows-after known own ((bytes_eq-Decides node node).1 refl);
+    added = added;
   }
 
   abbrev files : List Revision

@@ -9,6 +9,7 @@ use Rattle.text_model.proofs.Elements.{each_in, in_any, each_from, none_all}
 use Rattle.hg_model.specs.Revision.{Revision}
 use Rattle.git_model.specs.Object.{Object, knows_object, is_other_content}
 use Rattle.git_store.specs.Known.{AreKnown}
+use Rattle.hg_store.specs.Known.{AreAdded}
 use Rattle.tree_shape.specs.Laws.{IsKnown}
 use Rattle.view_model.specs.View.{Row, TreeRow, CommitView, changeset_node, commit_id, commit_objects, files_among}
 use Rattle.view_model.specs.Held.{IsChangesetHeld}
@@ -139,8 +140,8 @@ module _ (s : StateParts) (h : HgBlock) (d : GitDraft) (blocks : List Block) (b 
 
       pub pushed : block_of_id blocks (commit_id c) ≡ None → (links : List Id) → links ≡ map changeset_node b.links → (node : Id) → node ≡ changeset_node b.changeset → (id : Id) → id ≡ commit_id c
           → (ids : List Id) → ((x : Id) → has_id ids x ≡ true → (has_id s.agreed x ≡ true) ⊎ ((agreed ≡ true) × (x ≡ node)))
-          → (next : StateParts) → IsPushed (with_all s hg new ids) next links node id → BlockPushed s next blocks b
-      pushed free links links_are node node_is id id_is ids known next is =
+          → AreAdded hg → (next : StateParts) → IsPushed (with_all s hg new ids) next links node id → BlockPushed s next blocks b
+      pushed free links links_are node node_is id id_is ids known added next is =
           let held = p.brings.state.held.held in
           let more : HoldMore hg new blocks b = record {
             changesets = held-old s h blocks b p.brings hg came;
@@ -152,7 +153,7 @@ module _ (s : StateParts) (h : HgBlock) (d : GitDraft) (blocks : List Block) (b 
             no_link = p.brings.no_link;
             sound = are;
           } in
-          let m = has-more (with_all s hg new ids) next b links node id is links_are node_is id_is (λ x i.
+          let m = has-more (with_all s hg new ids) next b links node id is added links_are node_is id_is (λ x i.
           subst (λ (os : List Object). IsAgreed next.known.hg os x) (sym is.git) (subst (λ (rs : List Revision). IsAgreed rs new x) (sym is.hg)
           (agreed-by x (known x (sym (ap (λ (l : List Id). has_id l x) is.agreed) ∙ i))))) in
           let has : HasMore s next b = record { partners = m.partners; blocks = m.blocks; changesets = m.changesets; commits = m.commits; added = m.added; one = m.one; agreed = m.agreed } in

@@ -16,6 +16,7 @@ use Rattle.text_model.proofs.Options.{or_parts, none_is}
 use Rattle.hg_model.specs.Revision.{Revision, Changesets, knows, is_otherwise}
 use Rattle.git_model.specs.Object.{Object}
 use Rattle.git_model.specs.Unfold.{walk_fault}
+use Rattle.hg_store.specs.Known.{AreAdded}
 use Rattle.view_model.specs.View.{ChangesetView, changeset_node, commit_id, rows_text}
 use Rattle.view_model.specs.Held.{IsCommitHeld, IsChangesetHeld, AreChangesetsHeld}
 use Rattle.view_model.specs.Dump.{revisions_of, revisions_in}
@@ -233,8 +234,8 @@ module _ (s : StateParts) (d : HgBlock) (blocks : List Block) (b : Block) (p : B
     -- the block of a commit that is stored
     pub pushed : (id : Id) → IsCommitHeld s.known.git id b.commit → walk_fault s.known.git ((b.commit).value).tree_id ≡ None → commit_id b.commit ≡ id
         → (links : List Id) → links ≡ map changeset_node b.links → (node : Id) → node ≡ changeset_node b.changeset
-        → (next : StateParts) → IsPushed (with_revisions new) next links node id → ChangesetPushed s next blocks b
-    pushed id commit_held walk id_is links links_are node node_is next is =
+        → AreAdded new → (next : StateParts) → IsPushed (with_revisions new) next links node id → ChangesetPushed s next blocks b
+    pushed id commit_held walk id_is links links_are node node_is added next is =
         let held = p.state.held.held in
         let more : HoldMore new s.known.git blocks b = record {
           changesets = held-old;
@@ -246,7 +247,7 @@ module _ (s : StateParts) (d : HgBlock) (blocks : List Block) (b : Block) (p : B
           no_link = p.no_link;
           sound = p.state.sound;
         } in
-        let m = has-more (with_revisions new) next b links node id is links_are node_is (sym id_is) (λ x i.
+        let m = has-more (with_revisions new) next b links node id is added links_are node_is (sym id_is) (λ x i.
         subst (λ (os : List Object). IsAgreed next.known.hg os x) (sym is.git) (subst (λ (rs : List Revision). IsAgreed rs s.known.git x) (sym is.hg)
         (agreed-on x (sym (ap (λ (l : List Id). has_id l x) is.agreed) ∙ i)))) in
         let has : HasMore s next b = record { partners = m.partners; blocks = m.blocks; changesets = m.changesets; commits = m.commits; added = m.added; one = m.one; agreed = m.agreed } in

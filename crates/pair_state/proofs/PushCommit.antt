@@ -119,7 +119,7 @@ module _ (s : StateParts) (h : HgDraft) (links : List Id) (d : GitDraft) (node :
             no_link = p.no_link;
             sound = are;
           } in
-          let m = has-more (with_objects s new ids) next b links node id is p.links_are (sym node_is) id_is (λ x i. agreed-more next is.hg is.git x (agreed x (sym (ap (λ (l : List Id). has_id l x) is.agreed) ∙ i))) in
+          let m = has-more (with_objects s new ids) next b links node id is p.state.held.added p.links_are (sym node_is) id_is (λ x i. agreed-more next is.hg is.git x (agreed x (sym (ap (λ (l : List Id). has_id l x) is.agreed) ∙ i))) in
           let has : HasMore s next b = record { partners = m.partners; blocks = m.blocks; changesets = m.changesets; commits = m.commits; added = m.added; one = m.one; agreed = m.agreed } in
           record {
             apart = (λ i. new-apart c view new are holds s.known.git blocks grown.older free i || (sym (ap (list_any (has_id s.changesets)) p.links_are ∙ any-saved s.changesets blocks p.state.changesets b.links) ∙ apart) i);

@@ -9,6 +9,7 @@ use Rattle.text_model.specs.Id.{Id, is_null, has_id, node_id}
 use Rattle.text_model.specs.Text.{Bytes}
 use Rattle.hg_model.specs.Changeset.{changeset_text}
 use Rattle.hg_model.specs.Revision.{Revision, Group, Changesets, revision_of, knows, known_after, is_otherwise, ancestry_fault, shape_fault, known_after_all}
+use Rattle.hg_store.specs.Known.{AreAdded}
 use Rattle.view_model.specs.View.{ChangesetView, Row, changeset_node}
 use Rattle.view_model.specs.Held.{IsFileHeld}
 use Rattle.pair_known.specs.Rows.{RowValue, row_value}
@@ -49,14 +50,16 @@ pub record HasBad (old rs : List Revision) : Type 0 where
 abbrev pub IsWithinHg : List Revision → List Revision → Type 0
 IsWithinHg old new = (group : Group) (node : Id) (r : Revision) → revision_of old group node ≡ Some r → revision_of new group node ≡ Some r
 
--- the draft stands for the changeset over a store that has grown by it and perhaps more
+-- the draft stands for the changeset over a store that has grown by it and perhaps more, each revision over those before it
 pub record IsAskedOver (base now : List Revision) (d : HgDraft) (node : Id) (k : ChangesetView) : Type 0 where
   pub part : IsPart base d k
   pub within : IsWithinHg base now
   pub node_is : node ≡ changeset_node k
   pub link : knows now Changesets node ≡ true
+  pub added : AreAdded now
 
--- a file of a changeset whose revision the draft or the store has, over a store that has its parents and its changeset
+-- a file of a changeset whose revision the draft or the store has, over a store that has its parents and its changeset, and to which each
+-- revision was added over those before it
 pub record IsFileAsked (known fresh : List Revision) (v : RowValue) (link : Id) (x : Row) : Type 0 where
   pub value : v ≡ row_value x
   pub held : IsFileHeld (fresh ++ known) x
@@ -65,6 +68,7 @@ pub record IsFileAsked (known fresh : List Revision) (v : RowValue) (link : Id) 
   pub short : length (file_text (x.revision).meta (x.revision).body) ≤ text_limit
   pub fit : IsTrue (is_fit_path x.path)
   pub spells : IsFile (x.revision).meta (x.revision).body
+  pub added : AreAdded known
 
 -- the draft stands for the changeset with this node and text, whose parents are known, over a store that may have grown
 pub record IsAsked (base now : List Revision) (d : HgDraft) (node : Id) (text : Bytes) (k : ChangesetView) : Type 0 where

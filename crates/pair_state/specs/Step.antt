@@ -13,7 +13,6 @@ use Rattle.view_model.specs.Held.{IsFileHeld, IsChangesetHeld}
 use Rattle.pair_known.specs.Rows.{RowValue, row_value}
 use Rattle.hg_model.specs.Changeset.{changeset_text}
 use Rattle.hg_changeset.specs.Values.{changeset_value}
-use Rattle.hg_store.specs.Known.{AreAdded}
 use Rattle.pair_known.specs.declared.draft_texts.DraftTexts.{DraftTexts}
 use Rattle.pair_known.specs.declared.hg_draft.HgDraft.{HgDraft}
 use Rattle.pair_known.specs.Partners.{ArePartners}
@@ -31,7 +30,6 @@ pub record IsPushed (old new : StateParts) (links : List Id) (node id : Id) : Ty
   pub agreed : new.agreed ≡ old.agreed
   pub tags : new.tags ≡ old.tags
   pub names : new.names ≡ old.names
-  pub added : AreAdded new.known.hg
   pub one : ArePartners new.known.partners
 
 -- the files are these, their revisions are known, and so are the ids of their blobs

@@ -1,6 +1,7 @@
 // File revisions of a changeset that come to a store.
 ghost use Rattle.std.specs.Prelude.{◌≡◌, true, ◌∷◌, [], Err, OnOk, List, map};
 ghost use Rattle.hg_model.specs.Revision.{Revision};
+ghost use Rattle.hg_store.specs.Known.{AreAdded};
 ghost use Rattle.view_model.specs.View.{ChangesetView, Row};
 ghost use Rattle.view_model.specs.Dump.{file_revision};
 ghost use Rattle.pair_state.specs.Came.{is_bad, HaveCome, HasBad, IsAskedOver, IsFileAsked};
@@ -18,6 +19,7 @@ use shared_text::again;
 pub fn add_files(hg: &mut HgStore, d: &HgDraft, link: Id) -> Result<(), PushFault>
     requires asked { (base : List Revision) × (k : ChangesetView) × IsAskedOver base hg.old d.now link k }
     ensures ok { OnOk result ((base : List Revision) (k : ChangesetView) → IsAskedOver base hg.old d.now link k → HaveCome hg.old hg.new (map (file_revision link) k.rows)) }
+    ensures added { OnOk result (AreAdded hg.new) }
     ensures collision { result ≡ Err Collision → (base : List Revision) (k : ChangesetView) → IsAskedOver base hg.old d.now link k → HasBad hg.old (map (file_revision link) k.rows) }
 {
     let list = d.rows.as_slice();
@@ -30,9 +32,9 @@ pub fn add_files(hg: &mut HgStore, d: &HgDraft, link: Id) -> Result<(), PushFaul
 fn add_file(hg: &mut HgStore, fresh: &FreshFiles, row: &HgRow, link: Id) -> Result<(), PushFault>
     requires asked { (x : Row) × IsFileAsked hg.old fresh.now row.now link x }
     ensures ok { OnOk result ((x : Row) → IsFileAsked hg.old fresh.now row.now link x → HaveCome hg.old hg.new (file_revision link x ∷ [])) }
+    ensures added { OnOk result (AreAdded hg.new) }
     ensures collision { result ≡ Err Collision → (x : Row) → IsFileAsked hg.old fresh.now row.now link x → is_bad hg.old (file_revision link x) ≡ true }
 {
-    hg.check();
     let path = row.path.as_slice();
     let file = match fresh.get(path, &row.node) {
         Some(file) => file,

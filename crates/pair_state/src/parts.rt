@@ -1,7 +1,8 @@
 // The changesets of a block that come to a store.
-ghost use Rattle.std.specs.Prelude.{◌≡◌, ◌++◌, ◌∷◌, [], true, false, Err, IfOk, IfSome, List, map};
+ghost use Rattle.std.specs.Prelude.{◌≡◌, ◌++◌, ◌∷◌, [], true, false, Err, OnOk, IfOk, IfSome, List, map};
 ghost use Rattle.hg_model.specs.Changeset.{changeset_text};
 ghost use Rattle.hg_model.specs.Revision.{Revision};
+ghost use Rattle.hg_store.specs.Known.{AreAdded};
 ghost use Rattle.hg_changeset.specs.Values.{changeset_value};
 ghost use Rattle.view_model.specs.View.{ChangesetView, changeset_node};
 ghost use Rattle.pair_model.specs.Block.{Block};
@@ -44,6 +45,7 @@ pub fn add_parts(
         → nodes.last ≡ changeset_node h) }
     ensures came { IfOk result (λ nodes. (blocks : List Block) (ls : List ChangesetView) (h : ChangesetView) → ArePartsOf hg.old saved.now block.now blocks ls h
         → PartsCame hg.old hg.new saved.now (ls ++ h ∷ [])) }
+    ensures added { OnOk result (AreAdded hg.new) }
     ensures collision { result ≡ Err Collision → (blocks : List Block) (ls : List ChangesetView) (h : ChangesetView) → ArePartsOf hg.old saved.now block.now blocks ls h
         → PartsCollide hg.old saved.now (ls ++ h ∷ []) }
 {
@@ -69,6 +71,7 @@ fn add_part(
     requires texts { AreItsTexts d.now texts }
     ensures node { IfOk result (λ node. (base : List Revision) (k : ChangesetView) → IsPartOver base hg.old d.now k → node ≡ changeset_node k) }
     ensures came { IfOk result (λ node. (base : List Revision) (k : ChangesetView) → IsPartOver base hg.old d.now k → PartsCame hg.old hg.new saved.now (k ∷ [])) }
+    ensures added { OnOk result (AreAdded hg.new) }
     ensures collision { result ≡ Err Collision → (base : List Revision) (k : ChangesetView) → IsPartOver base hg.old d.now k → PartsCollide hg.old saved.now (k ∷ []) }
 {
     let text = text_of_changeset(alloc, &d.changeset, texts.changeset)?;

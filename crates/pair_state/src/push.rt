@@ -25,8 +25,6 @@ use crate::state_parts::StateParts;
 use bridge_text::{Id, IdList, IdSet, Kind, NoMemory, object_id};
 use git_object::{Commit, Objects};
 use git_store::GitStore;
-use git_view::commits_are_held;
-use hg_view::views_are_held;
 use pair_known::{DraftTexts, GitDraft, HgBlock, HgDraft, HgRows};
 use shared_text::{Text, keep};
 use std::alloc::Global;
@@ -128,7 +126,6 @@ impl StateParts {
         ensures collision { result ≡ Err Collision → (blocks : List model.Block) (b : model.Block) → PushesCommit self.old h.now links.now commit node blocks b
             → IsTrue (commit_side_collides self.old.known.git blocks b) }
     {
-        views_are_held(&self.known.hg, &node);
         if self.changesets.contains_any(links.as_slice()) {
             return Err(PushFault::Collision);
         }
@@ -154,7 +151,6 @@ impl StateParts {
         ensures collision { result ≡ Err Collision → (blocks : List model.Block) (b : model.Block) → PushesChangeset self.old block id blocks b
             → IsTrue (changeset_side_collides self.old.known.hg blocks b) }
     {
-        commits_are_held(&self.known.git, &id);
         let mut block = block;
         let texts = std::mem::replace(&mut block.last.texts, DraftTexts::none());
         let nodes = add_parts(
@@ -185,7 +181,6 @@ impl StateParts {
         push_all(&mut self.changesets, links)?;
         self.changesets.push(node)?;
         self.commits.push(id)?;
-        self.known.hg.check();
         Ok(())
     }
 }

@@ -3,7 +3,7 @@ ghost use Rattle.std.specs.Prelude.{◌≡◌, ◌≤◌, true, ◌∷◌, [], E
 ghost use Rattle.std.specs.List.{flat_map};
 ghost use Rattle.hg_model.specs.Revision.{Revision};
 ghost use Rattle.hg_store.specs.Groups.{group_value, revision_value};
-ghost use Rattle.hg_store.specs.Known.{text_limit, HasFitPath, HasBlob};
+ghost use Rattle.hg_store.specs.Known.{text_limit, AreAdded, HasFitPath, HasBlob};
 ghost use Rattle.view_model.specs.View.{ChangesetView};
 ghost use Rattle.view_model.specs.Dump.{manifest_revision, revisions_of};
 ghost use Rattle.pair_state.specs.Came.{is_bad, IsReady, HaveCome, HasBad, IsAsked, IsAskedOver};
@@ -30,6 +30,7 @@ pub fn add_revision(
     requires short { length addition.text ≤ text_limit }
     requires path { HasFitPath (group_value addition.group) }
     ensures ok { OnOk result (HaveCome hg.old hg.new (revision_value addition.entry ∷ [])) }
+    ensures added { OnOk result (AreAdded hg.new) }
     ensures collision { result ≡ Err Collision → is_bad hg.old (revision_value addition.entry) ≡ true }
 {
     match hg.add_hashed(addition, blob) {
@@ -60,6 +61,7 @@ pub fn add_changeset(
     requires asked { (base : List Revision) × (k : ChangesetView) × IsAsked base hg.old d.now node text k }
     requires lines { IfSome lines (λ made. made ≡ flat_map line_of d.now.rows) }
     ensures ok { OnOk result ((base : List Revision) (k : ChangesetView) → IsAsked base hg.old d.now node text k → HaveCome hg.old hg.new (revisions_of k)) }
+    ensures added { OnOk result (AreAdded hg.new) }
     ensures collision { result ≡ Err Collision → (base : List Revision) (k : ChangesetView) → IsAsked base hg.old d.now node text k
         → HasBad hg.old (revisions_of k) }
 {
@@ -87,6 +89,7 @@ pub fn add_manifest(
     requires asked { (base : List Revision) × (k : ChangesetView) × IsAskedOver base hg.old d.now link k }
     requires lines { IfSome lines (λ made. made ≡ flat_map line_of d.now.rows) }
     ensures ok { OnOk result ((base : List Revision) (k : ChangesetView) → IsAskedOver base hg.old d.now link k → HaveCome hg.old hg.new (manifest_revision k k.manifest)) }
+    ensures added { OnOk result (AreAdded hg.new) }
     ensures collision { result ≡ Err Collision → (base : List Revision) (k : ChangesetView) → IsAskedOver base hg.old d.now link k → HasBad hg.old (manifest_revision k k.manifest) }
 {
     match d.manifest {
@@ -131,7 +134,7 @@ fn room_for(alloc: Global, rows: &[HgRow]) -> Result<Vec<u8>, NoMemory>
 {
     let mut room: usize = 0;
     for row in rows {
-        room = room.saturating_add(line_len(row.path.as_slice(), row.flag));
+        room = room.saturating_add(line_len(row.path.as_slice(), &row.node, row.flag));
     }
     Ok(Vec::with_capacity(alloc, room)?)
 }

@@ -40,7 +40,8 @@ use Rattle.pair_state.specs.Blocks.{body_blob}
 use Rattle.pair_state.specs.Push.{HaveSame, PushesCommit, CommitPushed}
 use Rattle.pair_state.proofs.BlockLemmas.{parts_of, held-append}
 use Rattle.pair_state.proofs.CommitParts.{blob-of, of-map}
-use Rattle.pair_state.proofs.MadeCommit.{each-to_map, found-at, same-blobs, file-id}
+use Rattle.git_store.proofs.Places.{found-one}
+use Rattle.pair_state.proofs.MadeCommit.{each-to_map, same-blobs, file-id}
 use Rattle.pull_outcome.specs.declared.take_fault.TakeFault.{TakeFault}
 use Rattle.pull_outcome.specs.Takes.{IsTakeFault, push_refused}
 use Rattle.pull_bundle.specs.Faults.{IsOfChangeset}
@@ -136,7 +137,7 @@ module _ (t : Taking) (node : Id) (p : Pair) (blocks : List Block) (v : Changese
     stored-rows : Each (HasStoredBlob s.known.git) (map row_value v.rows)
     stored-rows =
         each-to_map (HasStoredBlob s.known.git) row_value v.rows (each_from (λ row. HasStoredBlob s.known.git (row_value row)) v.rows (λ row i.
-        ap is_some (found-at s.known.git (body_blob row) (((pushed.state).sound).are).distinct (pushed.objects.1 (body_blob row) (in_right (body_blob row) (t.state).known.git (commit_objects c) (body-in row i))))))
+        ap is_some (found-one s.known.git (((pushed.state).sound).are).distinct (body_blob row) (pushed.objects.1 (body_blob row) (in_right (body_blob row) (t.state).known.git (commit_objects c) (body-in row i))))))
 
     pub put : (referred : Refers) → RefersTo referred (revisions_in (changesets_in blocks) ++ revisions_in (parts_of (block_with blocks v c)))
         → (near : List RowValue) → near ≡ p.draft.rows → IsPut t (record { state = s; referred = referred; near = near }) blocks (block_with blocks v c)

@@ -71,7 +71,7 @@ pub record HasStore (s next : StateParts) (hg : List Revision) : Type 0 where
   pub names : next.names ≡ s.names
   pub agreed : next.agreed ≡ s.agreed
 
-module _ (s next : StateParts) (hg rs : List Revision) (has : HasStore s next hg) (is : hg ≡ known_after_all s.known.hg rs) (added : AreAdded hg) where
+module _ (s next : StateParts) (hg rs : List Revision) (has : HasStore s next hg) (is : hg ≡ known_after_all s.known.hg rs) (added : AreAdded s.known.hg → AreAdded hg) where
   abbrev more : List Revision
   more = (grown s.known.hg rs).0
 
@@ -97,7 +97,7 @@ module _ (s next : StateParts) (hg rs : List Revision) (has : HasStore s next hg
             partners = held.partners;
           };
           no_links = state.held.no_links;
-          added = added;
+          added = added state.held.added;
           partners = state.held.partners;
         });
         sound = subst (λ (k : Known). AreKnown k.git) (sym has.known) state.sound;
@@ -119,7 +119,7 @@ module _ (s next : StateParts) (hg rs : List Revision) (has : HasStore s next hg
     names = has.names;
   }
 
-pub told : (o : Option Bytes) (s next : StateParts) (hg : List Revision) (list : List listed.Arrival) → HasStore s next hg → AreAdded hg → Each (IsFreshOf s.known.hg list) hg
+pub told : (o : Option Bytes) (s next : StateParts) (hg : List Revision) (list : List listed.Arrival) → HasStore s next hg → (AreAdded s.known.hg → AreAdded hg) → Each (IsFreshOf s.known.hg list) hg
     → IfSome o (λ bytes. Reads s.known.hg bytes (Ok (hg, list)))
     → IfSome o (λ bytes. (came : List Arrival) × (bundle_reading s.known.hg bytes ≡ Ok came) × HasRead s next list came)
 told None s next hg list has added fresh h = h

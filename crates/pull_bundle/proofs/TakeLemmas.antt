@@ -8,7 +8,10 @@ use Rattle.text_model.specs.Fault.{FaultName}
 use Rattle.text_model.specs.Fault as fault
 use Rattle.text_model.proofs.Options.{none_is}
 use Rattle.hg_model.specs.Revision.{Revision, Changesets, revision_of}
-use Rattle.view_model.specs.View.{ChangesetView, CommitView, CommitFits, IsChangesetView, changeset_node}
+use Rattle.hg_store.specs.Known.{AreAdded}
+use Rattle.hg_view.proofs.Held.{view-is_held}
+use Rattle.hg_view.proofs.Right.{held-is_view}
+use Rattle.view_model.specs.View.{ChangesetView, CommitView, CommitFits, changeset_node}
 use Rattle.view_model.specs.Held.{IsChangesetHeld}
 use Rattle.pair_model.specs.Block.{Block, block_of_node}
 use Rattle.pair_model.specs.Octopus.{is_link_view, links_of}
@@ -21,7 +24,7 @@ use Rattle.pair_known.specs.declared.choice_fault.ChoiceFault.TheVariants as cho
 use Rattle.pair_choice.specs.Chosen.{IsChosenCommit, ChangesetRefuses}
 use Rattle.pair_known.specs.declared.hg_draft.HgDraft.{HgDraft}
 use Rattle.pair_known.specs.declared.git_draft.GitDraft.{GitDraft}
-use Rattle.pair_known.specs.Drafts.{IsHgDraft, IsRowKnown}
+use Rattle.pair_known.specs.Drafts.{HasView, IsHgDraft, IsRowKnown}
 use Rattle.pair_known.specs.Over.{IsChangesetIn}
 use Rattle.pair_known.specs.Partners.{git_at}
 use Rattle.pair_state.specs.Blocks.{value_of, block_value}
@@ -53,6 +56,13 @@ module _ (t : Taking) (node : Id) (blocks : List Block) (r : Revision) (is : r.n
   at : revision_of (t.state).known.hg Changesets node ≡ Some new.found
   at = ap (revision_of (t.state).known.hg Changesets) (sym is) ∙ new.is_held
 
+  added : AreAdded (t.state).known.hg
+  added = (((new.taking).state).held).added
+
+  -- what the store lends as its view
+  pub held-there : HasView (t.state).known.hg node → (v : ChangesetView) × IsChangesetHeld (t.state).known.hg node v
+  held-there view = view-is_held (t.state).known.hg added node view.0 view.1
+
   refused-as : (name : FaultName) → ChangesetRefused (t.state).known.hg (t.state).known.git blocks r.node name → IsRefusedNew t blocks r name
   refused-as name why = record { no_link = new.no_link; is_new = ap is_some new.free; fault = why }
 
@@ -71,8 +81,8 @@ module _ (t : Taking) (node : Id) (blocks : List Block) (r : Revision) (is : r.n
     pub link-none : is_link_view v ≡ false
     link-none = not-link (t.state).known.hg r.node v held-here new.no_link
 
-    pub inside-it : (d : HgDraft) → IsHgDraft (t.state).known.hg d v → IsChangesetView v → IsChangesetIn (t.state).known blocks d v
-    inside-it d draft view = record { history = ((new.taking).state).held; draft = draft; view = view }
+    pub inside-it : (d : HgDraft) → IsHgDraft (t.state).known.hg d v → IsChangesetIn (t.state).known blocks d v
+    inside-it d draft = record { history = ((new.taking).state).held; draft = draft; view = held-is_view (t.state).known.hg added node v held }
 
     refused-by : (name : FaultName) → ViewRefused (t.state).known.hg (t.state).known.git blocks v name → IsRefusedNew t blocks r name
     refused-by name why = refused-as name (
@@ -176,16 +186,16 @@ choice-name choice.Memory = tt
 pub choice-named : (f : ChoiceFault) (e : TakeFault) → e ≡ choice_refused f → IsOfChangeset e
 choice-named f e is = subst IsOfChangeset (sym is) (choice-name f)
 
-module _ (t : Taking) (node : Id) (v : ChangesetView) (held : IsChangesetHeld (t.state).known.hg node v) (h : HgDraft) (draft : IsHgDraft (t.state).known.hg h v) (view : IsChangesetView v) where
+module _ (t : Taking) (node : Id) (v : ChangesetView) (held : IsChangesetHeld (t.state).known.hg node v) (h : HgDraft) (draft : IsHgDraft (t.state).known.hg h v) where
   pub choice-fault : (f : ChoiceFault) → ((blocks : List Block) (w : ChangesetView) → IsChangesetIn (t.state).known blocks h w → ChangesetRefuses (t.state).known blocks w f)
       → (e : TakeFault) → e ≡ choice_refused f → IsTakeFault (NewDue t node) e
   choice-fault f why e same =
       subst (IsTakeFault (NewDue t node)) (sym same) (due-all t node (choice_refused f) (λ blocks r is new.
-      choice-refused t node blocks r is new v held f (why blocks v (inside-it t node blocks r is new v held h draft view))))
+      choice-refused t node blocks r is new v held f (why blocks v (inside-it t node blocks r is new v held h draft))))
 
   module _ (d : GitDraft) (all : (blocks : List Block) (w : ChangesetView) → IsChangesetIn (t.state).known blocks h w → (c : CommitView) × IsChosenCommit (t.state).known blocks w d c) where
     pub chosen-here : (blocks : List Block) (r : Revision) (is : r.node ≡ node) → IsNew t blocks r → (c : CommitView) × IsChosenCommit (t.state).known blocks v d c
-    chosen-here blocks r is new = all blocks v (inside-it t node blocks r is new v held h draft view)
+    chosen-here blocks r is new = all blocks v (inside-it t node blocks r is new v held h draft)
 
     pub late-fault : (f : TakeFault) → IsTakeFault (λ name. (blocks : List Block) (w : ChangesetView) → IsTaking t blocks → IsChangesetHeld (t.state).known.hg node w → IsHgDraft (t.state).known.hg h w → IsLate blocks w name) f → IsTakeFault (NewDue t node) f
     late-fault f why =

@@ -1,17 +1,16 @@
 // The draft of a changeset that is known, or what it lacks.
-ghost use Rattle.std.specs.Prelude.{◌≡◌, [], Some, IfOk, IfErr};
+ghost use Rattle.std.specs.Prelude.{◌≡◌, [], Some, OnOk, IfOk, IfErr};
 ghost use Rattle.text_model.specs.Lists.{Each};
 ghost use Rattle.text_model.specs.Fault.{FaultName};
 ghost use Rattle.hg_model.specs.Revision.{Revision, Changesets, revision_of};
 ghost use Rattle.view_model.specs.View.{ChangesetView};
 ghost use Rattle.view_model.specs.Held.{IsChangesetHeld};
-ghost use Rattle.pair_known.specs.Drafts.{IsHgDraft, IsRowKnown};
+ghost use Rattle.pair_known.specs.Drafts.{HasView, IsHgDraft, IsRowKnown};
 ghost use Rattle.pull_outcome.specs.Takes.{IsTakeFault};
 ghost use Rattle.pull_bundle.specs.Faults.{IsOfChangeset, ViewLacks};
 
 use bridge_text::Id;
 use hg_store::ViewFault;
-use hg_view::views_are_held;
 use pair_known::{DraftFault, HgDraft, HgRow, Known, read_changeset_draft};
 use pull_outcome::{Fault, TakeFault};
 use std::alloc::Global;
@@ -26,14 +25,13 @@ pub fn draft_of(
 ) -> Result<HgDraft, TakeFault>
     requires near { Each (IsRowKnown known.now.hg) near.now }
     requires known { (r : Revision) × (revision_of known.now.hg Changesets node.now ≡ Some r) }
-    ensures held { IfOk result (λ d. (h : ChangesetView) × IsChangesetHeld known.now.hg node.now h) }
+    ensures view { OnOk result (HasView known.now.hg node.now) }
     ensures draft { IfOk result (λ d. (h : ChangesetView) → IsChangesetHeld known.now.hg node.now h → IsHgDraft known.now.hg d h) }
     ensures nothing_fresh { IfOk result (λ d. d.fresh ≡ []) }
     ensures rows { IfOk result (λ d. Each (IsRowKnown known.now.hg) d.rows) }
     ensures refused { IfErr result (IsTakeFault (λ name. (r : Revision) → revision_of known.now.hg Changesets node.now ≡ Some r → ViewLacks known.now.hg r name)) }
     ensures names { IfErr result IsOfChangeset }
 {
-    views_are_held(&known.hg, node);
     match read_changeset_draft(alloc, known, node, near) {
         Ok(draft) => Ok(draft),
         Err(DraftFault::Unknown(ViewFault::ManifestUnknown)) => {

@@ -31,6 +31,7 @@ pub fn pull_hg<S: Source, L: Ledger>(
     src: &mut S,
     steps: &mut Steps<L>,
 ) -> Result<HgPulled, PullFault>
+    ensures history { OnOk result ((blocks : List Block) × HasAllBlocks state blocks) }
     ensures next { IfOk result (λ pulled. (blocks : List Block) → HasAllBlocks state blocks → GoesOnHg state blocks pulled) }
     ensures pulled { IfOk result (λ pulled. IfSome (S.left src.old) (λ bytes.
         (blocks : List Block) → HasAllBlocks state blocks → PulledHg state blocks bytes pulled)) }

@@ -31,7 +31,6 @@ pub fn read_bundle<S: Source>(
     let mut state = state;
     let store = std::mem::replace(&mut state.known.hg, HgStore::new(alloc));
     let (store, arrivals) = read_into(alloc, src, store)?;
-    store.check();
     state.known.hg = store;
     Ok((state, arrivals))
 }

@@ -24,7 +24,6 @@ use bridge_io::Steps;
 use bridge_text::{Id, IdList, NoMemory};
 use hg_dump::Refers;
 use hg_store::HgStore;
-use hg_view::views_are_held;
 use link_rule::link_nodes;
 use pair_choice::pair_of_changeset;
 use pair_known::{GitDraft, HgDraft, Known};
@@ -101,7 +100,6 @@ fn pair_for<L: Ledger>(
     ensures steps { (steps.old ≤ steps.new) × (steps.new ≤ steps.old + 18) }
 {
     let known = &taking.state.known;
-    views_are_held(&known.hg, node);
     let near = taking.near.as_slice();
     let draft = draft_of(alloc, known, node, near)?;
     let commit = pair_of_changeset(alloc, known, &draft, steps, near)?;

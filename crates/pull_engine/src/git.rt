@@ -18,7 +18,7 @@ ghost use Rattle.pull_stream.specs.Ready.{place_among};
 ghost use Rattle.pull_engine.specs.Read.{IsReadState, IsPulled};
 
 use crate::limit::{TooLarge, first_too_large, limit_fault};
-use crate::pulled::{Pulled, checked};
+use crate::pulled::Pulled;
 use crate::tags::{keep_tags, tags_among};
 use bridge_io::{Source, Steps};
 use bridge_text::Id;
@@ -57,7 +57,6 @@ pub fn pull_git<S: Source, L: Ledger>(
     ensures asked { OnErr result (IfSome (S.left src.old) (λ bytes. (m : saved.State) → IsReadState state m
         → StepsGit (known_of (kept_of m)) bytes steps.old steps.new)) }
 {
-    let state = checked(state);
     let pulled = pull_stream::pull_git(state, src, steps)?;
     let tags = tags_among(&pulled.state, &pulled.arrivals)?;
     let first_tag = pulled.state.tags().len();

@@ -18,7 +18,7 @@ ghost use Rattle.pull_engine.specs.Places.{is_changeset, node_place};
 ghost use Rattle.pull_engine.specs.Read.{IsReadState, IsPulled};
 
 use crate::limit::{TooLarge, first_too_large, limit_fault};
-use crate::pulled::{Pulled, checked};
+use crate::pulled::Pulled;
 use bridge_io::{Source, Steps};
 use bridge_text::Id;
 use hg_bundle::{Arrival, Arrivals, RevKind};
@@ -54,7 +54,6 @@ pub fn pull_hg<S: Source, L: Ledger>(
     ensures asked { OnErr result (IfSome (S.left src.old) (λ bytes. (m : saved.State) → IsReadState state m
         → StepsHg (known_of (kept_of m)) bytes steps.old steps.new)) }
 {
-    let state = checked(state);
     let pulled = pull_bundle::pull_hg(state, src, steps)?;
     let text = text_within(&pulled)?;
     Ok(Pulled {

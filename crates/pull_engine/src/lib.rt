@@ -4,13 +4,11 @@
 
 mod git;
 mod hg;
-mod laws;
 mod limit;
 mod pulled;
 mod tags;
 
 pub use git::pull_git;
 pub use hg::pull_hg;
-pub use laws::empty_is_read;
 pub use pull_outcome::{Fault, PullFault};
 pub use pulled::Pulled;

@@ -1,7 +1,3 @@
-ghost use Rattle.std.specs.Prelude.{◌≡◌, List};
-ghost use Rattle.pair_model.specs.Block.{Block};
-ghost use Rattle.pair_state.specs.AllBlocks.{HasAllBlocks};
-
 use pair_state::State;
 use rope::Rope;
 
@@ -16,12 +12,4 @@ pub struct Pulled {
     pub made: Rope,
     /// The text of the next state.
     pub text: Rope,
-}
-
-/// The same state. What its type says is known from here on: it stands for a history.
-pub fn checked(state: State) -> State
-    ensures same { result ≡ state }
-    ensures history { (blocks : List Block) × HasAllBlocks result blocks }
-{
-    State::from_parts(state.into_parts())
 }

@@ -9,11 +9,12 @@ use Rattle.git_model.specs.Object.{Object}
 use Rattle.git_model.specs.Unfold.{WalkFault, walk_fault}
 use Rattle.text_model.proofs.Options.{none_some, some_is}
 use Rattle.git_store.specs.Known.{IsCommitAt}
-use Rattle.git_view.proofs.Held.{commit-at}
+use Rattle.git_view.proofs.Held.{commit-at, commit-is_held, held-id}
+use Rattle.git_view.proofs.Right.{held-is_view}
 use Rattle.tree_shape.specs.declared.fault.TreeFault.{TreeFault}
 use Rattle.tree_shape.specs.declared.fault.TreeFault.TheVariants as tree
 use Rattle.tree_shape.specs.Faults.{IsTreeFault}
-use Rattle.view_model.specs.View.{CommitView, IsCommitView, commit_id}
+use Rattle.view_model.specs.View.{CommitView}
 use Rattle.view_model.specs.Held.{IsCommitHeld}
 use Rattle.pair_model.specs.Block.{Block}
 use Rattle.pair_known.specs.declared.git_draft.GitDraft.{GitDraft}
@@ -23,12 +24,6 @@ use Rattle.pair_state.specs.declared.state_parts.StateParts.{StateParts}
 use Rattle.history_model.specs.Pull.{WalkRefused, CommitRefused}
 use Rattle.pull_outcome.specs.Takes.{IsTakeFault, tree_refused}
 use Rattle.pull_stream.specs.Taken.{TakesCommit, IsDraftFor}
-
--- what is known of the commits of a store
-pub record CommitLaws (known : List Object) (id : Id) : Type 0 where
-  pub held : (v : Commit) → IsCommitAt known id v → walk_fault known v.tree_id ≡ None → (c : CommitView) × IsCommitHeld known id c × (c.value ≡ v)
-  pub is_view : (c : CommitView) → IsCommitHeld known id c → walk_fault known (c.value).tree_id ≡ None → IsCommitView c
-  pub node : (c : CommitView) → IsCommitHeld known id c → commit_id c ≡ id
 
 -- ---- a walk that is refused
 
@@ -67,20 +62,21 @@ module _ (s : StateParts) (id : Id) (blocks : List Block) where
 
   -- ---- a commit with all its files
 
-  module _ (laws : CommitLaws s.known.git id) (x : Commit) (at : IsCommitAt s.known.git id x) (walks : walk_fault s.known.git x.tree_id ≡ None) where
+  module _ (x : Commit) (at : IsCommitAt s.known.git id x) (walks : walk_fault s.known.git x.tree_id ≡ None) where
     pub draft-is : (d : GitDraft) → TakesCommit s id blocks → ((c : CommitView) → IsCommitHeld s.known.git id c → IsGitDraft s.known.git d c) → (v : CommitView) × IsDraftFor s id blocks d v
     draft-is d takes draft =
-        let h = laws.held x at walks in
+        let are = takes.state.state.sound in
+        let h = commit-is_held s.known.git are id x at walks in
         let on = ap (λ (v : Commit). walk_fault s.known.git v.tree_id) h.2 ∙ walks in (
           h.0,
           record {
             held = h.1;
             walks = on;
-            id_is = laws.node h.0 h.1;
+            id_is = held-id s.known.git are id h.0 h.1;
             over = record {
               history = takes.state.state.held;
               draft = draft h.0 h.1;
-              view = laws.is_view h.0 h.1 on;
+              view = held-is_view s.known.git are id h.0 h.1 on;
               parents = takes.parents (h.0).value (held-at s.known.git id h.0 h.1);
             };
           },

@@ -2,7 +2,7 @@
 use Rattle.std.specs.Prelude.{◌≡◌, ℕ, List, map, Option, Some, option_map, bytes_eq, ⊤}
 use Rattle.std.specs.List.{find}
 use Rattle.text_model.specs.Lists.{Each}
-use Rattle.text_model.specs.Id.{Id, commit}
+use Rattle.text_model.specs.Id.{Id}
 use Rattle.text_model.specs.Fault.{Refusal, refusal}
 use Rattle.text_model.specs.Fault as fault
 use Rattle.git_model.specs.Order.{IsOrder, IsStuckAt}

@@ -33,7 +33,6 @@ pub fn read_objects<S: Source>(
     let mut state = state;
     let git = std::mem::replace(&mut state.known.git, GitStore::new(alloc));
     let (git, came) = read_into(alloc, src, git)?;
-    git.check();
     state.known.git = git;
     Ok((state, came))
 }

@@ -31,6 +31,7 @@ pub fn pull_git<S: Source, L: Ledger>(
     src: &mut S,
     steps: &mut Steps<L>,
 ) -> Result<GitPulled, PullFault>
+    ensures history { OnOk result ((blocks : List Block) × HasAllBlocks state blocks) }
     ensures pulled { IfOk result (λ pulled. IfSome (S.left src.old) (λ bytes.
         (blocks : List Block) → HasAllBlocks state blocks → PulledGit state blocks bytes pulled)) }
     ensures refused { IfErr result (λ fault. IfSome (S.left src.old) (λ bytes.

@@ -12,7 +12,6 @@ use crate::late::check_parents;
 use crate::taking::Taking;
 use bridge_io::Steps;
 use bridge_text::Id;
-use git_view::commits_are_held;
 use pair_choice::pair_of_commit;
 use pair_known::read_commit_draft;
 use pull_outcome::TakeFault;
@@ -37,7 +36,6 @@ pub fn take_commit<L: Ledger>(
 {
     let Taking { state, files, rows } = taking;
     let alloc = state.alloc;
-    commits_are_held(&state.known.git, id);
     let draft = read_commit_draft(alloc, &state.known, id, files.as_slice())?;
     let block = pair_of_commit(alloc, &state.known, &draft, steps, rows.as_slice())?;
     check_parents(&state.known.hg, &block.last)?;

@@ -9,12 +9,13 @@ use Rattle.git_model.specs.Commit.{commit_text}
 use Rattle.git_model.specs.Unfold.{walk_fault}
 use Rattle.hg_manifest.specs.Values.{manifest_value}
 use Rattle.hg_store.specs.Known.{AreAdded}
-use Rattle.view_model.specs.View.{ChangesetView, CommitView, IsChangesetView, Row, SameCommit, HasBodiesOf, changeset_node, commit_id}
+use Rattle.view_model.specs.View.{ChangesetView, CommitView, Row, SameCommit, HasBodiesOf, changeset_node, commit_id}
 use Rattle.view_model.specs.Held.{IsFileHeld, IsChangesetHeld, IsCommitHeld}
 use Rattle.pair_model.specs.Block.{Block, id_of}
 use Rattle.pair_model.specs.Octopus.{links_of}
 use Rattle.partner_model.specs.Given.{has_late_file, has_late_manifest}
 use Rattle.state_model.specs.Kept.{State}
+use Rattle.hg_view.proofs.Right.{held-is_view}
 use Rattle.link_rule.proofs.HasViews.{has-view}
 use Rattle.pair_known.specs.Blocks.{IsHistoryHeld}
 use Rattle.pair_known.specs.Over.{IsChangesetIn}
@@ -67,35 +68,37 @@ module _ (s : StateParts) (place : ℕ) (ck : Checked) (m : State) (front : List
         subst (λ (known : Known). IsChangesetHeld known.hg x.node v) (sym same)
         (subst (λ (id : Id). IsChangesetHeld s.known.hg id v) (sym (ap (λ (y : BlockValue). y.node) (block-at s place ck m front b rest t x at))) (changeset-held s place ck m front b rest t))
 
+    added-here : AreAdded k.hg
+    added-here = subst (λ (known : Known). AreAdded known.hg) (sym same) (history s place ck m front b rest t).added
+
     pub view-there : HasView k.hg x.node
-    view-there = has-view k.hg (subst (λ (known : Known). AreAdded known.hg) (sym same) (history s place ck m front b rest t).added) x.node v changeset-at
+    view-there = has-view k.hg added-here x.node v changeset-at
 
     module _ (h : HgDraft) (of : (v : ChangesetView) → IsChangesetHeld k.hg x.node v → IsHgDraft k.hg h v) where
       pub draft-here : IsHgDraft s.known.hg h v
       draft-here = subst (λ (known : Known). IsHgDraft known.hg h v) same (of v changeset-at)
 
-      module _ (views : (v : ChangesetView) → IsChangesetHeld k.hg x.node v → IsChangesetView v) where
-        pub inside-here : IsChangesetIn k m.blocks h v
-        inside-here = record {
-          history = subst (λ (known : Known). IsHistoryHeld known m.blocks) (sym same) (history s place ck m front b rest t);
-          draft = of v changeset-at;
-          view = views v changeset-at;
-        }
+      pub inside-here : IsChangesetIn k m.blocks h v
+      inside-here = record {
+        history = subst (λ (known : Known). IsHistoryHeld known m.blocks) (sym same) (history s place ck m front b rest t);
+        draft = of v changeset-at;
+        view = held-is_view k.hg added-here x.node v changeset-at;
+      }
 
-        module _ (found : Option GitDraft) (answer : (blocks front : List Block) (v : ChangesetView) → IsChangesetIn k blocks h v → IsBefore k blocks front ck.nodes
-            → MatchOption found (HasNone k front v) (λ d. (c : CommitView) × IsPartnerHere k blocks front v d c)) where
-          at-front : MatchOption found (HasNone k front v) (λ d. (c : CommitView) × IsPartnerHere k m.blocks front v d c)
-          at-front = answer m.blocks front v inside-here (subst (λ (known : Known). IsBefore known m.blocks front ck.nodes) (sym same) (is-before s place ck m front b rest t))
+      module _ (found : Option GitDraft) (answer : (blocks front : List Block) (v : ChangesetView) → IsChangesetIn k blocks h v → IsBefore k blocks front ck.nodes
+          → MatchOption found (HasNone k front v) (λ d. (c : CommitView) × IsPartnerHere k blocks front v d c)) where
+        at-front : MatchOption found (HasNone k front v) (λ d. (c : CommitView) × IsPartnerHere k m.blocks front v d c)
+        at-front = answer m.blocks front v inside-here (subst (λ (known : Known). IsBefore known m.blocks front ck.nodes) (sym same) (is-before s place ck m front b rest t))
 
-          pub some-here : (d : GitDraft) → found ≡ Some d → (c : CommitView) × IsPartnerHere s.known m.blocks front v d c
-          some-here d is =
-              subst (λ (known : Known). (c : CommitView) × IsPartnerHere known m.blocks front v d c) same
-              (subst (λ (o : Option GitDraft). MatchOption o (HasNone k front v) (λ d. (c : CommitView) × IsPartnerHere k m.blocks front v d c)) is at-front)
+        pub some-here : (d : GitDraft) → found ≡ Some d → (c : CommitView) × IsPartnerHere s.known m.blocks front v d c
+        some-here d is =
+            subst (λ (known : Known). (c : CommitView) × IsPartnerHere known m.blocks front v d c) same
+            (subst (λ (o : Option GitDraft). MatchOption o (HasNone k front v) (λ d. (c : CommitView) × IsPartnerHere k m.blocks front v d c)) is at-front)
 
-          pub none-here : found ≡ None → HasNone s.known front v
-          none-here is =
-              subst (λ (known : Known). HasNone known front v) same
-              (subst (λ (o : Option GitDraft). MatchOption o (HasNone k front v) (λ d. (c : CommitView) × IsPartnerHere k m.blocks front v d c)) is at-front)
+        pub none-here : found ≡ None → HasNone s.known front v
+        none-here is =
+            subst (λ (known : Known). HasNone known front v) same
+            (subst (λ (o : Option GitDraft). MatchOption o (HasNone k front v) (λ d. (c : CommitView) × IsPartnerHere k m.blocks front v d c)) is at-front)
 
   module _ (h : HgDraft) (draft : IsHgDraft s.known.hg h v) (d : GitDraft) (c : CommitView) (here : IsPartnerHere s.known m.blocks front v d c) where
     -- ---- late parents

@@ -16,6 +16,7 @@ use Rattle.git_model.specs.Shape.{Leaf, leaf_of, root_of, trees_of}
 use Rattle.git_model.proofs.SortLemmas.{of-order}
 use Rattle.git_store.specs.Known.{AreKnown, is_same_as, knows_same}
 use Rattle.git_store.proofs.KnownLemmas.{same_kind-is}
+use Rattle.git_store.proofs.Places.{found-one}
 use Rattle.git_view.proofs.Found.{found-id}
 use Rattle.git_view.proofs.Unfoldings.{one-unfolding}
 use Rattle.git_view.proofs.Walks.{none-refused}
@@ -33,7 +34,6 @@ use Rattle.view_model.specs.Held.{file_row_of, IsCommitHeld}
 use Rattle.pair_known.specs.declared.git_draft.GitDraft.{GitDraft}
 use Rattle.pair_known.specs.Ruled.{IsMadeCommit}
 use Rattle.pair_state.proofs.CommitParts as parts
-use Rattle.pair_state.proofs.MadeCommit.{found-at}
 
 -- rows are known by their leaves
 same-rows : (rs ss : List FileRow) → map leaf_of rs ≡ map leaf_of ss → rs ≡ ss
@@ -103,7 +103,7 @@ module _ (known : List Object) (are : AreKnown known) (d : GitDraft) (c : Commit
     where
       by : (o : Object) → In o d.trees ⊎ In o known → IsKnown known o
       by o (inl i) = each_in (IsKnown known) d.trees o (all-there known d.trees stored) i
-      by o (inr i) = found-at known o are.are.distinct i
+      by o (inr i) = found-one known are.are.distinct o i
 
       held : (o : Object) → In o (d.trees ++ known) → IsKnown known o
       held o i = by o (in-append o d.trees known i)

@@ -17,7 +17,6 @@ use crate::seen::seen_before;
 use bridge_io::Steps;
 use bridge_text::{Id, Kind, NoMemory, object_id};
 use hg_manifest::Manifest;
-use hg_view::views_are_held;
 use pair_known::{GitDraft, HgDraft};
 use pair_state::{Block, State};
 use pull_bundle::is_manifest_late;
@@ -50,7 +49,6 @@ pub fn judge<L: Ledger>(
     ensures steps { (steps.old ≤ steps.new) × (steps.new ≤ steps.old + 18) }
 {
     let known = state.known();
-    views_are_held(&known.hg, &block.node);
     match partner_of(state.alloc(), known, h, &checked.nodes, steps)? {
         Some(partner) => judge_with(state, place, checked, h, &partner),
         None => Ok(Judgement::Wrong(Id::NULL)),

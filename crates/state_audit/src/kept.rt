@@ -16,7 +16,6 @@ ghost use Rattle.pair_choice.specs.Chosen.{IsChosenCommit};
 use bridge_text::{Id, IdList, Kind, NoMemory};
 use git_object::{Commit, Objects};
 use git_store::GitStore;
-use git_view::commits_are_held;
 use link_rule::link_nodes;
 use pair_known::{GitDraft, Known, draft_of_commit};
 use std::alloc::Global;
@@ -34,7 +33,6 @@ pub fn is_kept(
     requires text { text.now ≡ commit_text partner.now.commit }
     ensures { IfOk result (λ same. (e c : CommitView) → IsCommitHeld known.now.git id.now e → IsMadeCommit known.now.git partner.now c → (IsTrue same ↔ SameCommit e c)) }
 {
-    commits_are_held(&known.git, id);
     if !has_text(&known.git, id, text) {
         return Ok(false);
     }

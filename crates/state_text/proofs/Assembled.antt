@@ -5,6 +5,7 @@ use Rattle.text_model.specs.Id.{Id, has_id}
 use Rattle.text_model.proofs.Elements.{each_from}
 use Rattle.hg_model.specs.Revision.{Revision, is_of, revision_of, known_after_all}
 use Rattle.hg_model.proofs.RevisionLemmas.{is_of-self}
+use Rattle.git_model.specs.Tree.{has_distinct}
 use Rattle.git_model.specs.Object.{Object, object_at}
 use Rattle.git_model.specs.Unfold.{walk_fault}
 use Rattle.hg_store.specs.Known.{AreAdded}
@@ -12,7 +13,7 @@ use Rattle.git_store.specs.Known.{AreKnown}
 use Rattle.view_model.specs.View.{ChangesetView, changeset_node, commit_id}
 use Rattle.view_model.specs.Held.{AreChangesetsHeld, AreCommitsHeld}
 use Rattle.view_model.specs.Dump.{brought_by}
-use Rattle.pair_model.specs.Block.{Block, changesets_in, commits_in}
+use Rattle.pair_model.specs.Block.{Block, node_of, id_of, changesets_in, commits_in}
 use Rattle.pair_model.specs.Octopus.{is_link_view}
 use Rattle.hg_dump_law.specs.Taken.{in_bundle_order}
 use Rattle.dump_law.proofs.Order.{found_dump}
@@ -30,7 +31,7 @@ use Rattle.pair_state.specs.Blocks.{BlockValue, value_of, block_value, IsStateOf
 use Rattle.pair_state.specs.AllBlocks.{is_referred, HasAllBlocks}
 use Rattle.state_text.specs.Stands.{Stands, HoldsExactly}
 use Rattle.state_text.specs.Whole.{block_in, AreSectionsOf}
-use Rattle.dump_law.proofs.Blocks.{ids-blocks}
+use Rattle.dump_law.proofs.Blocks.{nodes-distinct, ids-blocks}
 use Rattle.state_text.proofs.BlockLemmas.{partners-blocks}
 
 -- the parts are made of these sections
@@ -44,14 +45,20 @@ pub record IsMadeOf (s : StateParts) (hg : HgSection) (blocks : List pair.Block)
   pub tags_are : s.tags ≡ tags.tags
   pub names_are : s.names ≡ names
   pub none_agreed : s.agreed ≡ []
-  pub added : AreAdded s.known.hg
-  pub partners : ArePartners s.known.partners
 
 -- ---- blocks
 
 walks-blocks : (git : List Object) (bs : List Block) → Each (λ c. walk_fault git (c.value).tree_id ≡ None) (commits_in bs) → Each (λ b. walk_fault git ((b.commit).value).tree_id ≡ None) bs
 walks-blocks git [] h = tt
 walks-blocks git (b ∷ bs) h = (h.0, walks-blocks git bs h.1)
+
+nodes-first : (bs : List Block) → map (λ (e : Id × Id). e.0) (map {B = Id × Id} (λ b. (node_of b, id_of b)) bs) ≡ map node_of bs
+nodes-first [] = refl
+nodes-first (b ∷ bs) = ap (λ (l : List Id). node_of b ∷ l) (nodes-first bs)
+
+ids-second : (bs : List Block) → map (λ (e : Id × Id). e.1) (map {B = Id × Id} (λ b. (node_of b, id_of b)) bs) ≡ map id_of bs
+ids-second [] = refl
+ids-second (b ∷ bs) = ap (λ (l : List Id). id_of b ∷ l) (ids-second bs)
 
 no_links : (bs : List Block) → AreBlocks bs → Each (λ b. is_link_view b.changeset ≡ false) bs
 no_links [] h = tt
@@ -85,17 +92,29 @@ module _ (s : StateParts) (hg : HgSection) (blocks : List pair.Block) (tags : Ta
       subst (λ (k : List Object). AreCommitsHeld k (map commit_id (commits_in m.blocks)) (commits_in m.blocks)) (sym e.git_is)
       (subst (λ (l : List Id). AreCommitsHeld tags.store l (commits_in m.blocks)) (a.commits).ids (a.commits).held)
 
+  partners-are : s.known.partners ≡ map {B = Id × Id} (λ b. (node_of b, id_of b)) m.blocks
+  partners-are = e.partners_are ∙ ap (map (λ (b : pair.Block). (b.node, b.commit))) a.pairs ∙ partners-blocks m.blocks
+
+  -- no node and no id stands twice in a state
+  are-partners : ArePartners s.known.partners
+  are-partners =
+      let saved = (a.state).1.0.0.0 in
+      subst ArePartners (sym partners-are) (record {
+        nodes = ap has_distinct (nodes-first m.blocks) ∙ nodes-distinct m.blocks ((saved.0.1).dumped).distinct;
+        ids = ap has_distinct (ids-second m.blocks ∙ sym (ids-blocks m.blocks)) ∙ (saved.1).distinct;
+      })
+
   history-held : IsHistoryHeld s.known m.blocks
   history-held = record {
     held = record {
       changesets = changesets-held;
       commits = commits-held;
       walks = walks-blocks s.known.git m.blocks (subst (λ (k : List Object). Each (λ c. walk_fault k (c.value).tree_id ≡ None) (commits_in m.blocks)) (sym e.git_is) (a.commits).walks);
-      partners = e.partners_are ∙ ap (map (λ (b : pair.Block). (b.node, b.commit))) a.pairs ∙ partners-blocks m.blocks;
+      partners = partners-are;
     };
     no_links = no_links m.blocks (a.state).0;
-    added = e.added;
-    partners = e.partners;
+    added = subst AreAdded (sym e.hg_is) (a.changesets).added;
+    partners = are-partners;
   }
 
   is-state : IsStateOf s m.blocks

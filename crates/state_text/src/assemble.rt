@@ -26,9 +26,7 @@ pub fn assemble(
     ensures stands { IfOk result (λ s. (m : model.State) → AreSectionsOf hg blocks tags named.names m → Stands s m) }
     ensures exactly { IfOk result (λ s. (m : model.State) → AreSectionsOf hg blocks tags named.names m → HoldsExactly s m) }
 {
-    hg.store.check();
     let (partners, names) = named.into_parts();
-    partners.check();
     let changesets = node_list(alloc, hg.nodes.as_slice())?;
     let (git, commits, tags) = tags.into_parts();
     Ok(State::from_parts(StateParts {

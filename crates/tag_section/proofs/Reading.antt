@@ -8,7 +8,7 @@ use Rattle.git_batch.specs.declared.arrival.ObjectArrival.{ObjectArrival}
 use Rattle.git_batch.specs.Arrivals.{Reads}
 use Rattle.tag_section.specs.Tags.{Brings}
 
-pub stream_read : (known : List Object) (left bytes : Bytes) (read : List Object × List ObjectArrival) → left ≡ bytes → Reads known left (Ok read) → AreKnown read.0
+pub stream_read : (known : List Object) (left bytes : Bytes) (read : List Object × List ObjectArrival) → left ≡ bytes → Reads known left (Ok read) → (AreKnown known → AreKnown read.0)
     → Brings known bytes (record { store = read.0; came = read.1 })
 stream_read known left bytes read all r are = record {
   placed = r.0;

@@ -92,12 +92,12 @@ module _ (s : GitSection) (cs : List CommitView) (holds : HoldsCommits s cs) whe
     holds-tags ids are = record {
       ids = holds.ids;
       tags_are = are;
-      held = commits-on s.store a.store more.kept holds.sound brings.sound s.ids cs holds.walks holds.held;
+      held = commits-on s.store a.store more.kept holds.sound (brings.sound holds.sound) s.ids cs holds.walks holds.held;
       walks = Each-weaker (λ c. walk_fault s.store (c.value).tree_id ≡ None) (λ c. walk_fault a.store (c.value).tree_id ≡ None)
           (λ c. walk-on s.store a.store more.kept holds.sound (c.value).tree_id) cs holds.walks;
       known = brings.holds ∙ ap (λ (l : List Object). objects_after_all l came_tags) holds.known ∙ sym (after-append [] (only_new same_object [] (objects_in cs)) came_tags);
       tags_held = more.added;
-      sound = brings.sound;
+      sound = brings.sound holds.sound;
     }
 
     pub only-kept : (tags : List Object) → AreTagsSaved cs tags → stream_text tags ≡ bytes → AreKept cs came_tags

@@ -34,10 +34,10 @@ pub record AreKept (cs : List CommitView) (tags : List Object) : Type 0 where
   pub targets : Each (λ o. IsTrue (has_target (map commit_id cs) [] tags o)) tags
   pub lead : Each (λ o. IsTrue (leads [] tags o)) tags
 
--- the bytes bring these objects to those known, and they are listed
+-- the bytes bring these objects to those known, and they are listed; what a store holds stays sound
 pub record Brings (known : List Object) (bytes : Bytes) (a : Arrived) : Type 0 where
   pub placed : List Placed
   pub reads : stream_reading known bytes ≡ Ok placed
   pub listed : a.came ≡ map arrival_of placed
   pub holds : a.store ≡ objects_after_all known (objects_among placed)
-  pub sound : AreKnown a.store
+  pub sound : AreKnown known → AreKnown a.store

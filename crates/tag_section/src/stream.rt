@@ -27,10 +27,7 @@ pub fn read_stream(
 {
     let mut source = Part::new(bytes);
     match read_into(alloc, &mut source, store) {
-        Ok((store, came)) => {
-            store.check();
-            Ok(Some(Arrived { store, came }))
-        }
+        Ok((store, came)) => Ok(Some(Arrived { store, came })),
         Err(StreamFault::Refused(_)) => Ok(None),
         Err(StreamFault::Read) => unreachable!(),
         Err(StreamFault::Memory) => Err(NoMemory),

@@ -147,16 +147,16 @@ fn fits_behind(before: &[FileRow], row: &FileRow) -> bool
 fn is_file_row(row: &FileRow) -> bool
     ensures { IsTrue result ↔ IsFileRow row.now }
 {
-    let _id = row.blob().bytes();
+    let id = row.blob().bytes();
     let path = row.path();
-    fit_path(path) && is_no_directory_or_empty(row)
+    fit_path(path) && (!row.mode().is_directory() || is_empty_tree(id))
 }
 
-/// Whether a row that is a directory has the id of the tree without entries.
-fn is_no_directory_or_empty(row: &FileRow) -> bool
-    ensures { IsTrue result ↔ (is_directory row.now.mode ≡ true → row.now.id ≡ object_id tree []) }
+/// Whether this is the id of the tree without entries.
+fn is_empty_tree(id: [u8; 20]) -> bool
+    ensures { IsTrue result ↔ id ≡ object_id tree [] }
 {
-    !row.mode().is_directory() || *row.blob() == object_id(Kind::Tree, b"")
+    id == object_id(Kind::Tree, b"").bytes()
 }
 
 /// Whether the path of a row stands above that of the last row, where there is one.

@@ -1,5 +1,3 @@
-pub mod Extras
-pub mod Lines
 pub mod RuledCommit
 pub mod Links
 pub mod RuledChangeset

@@ -1,7 +1,6 @@
 -- The links of a commit are views, where the changesets of the blocks are.
 use Rattle.std.proofs.Common.{◌≡◌, ◌≢◌, ◌+◌, ℕ, true, false, true≢false, List, [], ◌∷◌, ◌++◌, length, Option, Some, None, refl, sym, ap, subst, ◌∙◌, arith}
 use Rattle.std.specs.Prelude.{IsTrue, is_some, unwrap_or, decimal, pos, ⊤}
-use Rattle.std.proofs.lemmas.Int.{ints}
 use Rattle.text_model.specs.Lists.{Each, rises}
 use Rattle.text_model.specs.Text.{IsBytes, is_below}
 use Rattle.text_model.specs.Id.{Id, IsId, null, is_null, hex}
@@ -18,6 +17,7 @@ use Rattle.pair_model.specs.Block.{Block, changesets_in, view_at, view_or_none, 
 use Rattle.pair_model.specs.Octopus.{link_user, link_key, link_value, link_description, link_view, links_over, links_by, links_of, partners_of_parents}
 use Rattle.partner_model.specs.Partner.{IsHeldView, IsKnownAs}
 use Rattle.mark_law.proofs.TextFacts.{IsBytes-decimal}
+use Rattle.link_rule.proofs.LinkDates.{one-date}
 use Rattle.next_law.proofs.LikeNew.{find-in}
 use Rattle.next_law.proofs.Founded.{IsFounded, held-view}
 
@@ -102,24 +102,8 @@ pub not-null : (x : Id) → is_null x ≡ false → x ≢ null
 not-null x some e = true≢false (sym (ap is_null e) ∙ some)
 
 link-date : (id : Id) → IsId id → (k n : ℕ) → IsDateLine (Plain (pos 0) (pos 0) (record { key = link_key; value = link_value id k n } ∷ []))
-link-date id is k n = record {
-  time_low = omega (arith, ints);
-  time_high = omega (arith, ints);
-  tz_low = omega (arith, ints);
-  tz_high = omega (arith, ints);
-  items = (
-    (
-      (
-        (λ e. cc),
-        refl,
-        small-bytes link_key refl,
-        IsBytes-append (hex id ++ 58 ∷ decimal k) (58 ∷ decimal n) (IsBytes-append (hex id) (58 ∷ decimal k) (hex-bytes id is) (omega arith, IsBytes-decimal k)) (omega arith, IsBytes-decimal n),
-      ),
-      tt,
-    ),
-    refl,
-  );
-}
+link-date id is k n = one-date (link_value id k n)
+    (IsBytes-append (hex id ++ 58 ∷ decimal k) (58 ∷ decimal n) (IsBytes-append (hex id) (58 ∷ decimal k) (hex-bytes id is) (omega arith, IsBytes-decimal k)) (omega arith, IsBytes-decimal n))
 
 module _ (blocks : List Block) (id : Id) (is : IsId id) (base : ChangesetView) (files : HasFiles base) where
   new-link : (n k : ℕ) (p q : Id) → IsId p → IsId q → is_null p ≡ false → p ≢ q → IsChangesetView (link_view id base n k p q)

@@ -26,6 +26,8 @@ use Rattle.pair_model.specs.User.{user_of_line, description_of}
 use Rattle.pair_model.proofs.UserLemmas.{user-some, user-one_line}
 use Rattle.partner_model.specs.Mark.{mark_changeset}
 use Rattle.partner_model.specs.Table.{IsTable}
+use Rattle.mark_law.proofs.MarkExtras.{marks-extras}
+use Rattle.mark_law.proofs.LineBytes.{user-bytes, description-bytes}
 use Rattle.unmark_law.proofs.ChangesetOne.{marks_in, marks_are, date_is}
 use Rattle.unmark_law.proofs.Tables.{finds, found_there, hg_one, hg_there, HasId}
 use Rattle.changeset_rule.proofs.RowViews.{new-is_revision}
@@ -35,8 +37,6 @@ use Rattle.changeset_rule.proofs.ViewLemmas.{IsListed, fit-listed, files-listed,
 use Rattle.link_rule.proofs.PartnerViews.{changeset-in}
 use Rattle.dump_law.proofs.Brought.{node_is_id}
 use Rattle.next_law.proofs.LikeNew.{find-in}
-use Rattle.view_law.proofs.Extras.{marks-extras}
-use Rattle.view_law.proofs.Lines.{user-bytes, description-bytes}
 use Rattle.view_law.proofs.Links.{HasFiles, files-at, IsParentNode, IsNewNode, IsFirstApart, saved-apart, not-null}
 
 -- ---- the rows

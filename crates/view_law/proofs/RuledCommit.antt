@@ -30,6 +30,7 @@ use Rattle.partner_model.specs.Mark.{mark_commit}
 use Rattle.partner_model.specs.Partner.{AreChangesetParentsPaired}
 use Rattle.partner_model.specs.Table.{IsTable}
 use Rattle.mark_law.proofs.Views.{marked_is_view}
+use Rattle.mark_law.proofs.LineBytes.{line-bytes}
 use Rattle.unmark_law.proofs.Tables.{git_one}
 use Rattle.depth_law.proofs.Back.{few_parents}
 use Rattle.commit_rule.proofs.FileLemmas.{view-files, same-paths, paths-same, no-has_clash}
@@ -37,7 +38,6 @@ use Rattle.pair_model.proofs.RuledFiles.{IsRow}
 use Rattle.commit_rule.proofs.Handed.{bare-with, AreOld, AreRows, are-rows, file-rows, apart-rows}
 use Rattle.commit_rule.proofs.RuledLemmas.{IsId-root}
 use Rattle.next_law.proofs.LikeNew.{find-in}
-use Rattle.view_law.proofs.Lines.{line-bytes}
 
 -- ---- the author's line
 

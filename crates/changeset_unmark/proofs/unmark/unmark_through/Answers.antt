@@ -22,7 +22,7 @@ unmark_over-requires-clause-over c =
 
 pub returns-in_default : goal.returns-in_default
 returns-in_default c = λ blocks v over.
-    octopus-none c.args.known.now over.inside.history.added c.unmark_over.ensures.known blocks c.args.h.now v c.args.parents c.args.nodes.now over (changeset_marks c.args.marks) c.requires.date c.requires.many
+    octopus-none c.args.known.now over.inside.history.added blocks c.args.h.now v c.args.parents c.args.nodes.now over (changeset_marks c.args.marks) c.requires.date c.requires.many
     c.at-first.result.now c.at-first.ensures c.in_ok-made.field-0 (c.in_ok-made.ensures.found blocks v) c.in_default.is
 
 pub parent_of-manifest-requires : goal.parent_of-manifest-requires
@@ -37,12 +37,12 @@ parent_of-manifest-requires c =
 
 pub returns-then-not-branch : goal.returns-then-not-branch
 returns-then-not-branch c = λ blocks v over.
-    octopus-apart c.args.known.now over.inside.history.added c.unmark_over.ensures.known blocks c.args.h.now v c.args.parents c.args.nodes.now over (changeset_marks c.args.marks) c.requires.date c.requires.many
+    octopus-apart c.args.known.now over.inside.history.added blocks c.args.h.now v c.args.parents c.args.nodes.now over (changeset_marks c.args.marks) c.requires.date c.requires.many
     c.at-first.result.now c.at-first.ensures c.in_ok-made.field-0 (c.in_ok-made.ensures.found blocks v)
     c.in-Some.made c.in-Some.is c.parent_of-manifest.result c.parent_of-manifest.ensures.view c.in_ok-are_links_known.field-0 c.as_slice.result.now c.as_slice.ensures c.in_ok-are_links_known.ensures c.if-not-branch.true
 
 pub returns : goal.returns
 returns c = λ blocks v over.
-    octopus-some c.args.known.now over.inside.history.added c.unmark_over.ensures.known blocks c.args.h.now v c.args.parents c.args.nodes.now over (changeset_marks c.args.marks) c.requires.date c.requires.many
+    octopus-some c.args.known.now over.inside.history.added blocks c.args.h.now v c.args.parents c.args.nodes.now over (changeset_marks c.args.marks) c.requires.date c.requires.many
     c.at-first.result.now c.at-first.ensures c.in_ok-made.field-0 (c.in_ok-made.ensures.found blocks v)
-    c.in-Some.made c.in-Some.is c.parent_of-manifest.result c.parent_of-manifest.ensures.view c.in_ok-are_links_known.field-0 c.as_slice.result.now c.as_slice.ensures c.in_ok-are_links_known.ensures c.if-not-branch.false
+    c.in-Some.made c.in-Some.is c.parent_of-manifest.result c.parent_of-manifest.ensures.view c.in_ok-are_links_known.field-0 c.as_slice.result.now c.as_slice.ensures c.in_ok-are_links_known.ensures (λ b at. c.unmark_over.ensures.known blocks b over.inside.history.held at) c.if-not-branch.false

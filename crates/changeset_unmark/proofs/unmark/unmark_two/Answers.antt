@@ -40,8 +40,9 @@ returns c =
     let date = subst (λ (x : Changeset). IsDateOf x.date m) (sym inside.draft.fields) c.requires.date in
     let over = named-over k inside.history.added blocks d v inside found.0 ids found.1 in
     let ps = parents_of_changeset blocks v in
-    answer-over k inside.history.added c.unmark_over.ensures.known blocks d v ids d.p1 ps over m date
+    answer-over k inside.history.added blocks d v ids d.p1 ps over m date
     (no-count k inside.history.added blocks d v inside found.0 ids found.1 ∙ sym c.requires.few)
+    (λ b at. c.unmark_over.ensures.known blocks b inside.history.held at)
     (λ commit same. over-is k inside.history.added blocks d v inside found.0 ids found.1 commit same)
     (λ named. subst (Each (IsKnownAs (IsHeldView k.hg))) (sym (no-links k inside.history.added blocks d v inside found.0 ids found.1 (commit_named blocks ids v m) refl)) tt)
     (λ commit u. unmarked-parents k inside.history.added blocks d v inside (IsHeldView k.hg) m date c.requires.few commit u ids found.1)

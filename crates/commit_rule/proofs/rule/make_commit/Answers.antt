@@ -4,7 +4,7 @@ use Rattle.git_model.specs.Shape.{first_clash}
 use Rattle.git_model.specs.Residue.{carried, rows_with}
 use Rattle.tree_shape.specs.Sets.{IsFiles}
 use Rattle.commit_rule.specs.Parts.{residue_below}
-use Rattle.commit_rule.proofs.RuledLemmas.{rows-of, are-files, first-partner, second-partner, walks-through, files-right, files-apart, clear-too, made}
+use Rattle.commit_rule.proofs.RuledLemmas.{rows-of, are-files, first-partner, second-partner, walks-through, files-right, files-apart, clear-too, asked-of, made}
 use Rattle.commit_rule.proofs.rule.make_commit.Goals as goal
 
 pub files_of-requires : goal.files_of-requires
@@ -40,8 +40,12 @@ fields_of-requires-clause-second c = second-partner c.args.known.now c.requires.
 pub fresh_blobs-requires : goal.fresh_blobs-requires
 fresh_blobs-requires c = record { held = (c.requires.over.1.rows, rows-of c.args.known.now c.requires.over.0 c.args.h.now c.requires.over.1 c.requires.over.2); near = tt }
 
-pub returns : goal.returns
-returns c = λ blocks v over short.
+pub returns-clause-known : goal.returns-clause-known
+returns-clause-known c = λ blocks b held at.
+    asked-of c.args.known.now blocks c.args.h.now.p1 b c.tree_of_partner-old.result (c.tree_of_partner-old.ensures.tree blocks held) c.tree_of_partner-old.ensures.known at
+
+pub returns-clause-made : goal.returns-clause-made
+returns-clause-made c = λ blocks v over short.
     let k = c.args.known.now in
     let d = c.args.h.now in
     let old = c.tree_of_partner-old.result in

@@ -33,7 +33,7 @@ returns c =
     let dated : DateFound marks g.time g.tz (Some c.in-Some.date) =
     subst (DateFound marks g.time g.tz) c.in-Some.is (subst (λ (p : ℤ × ℤ). DateFound marks p.0 p.1 c.in_ok-date.field-0) (λ i. (t i, z i)) c.in_ok-date.ensures) in
     let user : c.in_ok-user.user ≡ user_by marks g.user = c.in_ok-user.ensures ∙ ap (λ (u : UserDate). user_by marks u.user) given in
-    let desc : c.in_ok-desc.desc ≡ description_of c.args.commit.now.message = c.in_ok-desc.ensures ∙ c.desc_of_message.ensures ∙ ap description_of (c.as_slice-3.ensures ∙ ap (λ x. x.message) c.commit.view_is) in
+    let desc : c.in_ok-desc.desc ≡ description_of c.args.commit.now.message = c.in_ok-desc.ensures.desc ∙ ap description_of (c.as_slice-3.ensures ∙ ap (λ x. x.message) c.commit.view_is) in
     let id : IsId c.args.manifest = search rules in
     let one : IsOneLine c.as_slice-2.result.now = c.is_line.ensures.0 (cc c.if-not-is_line.false) in (
       (λ i. record { manifest = c.args.manifest; user = user i; date = dated.0 i; files = c.args.files; description = desc i }),
@@ -42,6 +42,6 @@ returns c =
         user = subst IsOneLine (c.as_slice-2.ensures ∙ user) one;
         date = dated.1;
         files = c.are_lines.ensures.0 (cc c.if-not-are_lines.false);
-        description = subst IsBytes (c.as_slice-4.ensures ∙ desc) c.each_is_byte.ensures;
+        description = subst IsBytes desc c.in_ok-desc.ensures.bytes;
       },
     )

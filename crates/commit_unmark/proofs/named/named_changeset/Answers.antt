@@ -63,7 +63,7 @@ returns-in_default-3 c = λ blocks v over.
     let nodes = c.in_ok-nodes.ensures blocks v over in
     let ps = parents_of_commit blocks v in
     let marks = c.args.marks.now in
-    let list : IsMarkList marks = c.are_marks.ensures in
+    let list : IsMarkList marks = c.named_files.ensures.list in
     let first = same-parent k.hg c.in_ok-nodes.nodes.first ps.first c.parent_with-first.result nodes.first c.parent_with-first.ensures.view in
     let second = same-parent k.hg c.in_ok-nodes.nodes.second ps.second c.parent_with-second.result nodes.second c.parent_with-second.ensures.view in
     let found = c.in_ok-made.ensures.found ps v.rows (files-over k blocks d v over few marks _ _ first second) in
@@ -74,7 +74,7 @@ returns-in_default-3 c = λ blocks v over.
     subst (λ o. MatchOption o (AreManifestParents (manifest_by ps marks hs) hs → ⊥) (λ made. IsManifestWith made (manifest_by ps marks hs) hs × AreManifestParents (manifest_by ps marks hs) hs)) c.in-Some-2.is named in
     let listed = are-listed k blocks d v over few marks hs rows.1 list c.in-Some.made.rows (rows.3).values c.parent_with-first.result c.parent_with-second.result first second
     (c.parent_with-first.ensures.there ∙ ap (λ (x : Id). not (is_null x)) nodes.parents.0) (c.parent_with-second.ensures.there ∙ ap (λ (x : Id). not (is_null x)) nodes.parents.1) in
-    let files = c.in_ok-files.ensures ps hs listed in
+    let files = c.in_ok-files.ensures.files ps hs listed in
     let same : fields_by d.commit marks c.in-Some-2.manifest.node c.in_ok-files.files ≡ fields_by v.value marks (manifest_node (manifest_by ps marks hs) hs) (files_by ps marks hs) =
     λ i. fields_by (sym over.draft.value i) marks ((manifest.0).node i) (files i) in
     let fields = subst (λ (f : model.Changeset). MatchOption c.in_ok-changeset.field-0 (IsChangeset f → ⊥) (λ x. (changeset_value x ≡ f) × IsChangeset f)) same c.in_ok-changeset.ensures in
@@ -90,7 +90,7 @@ returns c = λ blocks v over.
     let nodes = c.in_ok-nodes.ensures blocks v over in
     let ps = parents_of_commit blocks v in
     let marks = c.args.marks.now in
-    let list : IsMarkList marks = c.are_marks.ensures in
+    let list : IsMarkList marks = c.named_files.ensures.list in
     let first = same-parent k.hg c.in_ok-nodes.nodes.first ps.first c.parent_with-first.result nodes.first c.parent_with-first.ensures.view in
     let second = same-parent k.hg c.in_ok-nodes.nodes.second ps.second c.parent_with-second.result nodes.second c.parent_with-second.ensures.view in
     let found = c.in_ok-made.ensures.found ps v.rows (files-over k blocks d v over few marks _ _ first second) in
@@ -101,7 +101,7 @@ returns c = λ blocks v over.
     subst (λ o. MatchOption o (AreManifestParents (manifest_by ps marks hs) hs → ⊥) (λ made. IsManifestWith made (manifest_by ps marks hs) hs × AreManifestParents (manifest_by ps marks hs) hs)) c.in-Some-2.is named in
     let listed = are-listed k blocks d v over few marks hs rows.1 list c.in-Some.made.rows (rows.3).values c.parent_with-first.result c.parent_with-second.result first second
     (c.parent_with-first.ensures.there ∙ ap (λ (x : Id). not (is_null x)) nodes.parents.0) (c.parent_with-second.ensures.there ∙ ap (λ (x : Id). not (is_null x)) nodes.parents.1) in
-    let files = c.in_ok-files.ensures ps hs listed in
+    let files = c.in_ok-files.ensures.files ps hs listed in
     let same : fields_by d.commit marks c.in-Some-2.manifest.node c.in_ok-files.files ≡ fields_by v.value marks (manifest_node (manifest_by ps marks hs) hs) (files_by ps marks hs) =
     λ i. fields_by (sym over.draft.value i) marks ((manifest.0).node i) (files i) in
     let fields = subst (λ (f : model.Changeset). MatchOption c.in_ok-changeset.field-0 (IsChangeset f → ⊥) (λ x. (changeset_value x ≡ f) × IsChangeset f)) same c.in_ok-changeset.ensures in

@@ -74,7 +74,7 @@ returns-in_default-clause-found c = λ ps ts over.
     (file-over known objects files c.args.first.now c.args.second.now ps ts over up marks i place c.loop-file.named before file at file_is)) in
     let none : NamesNone ps mark t = subst (λ o. MatchOption o (NamesNone ps mark t) (NamesRow known ps mark t)) c.in_default.is (c.in_ok-made.ensures.found ps t is) in
     none-named known objects files c.args.first.now c.args.second.now ps ts over up marks i place c.loop-file.named before file at file_is mark
-    (c.take_mark-mark.ensures.mark ∙ ap (λ (p : Bytes). mark_at p (drop place marks)) c.path.ensures) c.are_marks.ensures.1
+    (c.take_mark-mark.ensures.mark ∙ ap (λ (p : Bytes). mark_at p (drop place marks)) c.path.ensures) c.take_mark-mark.ensures.list.1
     c.take_mark-mark.new.place (c.take_mark-mark.ensures.rest ∙ ap (λ (p : Bytes). behind p (drop place marks)) c.path.ensures) none
 
 pub push-requires : goal.push-requires
@@ -123,9 +123,9 @@ loop-file-preserved c =
 pub returns-then-has_entry-clause-found : goal.returns-then-has_entry-clause-found
 returns-then-has_entry-clause-found c = λ ps ts over.
     left-over c.args.known.now.hg (c.args.c.now.fresh ++ c.args.known.now.git) c.args.c.now.files c.args.first.now c.args.second.now ps ts over c.as_slice-files.ensures.files.in_order c.args.marks.now
-    c.loop-file.file-index c.loop-file.place c.loop-file.named (c.loop-file.invariant.named ps ts over) (subst (λ l. length l ≤ c.loop-file.file-index) c.as_slice-files.ensures.rows (omega (arith, c.loop-file-test.false))) c.are_marks.ensures.1 (sym c.has_entry.ensures ∙ c.if-has_entry.true)
+    c.loop-file.file-index c.loop-file.place c.loop-file.named (c.loop-file.invariant.named ps ts over) (subst (λ l. length l ≤ c.loop-file.file-index) c.as_slice-files.ensures.rows (omega (arith, c.loop-file-test.false))) c.has_entry.ensures.list.1 (sym c.has_entry.ensures.entry ∙ c.if-has_entry.true)
 
 pub returns-clause-found : goal.returns-clause-found
 returns-clause-found c = λ ps ts over.
     all-named c.args.known.now.hg (c.args.c.now.fresh ++ c.args.known.now.git) c.args.c.now.files c.args.first.now c.args.second.now ps ts over c.as_slice-files.ensures.files.in_order c.args.marks.now
-    c.loop-file.file-index c.loop-file.place c.loop-file.named (c.loop-file.invariant.named ps ts over) (subst (λ l. length l ≤ c.loop-file.file-index) c.as_slice-files.ensures.rows (omega (arith, c.loop-file-test.false))) c.are_marks.ensures.1 (sym c.has_entry.ensures ∙ c.if-has_entry.false)
+    c.loop-file.file-index c.loop-file.place c.loop-file.named (c.loop-file.invariant.named ps ts over) (subst (λ l. length l ≤ c.loop-file.file-index) c.as_slice-files.ensures.rows (omega (arith, c.loop-file-test.false))) c.has_entry.ensures.list.1 (sym c.has_entry.ensures.entry ∙ c.if-has_entry.false)

@@ -19,6 +19,7 @@ pub chunks-init : goal.chunks-init
 chunks-init g c = record {
   reading = rw (c.in_ok-magic.ensures.offset, c.new-gathered.ensures) (reading_begins c.args.store _ _ c.in_ok-magic.ensures.bytes c.in_ok-magic.ensures.judged);
   grown = rw c.new-gathered.ensures ([], refl, refl, tt);
+  added = rw c.new-gathered.ensures (λ added. added);
   bytes = read_begins _ _ c.in_ok-magic.ensures.bytes;
   fit = tt;
   last = rw c.new-gathered.ensures tt;
@@ -50,6 +51,7 @@ chunks-preserved g c =
           (rw c.most.ensures at c.in_ok-lent.ensures.judged) (is_small (place_value c.in-Some.place) _ (rw c.most.ensures at c.in_ok-lent.ensures.field))
           (rw (c.of.ensures, c.deref.ensures.value, c.offset-at.ensures.value) at c.in_ok-next.ensures.steps));
       grown = steps-grown _ _ _ _ _ _ c.chunks.invariant.grown c.in_ok-next.ensures.steps;
+      added = λ before. c.in_ok-next.ensures.added (c.chunks.invariant.added before);
       bytes = read_goes_on _ _ _ (payload_of c.in_ok-lent.lent c.next_text.new.into.items) c.chunks.invariant.bytes c.in_ok-lent.ensures.bytes (rw (c.of.ensures, c.deref.ensures.value) at c.in_ok-next.ensures.bytes);
       fit = c.in_ok-next.ensures.fit;
       last = c.in_ok-next.ensures.last;
@@ -67,6 +69,9 @@ returns-in_err-finish-clause-reads g c =
 
 pub returns-clause-grown : goal.returns-clause-grown
 returns-clause-grown g c = c.chunks.invariant.grown
+
+pub returns-clause-added : goal.returns-clause-added
+returns-clause-added g c = c.chunks.invariant.added
 
 pub returns-clause-bytes : goal.returns-clause-bytes
 returns-clause-bytes g c = read_ends _ _ c.chunks.invariant.bytes c.in_ok-finish.ensures.end.0

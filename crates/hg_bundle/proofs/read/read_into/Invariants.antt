@@ -1,5 +1,6 @@
 use Rattle.std.proofs.Common.{◌≡◌, ◌≤◌, ◌-◌, ◌^◌, option_map}
 use Rattle.hg_model.specs.Reading.{sum_limit}
+use Rattle.hg_store.specs.Known.{AreAdded}
 use Rattle.hg_bundle.specs.Place.{place_value}
 use Rattle.hg_bundle.specs.Steps.{HasFitPlace, HasLastAt}
 use Rattle.hg_bundle.proofs.ReadBytes.{ReadBytes}
@@ -11,6 +12,7 @@ abbrev pub invariant-chunks : goal.invariant-chunks
 invariant-chunks g l = record {
   reading : Reading (g.S.Source.left l.fn.src) (g.S.Source.left l.src) l.fn.store l.gathered l.reader (option_map place_value l.next);
   grown : Grown l.fn.store l.gathered;
+  added : AreAdded l.fn.store → AreAdded l.gathered.store;
   bytes : ReadBytes (g.S.Source.left l.fn.src) (g.S.Source.left l.src);
   fit : HasFitPlace (option_map place_value l.next);
   last : HasLastAt l.gathered.store l.gathered.last (option_map place_value l.next);

@@ -2,16 +2,15 @@ use Rattle.std.proofs.Common.{[], List, sym, subst}
 use Rattle.text_model.specs.Id.{Id}
 use Rattle.view_model.specs.Held.{AreChangesetsHeld}
 use Rattle.view_model.specs.Dump.{brought_by}
-use Rattle.hg_dump.proofs.BroughtLemmas.{are-brought}
 use Rattle.hg_dump.proofs.bundle.is_dump.Goals as goal
 
 pub is_bundle-requires : goal.is_bundle-requires
 is_bundle-requires c =
     let hs = c.requires.0 in
     let are = c.requires.1 in
-    (brought_by [] hs, are-brought c.args.store.now c.args.order.now [] hs c.in_ok-brought.brought c.check.ensures are (c.in_ok-brought.ensures hs (subst (λ (l : List Id). AreChangesetsHeld c.args.store.now l hs) (sym c.as_slice.ensures) are)))
+    (brought_by [] hs, c.in_ok-brought.ensures.brought hs (subst (λ (l : List Id). AreChangesetsHeld c.args.store.now l hs) (sym c.as_slice.ensures) are))
 
 pub returns : goal.returns
 returns c = λ hs are.
-    let brought = are-brought c.args.store.now c.args.order.now [] hs c.in_ok-brought.brought c.check.ensures are (c.in_ok-brought.ensures hs (subst (λ (l : List Id). AreChangesetsHeld c.args.store.now l hs) (sym c.as_slice.ensures) are)) in
+    let brought = c.in_ok-brought.ensures.brought hs (subst (λ (l : List Id). AreChangesetsHeld c.args.store.now l hs) (sym c.as_slice.ensures) are) in
     (c.is_bundle.ensures.yes (brought_by [] hs) brought, c.is_bundle.ensures.no (brought_by [] hs) brought)

@@ -31,5 +31,5 @@ returns-clause-entry c = λ r is.
     let len = rw c.as_slice.ensures at c.delta_len-size.ensures.len in
     let pair = c.parents-p.result in
     entry-written c.args.store.now (group_value c.args.group) c.args.reference.now r c.args.base_len c.delta_len-size.result pair.0 pair.1
-    c.args.out.now c.put_header.new.out c.replace_into.new.out c.unwrap-text.result.now is at c.parents-p.ensures
+    c.args.out.now c.put_header.new.out c.replace_into.new.out c.unwrap-text.result.now is at c.parents-p.ensures.parents
     c.in_ok-put_header.ensures.ids len c.in_ok-put_header.ensures.bytes c.in_ok-replace_into.ensures.ok

@@ -12,35 +12,35 @@ parents-p-requires c =
     let o = of-at known group c.args.references.now c.requires.0 c.requires.1 0 reference (sym c.in-Some.ensures.value) in
     of-known known group reference o.revision o.is_of
 
-pub returns-then-is_null : goal.returns-then-is_null
-returns-then-is_null c = λ rs are.
+pub returns-then-is_null-clause-len : goal.returns-then-is_null-clause-len
+returns-then-is_null-clause-len c = λ rs are.
     let known = c.args.store.now in
     let group = group_value c.args.group in
     let reference = c.in-Some.reference.now in
     let pair = c.parents-p.result in
     let o = of-at known group c.args.references.now rs are 0 reference (sym c.in-Some.ensures.value) in
-    sym (base-of_first known group reference rs o pair.0 pair.1 c.parents-p.ensures ∙ base-null known group pair.0 (sym c.is_null.ensures ∙ c.if-is_null.true))
+    sym (base-of_first known group reference rs o pair.0 pair.1 c.parents-p.ensures.parents ∙ base-null known group pair.0 (sym c.is_null.ensures ∙ c.if-is_null.true))
 
 pub overflow_cast-result : goal.overflow_cast-result
 overflow_cast-result c =
     omega (arith, text-short c.args.store.now (group_value c.args.group) c.parents-p.result.0 c.in-Some-revision_text.text.now c.in-Some-revision_text.ensures.known (sym c.in-Some-revision_text.ensures.value))
 
-pub returns-in-Some-revision_text : goal.returns-in-Some-revision_text
-returns-in-Some-revision_text c = λ rs are.
+pub returns-in-Some-revision_text-clause-len : goal.returns-in-Some-revision_text-clause-len
+returns-in-Some-revision_text-clause-len c = λ rs are.
     let known = c.args.store.now in
     let group = group_value c.args.group in
     let reference = c.in-Some.reference.now in
     let pair = c.parents-p.result in
     let o = of-at known group c.args.references.now rs are 0 reference (sym c.in-Some.ensures.value) in
-    sym (base-of_first known group reference rs o pair.0 pair.1 c.parents-p.ensures
+    sym (base-of_first known group reference rs o pair.0 pair.1 c.parents-p.ensures.parents
     ∙ base-text known group pair.0 c.in-Some-revision_text.text.now (sym c.is_null.ensures ∙ c.if-is_null.false) (sym c.in-Some-revision_text.ensures.value))
 
-pub returns-in-None : goal.returns-in-None
-returns-in-None c = λ rs are.
+pub returns-in-None-clause-len : goal.returns-in-None-clause-len
+returns-in-None-clause-len c = λ rs are.
     let known = c.args.store.now in
     let group = group_value c.args.group in
     let reference = c.in-Some.reference.now in
     let pair = c.parents-p.result in
     let o = of-at known group c.args.references.now rs are 0 reference (sym c.in-Some.ensures.value) in
-    sym (base-of_first known group reference rs o pair.0 pair.1 c.parents-p.ensures
+    sym (base-of_first known group reference rs o pair.0 pair.1 c.parents-p.ensures.parents
     ∙ base-unknown known group pair.0 (sym c.is_null.ensures ∙ c.if-is_null.false) (sym c.in-None.ensures.value))

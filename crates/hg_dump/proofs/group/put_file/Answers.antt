@@ -10,6 +10,7 @@ put_chunk-requires c =
     let known = c.args.store.now in
     let path = c.args.path.now in
     let references = c.args.references.now in
-    let some = some-held known (FilesAt path) references c.requires.0 c.requires.1 (positive _ (sym c.if-is_empty.ensures)) in
-    let size = held-path known path some.revision c.check.ensures some.is_held in
+    let some = positive _ (sym c.if-is_empty.ensures) in
+    let first = some-held known (FilesAt path) references c.requires.0 c.requires.1 some in
+    let size = held-path known path first.revision (c.first_base_len-base_len.ensures.known some) first.is_held in
     record { some = size.0; limit = omega (arith, size.1) }

@@ -38,7 +38,7 @@ nothing-left rs i size h = ap (λ (l : List Revision). length (chunks_over size 
 pub loop-reference-init : goal.loop-reference-init
 loop-reference-init c = record {
   small = omega arith;
-  counted = λ rs are. ap (λ (n : ℕ). min (4 + length (chunks_over n rs)) 18446744073709551615) (c.first_base_len-base_len.ensures rs are);
+  counted = λ rs are. ap (λ (n : ℕ). min (4 + length (chunks_over n rs)) 18446744073709551615) (c.first_base_len-base_len.ensures.len rs are);
 }
 
 pub returns : goal.returns

@@ -40,7 +40,7 @@ returns-in_err-delta c = rw c.from_residual.ensures (λ r is.
     let pair = c.parents-p.result in
     let header = big_bytes 4 (c.delta_len.result + 84) ++ ref.node ++ pair.0 ++ pair.1 ++ ref.link in
     subst (λ (f : Bytes). LacksFront bytes f)
-    (entry-parts c.args.store.now (group_value c.args.group) ref r c.args.base_len c.delta_len.result pair.0 pair.1 text is at c.parents-p.ensures c.in_err-delta.ensures.ids c.delta_len.ensures.len)
+    (entry-parts c.args.store.now (group_value c.args.group) ref r c.args.base_len c.delta_len.result pair.0 pair.1 text is at c.parents-p.ensures.parents c.in_err-delta.ensures.ids c.delta_len.ensures.len)
     (lacks-first bytes header (whole_delta c.args.base_len text) c.in_err-delta.ensures.behind))
 
 pub returns-in_err-rest : goal.returns-in_err-rest
@@ -52,7 +52,7 @@ returns-in_err-rest c = rw c.from_residual-in_err-rest.ensures (λ r is.
     let pair = c.parents-p.result in
     let header = big_bytes 4 (c.delta_len.result + 84) ++ ref.node ++ pair.0 ++ pair.1 ++ ref.link in
     subst (λ (f : Bytes). LacksFront bytes f)
-    (entry-parts c.args.store.now (group_value c.args.group) ref r c.args.base_len c.delta_len.result pair.0 pair.1 text is at c.parents-p.ensures c.in_ok-delta.ensures.ids c.delta_len.ensures.len)
+    (entry-parts c.args.store.now (group_value c.args.group) ref r c.args.base_len c.delta_len.result pair.0 pair.1 text is at c.parents-p.ensures.parents c.in_ok-delta.ensures.ids c.delta_len.ensures.len)
     (lacks-second bytes header (whole_delta c.args.base_len text) c.in_ok-delta.delta.now c.in_ok-delta.ensures.behind c.in_err-rest.ensures))
 
 pub returns : goal.returns
@@ -65,7 +65,7 @@ returns c = λ r is.
     let header = big_bytes 4 (c.delta_len.result + 84) ++ ref.node ++ pair.0 ++ pair.1 ++ ref.link in
     let rest = c.in_ok-rest.rest.now in (
       subst (λ (f : Bytes). HasFront bytes f rest)
-          (entry-parts c.args.store.now (group_value c.args.group) ref r c.args.base_len c.delta_len.result pair.0 pair.1 text is at c.parents-p.ensures c.in_ok-delta.ensures.ids c.delta_len.ensures.len)
+          (entry-parts c.args.store.now (group_value c.args.group) ref r c.args.base_len c.delta_len.result pair.0 pair.1 text is at c.parents-p.ensures.parents c.in_ok-delta.ensures.ids c.delta_len.ensures.len)
           (has-both bytes header (whole_delta c.args.base_len text) c.in_ok-delta.delta.now rest c.in_ok-delta.ensures.behind c.in_ok-rest.ensures),
       ap (λ (t : Bytes). length t) (entry-text c.args.store.now (group_value c.args.group) ref r text is at),
     )

@@ -24,8 +24,9 @@ strip_chunk-requires c =
     let known = c.args.store.now in
     let path = c.args.path.now in
     let references = c.args.references.now in
-    let some = some-held known (FilesAt path) references c.requires.0 c.requires.1 (positive _ (sym c.if-is_empty.ensures)) in
-    let size = held-path known path some.revision c.check.ensures some.is_held in
+    let some = positive _ (sym c.if-is_empty.ensures) in
+    let first = some-held known (FilesAt path) references c.requires.0 c.requires.1 some in
+    let size = held-path known path first.revision (c.first_base_len-base_len.ensures.known some) first.is_held in
     record { some = size.0; limit = omega (arith, size.1) }
 
 pub returns-in_err-entries : goal.returns-in_err-entries
@@ -44,6 +45,6 @@ returns c = λ rs are.
     let path = c.args.path.now in
     let bytes = c.args.bytes.now in
     let f : FileGroup = record { path = path; entries = written_group known (FilesAt path) rs } in
-    subst (λ (x : Bytes). IsBehind bytes x c.strip_group.result)
+    subst (λ (x : Bytes). IsBehind bytes x c.strip_entries.result)
     (part-some f rs (omega (arith, positive _ (sym c.if-is_empty.ensures), of-length known (FilesAt path) c.args.references.now rs are)))
-    (behind-both bytes (chunk_text path) (group_text f.entries) c.in_ok-entries.entries.now c.strip_group.result c.in_ok-entries.ensures (c.strip_group.ensures rs are))
+    (behind-both bytes (chunk_text path) (group_text f.entries) c.in_ok-entries.entries.now c.strip_entries.result c.in_ok-entries.ensures (c.strip_entries.ensures rs are))

@@ -16,7 +16,7 @@ overflow_sub-behind c =
     let e = c.get-entry.result.now in
     let at = slice_get-get_or c.args.entries.now i c.entry-item.result c.loop-entry-test.true ∙ ap Some (sym c.entry-item.is ∙ sym c.get-entry.ensures) in
     let measures : IsId e.node → c.line_len-behind.result ≡ length (entry_text (manifest_entry e)) =
-    λ is. c.line_len-behind.ensures e.node is ∙ ap (λ (p : List ℕ). length (entry_text (record { path = p; node = e.node; flag = file_flag e.flag }))) c.as_slice.ensures in
+    λ is. c.line_len-behind.ensures ∙ ap (λ (p : List ℕ). length (entry_text (record { path = p; node = e.node; flag = file_flag e.flag }))) c.as_slice.ensures in
     omega (arith, line_behind c.args.entries.now i e at c.requires.1.1 rest c.line_len-behind.result measures, c.loop-entry.invariant rest c.requires.1)
 
 pub loop-entry-preserved : goal.loop-entry-preserved
@@ -25,7 +25,7 @@ loop-entry-preserved c = λ rest starts.
     let e = c.get-entry.result.now in
     let at = slice_get-get_or c.args.entries.now i c.entry-item.result c.loop-entry-test.true ∙ ap Some (sym c.entry-item.is ∙ sym c.get-entry.ensures) in
     let measures : IsId e.node → c.line_len-behind.result ≡ length (entry_text (manifest_entry e)) =
-    λ is. c.line_len-behind.ensures e.node is ∙ ap (λ (p : List ℕ). length (entry_text (record { path = p; node = e.node; flag = file_flag e.flag }))) c.as_slice.ensures in
+    λ is. c.line_len-behind.ensures ∙ ap (λ (p : List ℕ). length (entry_text (record { path = p; node = e.node; flag = file_flag e.flag }))) c.as_slice.ensures in
     omega (arith, line_behind c.args.entries.now i e at starts.1 rest c.line_len-behind.result measures, c.loop-entry.invariant rest starts)
 
 pub returns : goal.returns

@@ -4,7 +4,7 @@ use Rattle.text_model.specs.Id.{IsId, hex}
 use Rattle.text_model.proofs.HexLemmas.{length-hex}
 use Rattle.hg_manifest.proofs.lines.line_len.Goals as goal
 
-line_length : (path letter node : Bytes) → IsId node → length path + length letter + 42 ≡ length (path ++ nul ∷ hex node ++ letter ++ lf ∷ [])
+line_length : (path letter node : Bytes) → IsId node → length path + 40 + length letter + 2 ≡ length (path ++ nul ∷ hex node ++ letter ++ lf ∷ [])
 line_length path letter node is =
     omega (
       arith,
@@ -16,5 +16,5 @@ line_length path letter node is =
     )
 
 pub returns : goal.returns
-returns c node is =
-    ap (λ (letter : Bytes). length c.args.path.now + length letter + 42) c.flag_bytes.ensures ∙ line_length c.args.path.now _ node is
+returns c =
+    ap (λ (letter : Bytes). length c.args.path.now + 40 + length letter + 2) c.flag_bytes.ensures ∙ line_length c.args.path.now _ c.args.node.now c.bytes.ensures.id

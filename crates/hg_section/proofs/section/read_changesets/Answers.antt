@@ -24,4 +24,4 @@ returns c =
     let nodes = rw c.in-Some-2.is at c.in_ok-nodes.ensures in
     let few : length c.in-Some-2.nodes ≤ changeset_limit = omega (arith, c.if-len-gt-CHANGESET_LIMIT.false, c.len.ensures) in
     let written = rw (c.if-not-branch.false, c.as_slice.ensures) at c.in_ok-is_written.ensures.yes in
-    is-section c.args.bytes.now c.in-Some.store c.in-Some.arrivals (rw c.in-Some.is at c.in_ok-store.ensures) c.in_ok-is_written.ensures.added nodes.0 c.in-Some-2.nodes nodes.1 few written.0 written.1
+    is-section c.args.bytes.now c.in-Some.store c.in-Some.arrivals (rw c.in-Some.is at c.in_ok-store.ensures) nodes.0 c.in-Some-2.nodes nodes.1 few written.0 written.1

@@ -4,6 +4,7 @@ use Rattle.state_model.specs.Kept.{kept_of, empty_state}
 use Rattle.saved_model.specs.Step.{OfStream, Refuses}
 use Rattle.pull_outcome.specs.Refused.{IsRefusedBy}
 use Rattle.pull_engine.specs.Read.{IsPulled}
+use Rattle.pull_engine.proofs.Empty.{empty-is-read}
 use Rattle.make_engine.specs.Taken.{RefusesAlone}
 use Rattle.make_engine.proofs.NameLemmas.{git-named}
 use Rattle.make_engine.proofs.TakenLemmas.{taken, no-read, refused-alone}
@@ -11,7 +12,7 @@ use Rattle.make_engine.proofs.taken.state_of_stream.Goals as goal
 
 pub returns-in-Ok-clause-taken : goal.returns-in-Ok-clause-taken
 returns-in-Ok-clause-taken g c =
-    let read = c.empty_is_read.ensures c.empty.result c.empty.ensures.state c.empty.ensures.revisions c.empty.ensures.objects c.empty.ensures.tags c.empty.ensures.names in
+    let read = empty-is-read c.empty.result c.empty.ensures.state c.empty.ensures.revisions c.empty.ensures.objects c.empty.ensures.tags c.empty.ensures.names in
     taken (OfStream c.args.stream.now) c.in-Ok.pulled c.args.steps.now c.pull_git.new.steps
     (subst (λ (b : Bytes). IsPulled empty_state (OfStream b) c.in-Ok.pulled) c.new.ensures (c.in-Ok.ensures.pulled empty_state read)) c.in-Ok.ensures.steps
 
@@ -20,7 +21,7 @@ of_pull-requires g c = record { no_read = no-read c.in-Err.fault c.in-Err.ensure
 
 pub returns-in-Err-clause-refused : goal.returns-in-Err-clause-refused
 returns-in-Err-clause-refused g c =
-    let read = c.empty_is_read.ensures c.empty.result c.empty.ensures.state c.empty.ensures.revisions c.empty.ensures.objects c.empty.ensures.tags c.empty.ensures.names in
+    let read = empty-is-read c.empty.result c.empty.ensures.state c.empty.ensures.revisions c.empty.ensures.objects c.empty.ensures.tags c.empty.ensures.names in
     let due = subst (λ (b : Bytes). IsRefusedBy (Refuses (kept_of empty_state) (OfStream b)) c.in-Err.fault) c.new.ensures (c.in-Err.ensures.refused empty_state read) in
     rw c.of_pull.ensures (refused-alone (RefusesAlone (OfStream c.args.stream.now)) c.in-Err.fault due)
 

@@ -3,4 +3,4 @@ use Rattle.mark_code.proofs.ResidueLemmas.{rises-push}
 use Rattle.mark_code.proofs.residue_text.take_word.Goals as goal
 
 pub push-requires : goal.push-requires
-push-requires c = rises-push c.args.residue.now c.in-Some.item c.items_rise.ensures (sym c.if-not-fits.ensures.fits)
+push-requires c = rises-push c.args.residue.now c.in-Some.item c.if-not-fits.ensures.rise (sym c.if-not-fits.ensures.fits)

@@ -15,14 +15,14 @@ pub returns-then-is_empty-clause-ok : goal.returns-then-is_empty-clause-ok
 returns-then-is_empty-clause-ok g c = λ blocks v h is.
     let k = c.args.known.now in
     let bare = no-headers k blocks c.args.c.now v is.over c.is_empty.result (c.is_empty.ensures ∙ ap (λ d. length (d.commit).headers == 0) c.c.view_is) c.if-is_empty.true in
-    (h, chosen k blocks v c.in_ok-unmarked_block.field-0 h (plain-choice k blocks is.over.history v h is.unmarks bare) (c.in_ok-unmarked_block.ensures.ok blocks v h is.unmarks is.made))
+    (h, chosen k blocks v c.in_ok-unmarked_block.field-0 h (plain-choice k blocks is.over.history v h is.unmarks bare) (c.in_ok-unmarked_block.ensures.ok k blocks v h is.over.history.added is.unmarks is.made))
 
 pub returns-in_err-unmarked_block-clause-refused : goal.returns-in_err-unmarked_block-clause-refused
 returns-in_err-unmarked_block-clause-refused g c = err-is _ c.from_residual.result (choice_fault c.in_err-unmarked_block.field-0.0) c.from_residual.ensures.1 (λ blocks v h is.
     let k = c.args.known.now in
     let bare = no-headers k blocks c.args.c.now v is.over c.is_empty.result (c.is_empty.ensures ∙ ap (λ d. length (d.commit).headers == 0) c.c.view_is) c.if-is_empty.true in
     refused k blocks v h c.in_err-unmarked_block.field-0.0 (plain-choice k blocks is.over.history v h is.unmarks bare)
-    (λ e fits. c.in_err-unmarked_block.ensures.limit (ap Err e) h is.made (Each-rest ChangesetFits (links_of blocks v) (h ∷ []) fits).0))
+    (λ e fits. c.in_err-unmarked_block.ensures.limit (ap Err e) k.hg h is.over.history.added is.made (Each-rest ChangesetFits (links_of blocks v) (h ∷ []) fits).0))
 
 pub depth_of_commit-requires : goal.depth_of_commit-requires
 depth_of_commit-requires g c =
@@ -51,7 +51,7 @@ returns-in_ok-unmarked_block-in-Odd-clause-ok g c = λ blocks v h is.
     let k = c.args.known.now in
     let not = not-plain k blocks c.args.c.now v is.over c.is_empty.result (c.is_empty.ensures ∙ ap (λ d. length (d.commit).headers == 0) c.c.view_is) c.if-is_empty.false in
     let depth = subst (IsDepth k blocks (OfGit v)) c.in-Odd.is (c.in_ok-depth_of_commit.ensures.depth blocks v h is not) in
-    (h, chosen k blocks v _ h (odd-choice k blocks is.over.history v h is.unmarks depth.0 depth.1 depth.2.0 depth.2.1 depth.3) (c.in_ok-unmarked_block-in-Odd.ensures.ok blocks v h is.unmarks is.made))
+    (h, chosen k blocks v _ h (odd-choice k blocks is.over.history v h is.unmarks depth.0 depth.1 depth.2.0 depth.2.1 depth.3) (c.in_ok-unmarked_block-in-Odd.ensures.ok k blocks v h is.over.history.added is.unmarks is.made))
 
 pub returns-in_err-unmarked_block-in-Odd-clause-refused : goal.returns-in_err-unmarked_block-in-Odd-clause-refused
 returns-in_err-unmarked_block-in-Odd-clause-refused g c = err-is _ c.from_residual-in_err-unmarked_block-in-Odd.result (choice_fault c.in_err-unmarked_block-in-Odd.field-0.0) c.from_residual-in_err-unmarked_block-in-Odd.ensures.1 (λ blocks v h is.
@@ -59,7 +59,7 @@ returns-in_err-unmarked_block-in-Odd-clause-refused g c = err-is _ c.from_residu
     let not = not-plain k blocks c.args.c.now v is.over c.is_empty.result (c.is_empty.ensures ∙ ap (λ d. length (d.commit).headers == 0) c.c.view_is) c.if-is_empty.false in
     let depth = subst (IsDepth k blocks (OfGit v)) c.in-Odd.is (c.in_ok-depth_of_commit.ensures.depth blocks v h is not) in
     refused k blocks v h c.in_err-unmarked_block-in-Odd.field-0.0 (odd-choice k blocks is.over.history v h is.unmarks depth.0 depth.1 depth.2.0 depth.2.1 depth.3)
-    (λ e fits. c.in_err-unmarked_block-in-Odd.ensures.limit (ap Err e) h is.made (Each-rest ChangesetFits (links_of blocks v) (h ∷ []) fits).0))
+    (λ e fits. c.in_err-unmarked_block-in-Odd.ensures.limit (ap Err e) k.hg h is.over.history.added is.made (Each-rest ChangesetFits (links_of blocks v) (h ∷ []) fits).0))
 
 pub returns-in-TooDeep-clause-refused : goal.returns-in-TooDeep-clause-refused
 returns-in-TooDeep-clause-refused g c = λ blocks v h is.

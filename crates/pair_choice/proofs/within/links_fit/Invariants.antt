@@ -5,4 +5,4 @@ use Rattle.pair_choice.proofs.within.links_fit.Given as goal
 
 -- the links so far are within their limits
 abbrev pub invariant-loop-link : goal.invariant-loop-link
-invariant-loop-link l = Each (IsWithin l.known.hg) (take l.link-index l.links)
+invariant-loop-link l = Each IsWithin (take l.link-index l.links)

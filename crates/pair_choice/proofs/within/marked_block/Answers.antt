@@ -15,13 +15,13 @@ returns-in_err-last-clause-limit c = λ e blocks v over each.
 
 pub returns-then-not-branch-clause-limit : goal.returns-then-not-branch-clause-limit
 returns-then-not-branch-clause-limit c = λ e blocks v over each.
-    true≢false (sym ((c.in_ok-links_fit.ensures (octopus.links_of blocks v) (c.in_ok-links.ensures blocks v over)).1 (Each-front ChangesetFits (octopus.links_of blocks v) (mark.mark_changeset blocks v ∷ []) each)) ∙ c.if-not-branch.true)
+    true≢false (sym ((c.in_ok-links_fit.ensures _ (octopus.links_of blocks v) over.history.added (c.in_ok-links.ensures blocks v over)).1 (Each-front ChangesetFits (octopus.links_of blocks v) (mark.mark_changeset blocks v ∷ []) each)) ∙ c.if-not-branch.true)
 
 pub returns-clause-ok : goal.returns-clause-ok
 returns-clause-ok c = λ blocks v over.
     let marked = c.in_ok-last.ensures.ok blocks v over in
     let links = c.in_ok-links.ensures blocks v over in
-    let fit = (c.in_ok-links_fit.ensures (octopus.links_of blocks v) links).0 c.if-not-branch.false in
+    let fit = (c.in_ok-links_fit.ensures _ (octopus.links_of blocks v) over.history.added links).0 c.if-not-branch.false in
     record {
       made = marked.0;
       links = links;

@@ -13,7 +13,7 @@ returns-in-None-clause-ok c = λ x a.
     let v = c.args.row.now in
     let path = c.as_slice-path.ensures ∙ ap (λ (w : RowValue). w.path) c.row.view_is in
     let node = ap (λ (w : RowValue). w.node) c.row.view_is in
-    file-known c.args.hg.now c.args.fresh.now v c.args.link x a c.check.ensures (sym (c.in-None.ensures ∙ (λ i. revision_of c.args.fresh.now (FilesAt (path i)) (node i))))
+    file-known c.args.hg.now c.args.fresh.now v c.args.link x a (sym (c.in-None.ensures ∙ (λ i. revision_of c.args.fresh.now (FilesAt (path i)) (node i))))
 
 pub add_revision-requires-clause-ready : goal.add_revision-requires-clause-ready
 add_revision-requires-clause-ready c =

@@ -21,35 +21,35 @@ pub add_manifest-requires : goal.add_manifest-requires
 add_manifest-requires c =
     let base = c.requires.asked.0 in
     let k = c.requires.asked.1 in
-    record { asked = (base, k, asked-over base c.args.hg.now c.args.d.now c.args.node c.args.text k c.requires.asked.2 c.add_revision.new.hg c.in_ok-add_revision.ensures.ok); lines = c.requires.lines }
+    record { asked = (base, k, asked-over base c.args.hg.now c.args.d.now c.args.node c.args.text k c.requires.asked.2 c.add_revision.new.hg c.in_ok-add_revision.ensures.ok c.in_ok-add_revision.ensures.added); lines = c.requires.lines }
 
 pub returns-in_err-add_manifest-clause-collision : goal.returns-in_err-add_manifest-clause-collision
 returns-in_err-add_manifest-clause-collision c = λ is base k a.
     let p = err_from_is_err_and c.from_residual-in_err-add_manifest.result c.from_residual-in_err-add_manifest.ensures.1 in
     let came = c.in_ok-add_revision.ensures.ok in
     bad-manifest base c.args.hg.now c.args.d.now c.args.node c.args.text k a c.add_revision.new.hg came
-    (c.in_err-add_manifest.ensures.collision (errs _ _ (ap Err (sym p.2) ∙ sym p.1 ∙ is)) base k (asked-over base c.args.hg.now c.args.d.now c.args.node c.args.text k a c.add_revision.new.hg came))
+    (c.in_err-add_manifest.ensures.collision (errs _ _ (ap Err (sym p.2) ∙ sym p.1 ∙ is)) base k (asked-over base c.args.hg.now c.args.d.now c.args.node c.args.text k a c.add_revision.new.hg came c.in_ok-add_revision.ensures.added))
 
 pub add_files-requires : goal.add_files-requires
 add_files-requires c =
     let base = c.requires.asked.0 in
     let k = c.requires.asked.1 in
-    let over = asked-over base c.args.hg.now c.args.d.now c.args.node c.args.text k c.requires.asked.2 c.add_revision.new.hg c.in_ok-add_revision.ensures.ok in
-    record { asked = (base, k, asked-on base c.add_revision.new.hg c.args.d.now c.args.node k over c.add_manifest.new.hg _ (c.in_ok-add_manifest.ensures.ok base k over)) }
+    let over = asked-over base c.args.hg.now c.args.d.now c.args.node c.args.text k c.requires.asked.2 c.add_revision.new.hg c.in_ok-add_revision.ensures.ok c.in_ok-add_revision.ensures.added in
+    record { asked = (base, k, asked-on base c.add_revision.new.hg c.args.d.now c.args.node k over c.add_manifest.new.hg _ (c.in_ok-add_manifest.ensures.ok base k over) c.in_ok-add_manifest.ensures.added) }
 
 pub returns-clause-ok : goal.returns-clause-ok
 returns-clause-ok c =
     on_ok_weaker c.add_files.result (λ done base k a.
     let came = c.in_ok-add_revision.ensures.ok in
-    let over = asked-over base c.args.hg.now c.args.d.now c.args.node c.args.text k a c.add_revision.new.hg came in
+    let over = asked-over base c.args.hg.now c.args.d.now c.args.node c.args.text k a c.add_revision.new.hg came c.in_ok-add_revision.ensures.added in
     let came2 = c.in_ok-add_manifest.ensures.ok base k over in
     all-came base c.args.hg.now c.args.d.now c.args.node c.args.text k a c.add_revision.new.hg came c.add_manifest.new.hg came2 c.add_files.new.hg
-    (done base k (asked-on base c.add_revision.new.hg c.args.d.now c.args.node k over c.add_manifest.new.hg _ came2))) c.add_files.ensures.ok
+    (done base k (asked-on base c.add_revision.new.hg c.args.d.now c.args.node k over c.add_manifest.new.hg _ came2 c.in_ok-add_manifest.ensures.added))) c.add_files.ensures.ok
 
 pub returns-clause-collision : goal.returns-clause-collision
 returns-clause-collision c = λ is base k a.
     let came = c.in_ok-add_revision.ensures.ok in
-    let over = asked-over base c.args.hg.now c.args.d.now c.args.node c.args.text k a c.add_revision.new.hg came in
+    let over = asked-over base c.args.hg.now c.args.d.now c.args.node c.args.text k a c.add_revision.new.hg came c.in_ok-add_revision.ensures.added in
     let came2 = c.in_ok-add_manifest.ensures.ok base k over in
     bad-files base c.args.hg.now c.args.d.now c.args.node c.args.text k a c.add_revision.new.hg came c.add_manifest.new.hg came2
-    (c.add_files.ensures.collision is base k (asked-on base c.add_revision.new.hg c.args.d.now c.args.node k over c.add_manifest.new.hg _ came2))
+    (c.add_files.ensures.collision is base k (asked-on base c.add_revision.new.hg c.args.d.now c.args.node k over c.add_manifest.new.hg _ came2 c.in_ok-add_manifest.ensures.added))

@@ -163,6 +163,9 @@ from_parts-requires g c =
     let after = next-goes-on s t next list c.len-first_new.result _ c.len-first_new.ensures refer taken c.in_ok-check_left_over.ensures.ok (λ cs h. c.in_ok-made.ensures cs h) came read x.0 x.1 in
     record { history = (x.0 ++ after.new, after.next) }
 
+pub returns-clause-history : goal.returns-clause-history
+returns-clause-history g c = rw (sym c.into_parts-parts.ensures.parts) c.into_parts-parts.ensures.history
+
 pub returns-clause-next : goal.returns-clause-next
 returns-clause-next g c =
     let s = c.into_parts-parts.result in

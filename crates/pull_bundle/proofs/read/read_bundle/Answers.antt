@@ -1,7 +1,8 @@
-use Rattle.std.proofs.Common.{List, Ok, Err, refl, subst, ap, ◌∙◌}
+use Rattle.std.proofs.Common.{List, Ok, Err, refl, sym, subst, ap, ◌∙◌}
 use Rattle.std.specs.Prelude.{IfSome}
 use Rattle.std.proofs.lemmas.Result.{err_from_is_err_and}
 use Rattle.hg_model.specs.Revision.{Revision, known_after_all}
+use Rattle.hg_store.specs.Known.{AreAdded}
 use Rattle.hg_bundle.specs.Arrivals.{Reads, revisions_of}
 use Rattle.pull_bundle.proofs.ReadLemmas.{grown-fresh, has-read, told, fault-refused, fault-cause, fault-names}
 use Rattle.pull_bundle.proofs.read.read_bundle.Goals as goal
@@ -12,14 +13,14 @@ returns-clause-read g c =
       came.0,
       has-read c.args.state _ c.in_ok-store.store (revisions_of came.0)
           (record { known = refl; blocks = refl; changesets = refl; commits = refl; tags = refl; names = refl; agreed = refl })
-          (came.2 ∙ ap (λ (l : List Revision). known_after_all l (revisions_of came.0)) c.replace-store.ensures.value) c.check.ensures c.in_ok-store.arrivals came.0 came.1 refl
+          (came.2 ∙ ap (λ (l : List Revision). known_after_all l (revisions_of came.0)) c.replace-store.ensures.value) (λ are. c.in_ok-store.ensures.added (subst AreAdded (sym c.replace-store.ensures.value) are)) c.in_ok-store.arrivals came.0 came.1 refl
           (grown-fresh _ _ c.in_ok-store.store c.in_ok-store.arrivals came c.replace-store.ensures.value),
     )
 
 pub returns-clause-told : goal.returns-clause-told
 returns-clause-told g c =
     told (g.S.Source.left c.args.src.now) c.args.state _ c.in_ok-store.store c.in_ok-store.arrivals
-    (record { known = refl; blocks = refl; changesets = refl; commits = refl; tags = refl; names = refl; agreed = refl }) c.check.ensures
+    (record { known = refl; blocks = refl; changesets = refl; commits = refl; tags = refl; names = refl; agreed = refl }) (λ are. c.in_ok-store.ensures.added (subst AreAdded (sym c.replace-store.ensures.value) are))
     (grown-fresh _ _ c.in_ok-store.store c.in_ok-store.arrivals c.in_ok-store.ensures.grown c.replace-store.ensures.value)
     (subst (λ (l : List Revision). IfSome (g.S.Source.left c.args.src.now) (λ bytes. Reads l bytes (Ok (c.in_ok-store.store, c.in_ok-store.arrivals)))) c.replace-store.ensures.value c.in_ok-store.ensures.reads)
 

@@ -1,4 +1,4 @@
-use Rattle.std.proofs.Common.{List, length, inl, inr, sym, ap, ◌∙◌, arith, length-append}
+use Rattle.std.proofs.Common.{List, length, inl, inr, ap, ◌∙◌, arith, length-append}
 use Rattle.std.proofs.lemmas.Result.{err_from_is_err_and}
 use Rattle.text_model.specs.Text.{Bytes, IsBytes}
 use Rattle.pair_model.specs.Block.{Block}
@@ -31,8 +31,8 @@ Due e m bytes = IsRefusedBy (Refuses (kept_of m) (OfStream bytes)) e
 
 pub text_within-requires : goal.text_within-requires
 text_within-requires g c =
-    let blocks = c.checked-state.ensures.history.0 in
-    let on = c.in_ok-pulled.ensures.next blocks c.checked-state.ensures.history.1 in
+    let blocks = c.in_ok-pulled.ensures.history.0 in
+    let on = c.in_ok-pulled.ensures.next blocks c.in_ok-pulled.ensures.history.1 in
     let has = c.in_ok-state.ensures in
     record {
       within = omega (
@@ -55,8 +55,8 @@ pub returns-in_err-pulled-clause-refused : goal.returns-in_err-pulled-clause-ref
 returns-in_err-pulled-clause-refused g c =
     let p = err_from_is_err_and c.from_residual.result c.from_residual.ensures.1 in
     let e = c.in_err-pulled.field-0.0 in
-    let s = c.checked-state.result in
-    rw (p.1, p.2, sym c.checked-state.ensures.same)
+    let s = c.args.state in
+    rw (p.1, p.2)
     (some-one (g.S.Source.left c.args.src.now) (Told s (λ blocks bytes. RefusesGit s blocks bytes e)) (Read s (Due e))
     (λ bytes h m read. refused-before s m read bytes e (h m.blocks (read.stands).blocks)) c.in_err-pulled.ensures.refused)
 
@@ -73,10 +73,10 @@ returns-in_err-pulled-clause-cause g c =
 pub returns-in_err-pulled-clause-asked : goal.returns-in_err-pulled-clause-asked
 returns-in_err-pulled-clause-asked g c =
     let p = err_from_is_err_and c.from_residual.result c.from_residual.ensures.1 in
-    let s = c.checked-state.result in
+    let s = c.args.state in
     let before = c.args.steps.now in
     let now = c.pull_git.new.steps in
-    rw (p.1, sym c.checked-state.ensures.same)
+    rw p.1
     (some-one (g.S.Source.left c.args.src.now) (Told s (λ blocks bytes. StepsGit (state_value s blocks) bytes before now)) (Read s (λ m bytes. StepsGit (known_of (kept_of m)) bytes before now))
     (λ bytes h m read. asked-before s m read bytes before now (h m.blocks (read.stands).blocks)) c.in_err-pulled.ensures.asked)
 
@@ -86,9 +86,9 @@ pub returns-in_err-text-clause-refused : goal.returns-in_err-text-clause-refused
 returns-in_err-text-clause-refused g c =
     let p = err_from_is_err_and c.from_residual-in_err-text.result c.from_residual-in_err-text.ensures.1 in
     let e = c.in_err-text.field-0.0 in
-    let s = c.checked-state.result in
+    let s = c.args.state in
     let done = c.in_ok-pulled.pulled in
-    rw (p.1, p.2, sym c.checked-state.ensures.same)
+    rw (p.1, p.2)
     (some-one (g.S.Source.left c.args.src.now) (Told s (λ blocks bytes. PulledGit s blocks bytes done)) (Read s (Due e))
     (λ bytes h m read. refused-large s m read bytes done (h m.blocks (read.stands).blocks) (c.in_ok-pulled.ensures.next m.blocks (read.stands).blocks) c.in_ok-tags.tags c.in_ok-tags.ensures.tags c.in_ok-state.state c.in_ok-state.ensures c.len-first_tag.result (c.len-first_tag.ensures ∙ ap length c.tags.ensures) e c.in_err-text.ensures.large) c.in_ok-pulled.ensures.pulled)
 
@@ -105,11 +105,11 @@ returns-in_err-text-clause-cause g c =
 pub returns-in_err-text-clause-asked : goal.returns-in_err-text-clause-asked
 returns-in_err-text-clause-asked g c =
     let p = err_from_is_err_and c.from_residual-in_err-text.result c.from_residual-in_err-text.ensures.1 in
-    let s = c.checked-state.result in
+    let s = c.args.state in
     let before = c.args.steps.now in
     let now = c.pull_git.new.steps in
     let done = c.in_ok-pulled.pulled in
-    rw (p.1, sym c.checked-state.ensures.same)
+    rw p.1
     (some-one (g.S.Source.left c.args.src.now) (Told s (λ blocks bytes. PulledGit s blocks bytes done)) (Read s (λ m bytes. StepsGit (known_of (kept_of m)) bytes before now))
     (λ bytes h m read. asked-after s m read bytes done (h m.blocks (read.stands).blocks) (c.in_ok-pulled.ensures.next m.blocks (read.stands).blocks) before now c.in_ok-pulled.ensures.steps) c.in_ok-pulled.ensures.pulled)
 
@@ -119,9 +119,9 @@ pub returns-in_err-tags-clause-refused : goal.returns-in_err-tags-clause-refused
 returns-in_err-tags-clause-refused g c =
     let p = err_from_is_err_and c.from_residual-in_err-tags.result c.from_residual-in_err-tags.ensures.1 in
     let e = c.in_err-tags.field-0.0 in
-    let s = c.checked-state.result in
+    let s = c.args.state in
     let done = c.in_ok-pulled.pulled in
-    rw (p.1, p.2, sym c.checked-state.ensures.same)
+    rw (p.1, p.2)
     (some-one (g.S.Source.left c.args.src.now) (Told s (λ blocks bytes. PulledGit s blocks bytes done)) (Read s (Due e))
     (λ bytes h m read. refused-target s m read bytes done (h m.blocks (read.stands).blocks) (c.in_ok-pulled.ensures.next m.blocks (read.stands).blocks) e c.in_err-tags.ensures.lacking) c.in_ok-pulled.ensures.pulled)
 
@@ -138,11 +138,11 @@ returns-in_err-tags-clause-cause g c =
 pub returns-in_err-tags-clause-asked : goal.returns-in_err-tags-clause-asked
 returns-in_err-tags-clause-asked g c =
     let p = err_from_is_err_and c.from_residual-in_err-tags.result c.from_residual-in_err-tags.ensures.1 in
-    let s = c.checked-state.result in
+    let s = c.args.state in
     let before = c.args.steps.now in
     let now = c.pull_git.new.steps in
     let done = c.in_ok-pulled.pulled in
-    rw (p.1, sym c.checked-state.ensures.same)
+    rw p.1
     (some-one (g.S.Source.left c.args.src.now) (Told s (λ blocks bytes. PulledGit s blocks bytes done)) (Read s (λ m bytes. StepsGit (known_of (kept_of m)) bytes before now))
     (λ bytes h m read. asked-after s m read bytes done (h m.blocks (read.stands).blocks) (c.in_ok-pulled.ensures.next m.blocks (read.stands).blocks) before now c.in_ok-pulled.ensures.steps) c.in_ok-pulled.ensures.pulled)
 
@@ -151,11 +151,11 @@ returns-in_err-tags-clause-asked g c =
 pub returns-in_err-state-clause-asked : goal.returns-in_err-state-clause-asked
 returns-in_err-state-clause-asked g c =
     let p = err_from_is_err_and c.from_residual-in_err-state.result c.from_residual-in_err-state.ensures.1 in
-    let s = c.checked-state.result in
+    let s = c.args.state in
     let before = c.args.steps.now in
     let now = c.pull_git.new.steps in
     let done = c.in_ok-pulled.pulled in
-    rw (p.1, sym c.checked-state.ensures.same)
+    rw p.1
     (some-one (g.S.Source.left c.args.src.now) (Told s (λ blocks bytes. PulledGit s blocks bytes done)) (Read s (λ m bytes. StepsGit (known_of (kept_of m)) bytes before now))
     (λ bytes h m read. asked-after s m read bytes done (h m.blocks (read.stands).blocks) (c.in_ok-pulled.ensures.next m.blocks (read.stands).blocks) before now c.in_ok-pulled.ensures.steps) c.in_ok-pulled.ensures.pulled)
 
@@ -163,19 +163,18 @@ returns-in_err-state-clause-asked g c =
 
 pub returns-clause-pulled : goal.returns-clause-pulled
 returns-clause-pulled g c =
-    let s = c.checked-state.result in
+    let s = c.args.state in
     let done = c.in_ok-pulled.pulled in
     let result : Pulled = record { state = c.in_ok-state.state; first_new = done.first_new; made = done.made; text = c.in_ok-text.text } in
-    rw (sym c.checked-state.ensures.same)
-    (some-one (g.S.Source.left c.args.src.now) (Told s (λ blocks bytes. PulledGit s blocks bytes done)) (Read s (λ m bytes. IsPulled m (OfStream bytes) result))
+    some-one (g.S.Source.left c.args.src.now) (Told s (λ blocks bytes. PulledGit s blocks bytes done)) (Read s (λ m bytes. IsPulled m (OfStream bytes) result))
     (λ bytes h m read. accepted s m read bytes done (h m.blocks (read.stands).blocks) (c.in_ok-pulled.ensures.next m.blocks (read.stands).blocks) c.in_ok-tags.tags c.in_ok-tags.ensures.tags c.in_ok-state.state c.in_ok-state.ensures c.len-first_tag.result (c.len-first_tag.ensures ∙ ap length c.tags.ensures)
-    c.in_ok-text.ensures.small c.in_ok-text.ensures.small_tags c.in_ok-text.text) c.in_ok-pulled.ensures.pulled)
+    c.in_ok-text.ensures.small c.in_ok-text.ensures.small_tags c.in_ok-text.text) c.in_ok-pulled.ensures.pulled
 
 pub returns-clause-bytes : goal.returns-clause-bytes
 returns-clause-bytes g c =
-    let s = c.checked-state.result in
+    let s = c.args.state in
     let done = c.in_ok-pulled.pulled in
-    let history = c.checked-state.ensures.history in
+    let history = c.in_ok-pulled.ensures.history in
     some-one (g.S.Source.left c.args.src.now) (Told s (λ blocks bytes. PulledGit s blocks bytes done)) IsBytes
     (λ bytes h. taken-bytes s history.0 bytes done (h history.0 history.1)) c.in_ok-pulled.ensures.pulled
 
@@ -183,14 +182,13 @@ returns-clause-bytes g c =
 
 pub returns-clause-next : goal.returns-clause-next
 returns-clause-next g c =
-    let s = c.checked-state.result in
+    let s = c.args.state in
     let held = c.in_ok-pulled.ensures.held in
-    rw (sym c.checked-state.ensures.same)
-    (λ m read. goes-on s m read c.in_ok-pulled.pulled (c.in_ok-pulled.ensures.next m.blocks (read.stands).blocks) held.0 held.1 held.2
-    c.in_ok-tags.tags c.in_ok-tags.ensures.tags c.in_ok-state.state c.in_ok-state.ensures)
+    λ m read. goes-on s m read c.in_ok-pulled.pulled (c.in_ok-pulled.ensures.next m.blocks (read.stands).blocks) held.0 held.1 held.2
+    c.in_ok-tags.tags c.in_ok-tags.ensures.tags c.in_ok-state.state c.in_ok-state.ensures
 
 pub returns-clause-names_stay : goal.returns-clause-names_stay
 returns-clause-names_stay g c =
-    let history = c.checked-state.ensures.history in
+    let history = c.in_ok-pulled.ensures.history in
     let on = c.in_ok-pulled.ensures.next history.0 history.1 in
-    c.in_ok-state.ensures.names ∙ on.names ∙ ap (λ (s : StateParts). s.names) c.checked-state.ensures.same
+    c.in_ok-state.ensures.names ∙ on.names

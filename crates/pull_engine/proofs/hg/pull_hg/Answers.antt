@@ -1,4 +1,4 @@
-use Rattle.std.proofs.Common.{List, inl, inr, sym, ap, ◌∙◌}
+use Rattle.std.proofs.Common.{List, inl, inr}
 use Rattle.std.proofs.lemmas.Result.{err_from_is_err_and}
 use Rattle.text_model.specs.Text.{Bytes}
 use Rattle.pair_model.specs.Block.{Block}
@@ -29,8 +29,8 @@ Due e m bytes = IsRefusedBy (Refuses (kept_of m) (OfBundle bytes)) e
 
 pub text_within-requires : goal.text_within-requires
 text_within-requires g c =
-    let blocks = c.checked-state.ensures.history.0 in
-    let on = c.in_ok-pulled.ensures.next blocks c.checked-state.ensures.history.1 in
+    let blocks = c.in_ok-pulled.ensures.history.0 in
+    let on = c.in_ok-pulled.ensures.next blocks c.in_ok-pulled.ensures.history.1 in
     record { within = within c.in_ok-pulled.pulled.state blocks on.new c.in_ok-pulled.pulled.first_new on.next on.first_new; history = (_, on.next) }
 
 -- ---- the pull below fails
@@ -39,8 +39,8 @@ pub returns-in_err-pulled-clause-refused : goal.returns-in_err-pulled-clause-ref
 returns-in_err-pulled-clause-refused g c =
     let p = err_from_is_err_and c.from_residual.result c.from_residual.ensures.1 in
     let e = c.in_err-pulled.field-0.0 in
-    let s = c.checked-state.result in
-    rw (p.1, p.2, sym c.checked-state.ensures.same)
+    let s = c.args.state in
+    rw (p.1, p.2)
     (some-one (g.S.Source.left c.args.src.now) (Told s (λ blocks bytes. RefusesHg s blocks bytes e)) (Read s (Due e))
     (λ bytes h m read. refused-before s m read bytes e (h m.blocks (read.stands).blocks)) c.in_err-pulled.ensures.refused)
 
@@ -57,10 +57,10 @@ returns-in_err-pulled-clause-cause g c =
 pub returns-in_err-pulled-clause-asked : goal.returns-in_err-pulled-clause-asked
 returns-in_err-pulled-clause-asked g c =
     let p = err_from_is_err_and c.from_residual.result c.from_residual.ensures.1 in
-    let s = c.checked-state.result in
+    let s = c.args.state in
     let before = c.args.steps.now in
     let now = c.pull_hg.new.steps in
-    rw (p.1, sym c.checked-state.ensures.same)
+    rw p.1
     (some-one (g.S.Source.left c.args.src.now) (Told s (λ blocks bytes. StepsHg (state_value s blocks) bytes before now)) (Read s (λ m bytes. StepsHg (known_of (kept_of m)) bytes before now))
     (λ bytes h m read. asked-before s m read bytes before now (h m.blocks (read.stands).blocks)) c.in_err-pulled.ensures.asked)
 
@@ -70,9 +70,9 @@ pub returns-in_err-text-clause-refused : goal.returns-in_err-text-clause-refused
 returns-in_err-text-clause-refused g c =
     let p = err_from_is_err_and c.from_residual-in_err-text.result c.from_residual-in_err-text.ensures.1 in
     let e = c.in_err-text.field-0.0 in
-    let s = c.checked-state.result in
+    let s = c.args.state in
     let done = c.in_ok-pulled.pulled in
-    rw (p.1, p.2, sym c.checked-state.ensures.same)
+    rw (p.1, p.2)
     (some-one (g.S.Source.left c.args.src.now) (Told s (λ blocks bytes. PulledHg s blocks bytes done)) (Read s (Due e))
     (λ bytes h m read. refused-large s m read bytes done (h m.blocks (read.stands).blocks) (c.in_ok-pulled.ensures.next m.blocks (read.stands).blocks) e c.in_err-text.ensures.large) c.in_ok-pulled.ensures.pulled)
 
@@ -89,11 +89,11 @@ returns-in_err-text-clause-cause g c =
 pub returns-in_err-text-clause-asked : goal.returns-in_err-text-clause-asked
 returns-in_err-text-clause-asked g c =
     let p = err_from_is_err_and c.from_residual-in_err-text.result c.from_residual-in_err-text.ensures.1 in
-    let s = c.checked-state.result in
+    let s = c.args.state in
     let before = c.args.steps.now in
     let now = c.pull_hg.new.steps in
     let done = c.in_ok-pulled.pulled in
-    rw (p.1, sym c.checked-state.ensures.same)
+    rw p.1
     (some-one (g.S.Source.left c.args.src.now) (Told s (λ blocks bytes. PulledHg s blocks bytes done)) (Read s (λ m bytes. StepsHg (known_of (kept_of m)) bytes before now))
     (λ bytes h m read. asked-after s m read bytes done (h m.blocks (read.stands).blocks) (c.in_ok-pulled.ensures.next m.blocks (read.stands).blocks) before now c.in_ok-pulled.ensures.steps) c.in_ok-pulled.ensures.pulled)
 
@@ -101,23 +101,20 @@ returns-in_err-text-clause-asked g c =
 
 pub returns-clause-pulled : goal.returns-clause-pulled
 returns-clause-pulled g c =
-    let s = c.checked-state.result in
+    let s = c.args.state in
     let done = c.in_ok-pulled.pulled in
     let result : Pulled = record { state = done.state; first_new = done.first_new; made = done.made; text = c.in_ok-text.text } in
-    rw (sym c.checked-state.ensures.same)
-    (some-one (g.S.Source.left c.args.src.now) (Told s (λ blocks bytes. PulledHg s blocks bytes done)) (Read s (λ m bytes. IsPulled m (OfBundle bytes) result))
-    (λ bytes h m read. accepted s m read bytes done (h m.blocks (read.stands).blocks) (c.in_ok-pulled.ensures.next m.blocks (read.stands).blocks) c.in_ok-text.ensures.small c.in_ok-text.text) c.in_ok-pulled.ensures.pulled)
+    some-one (g.S.Source.left c.args.src.now) (Told s (λ blocks bytes. PulledHg s blocks bytes done)) (Read s (λ m bytes. IsPulled m (OfBundle bytes) result))
+    (λ bytes h m read. accepted s m read bytes done (h m.blocks (read.stands).blocks) (c.in_ok-pulled.ensures.next m.blocks (read.stands).blocks) c.in_ok-text.ensures.small c.in_ok-text.text) c.in_ok-pulled.ensures.pulled
 
 -- ---- whatever the source tells
 
 pub returns-clause-next : goal.returns-clause-next
 returns-clause-next g c =
-    let s = c.checked-state.result in
-    rw (sym c.checked-state.ensures.same)
-    (λ m read. goes-on s m read c.in_ok-pulled.pulled (c.in_ok-pulled.ensures.next m.blocks (read.stands).blocks))
+    λ m read. goes-on c.args.state m read c.in_ok-pulled.pulled (c.in_ok-pulled.ensures.next m.blocks (read.stands).blocks)
 
 pub returns-clause-names_stay : goal.returns-clause-names_stay
 returns-clause-names_stay g c =
-    let history = c.checked-state.ensures.history in
+    let history = c.in_ok-pulled.ensures.history in
     let on = c.in_ok-pulled.ensures.next history.0 history.1 in
-    on.names ∙ ap (λ (s : StateParts). s.names) c.checked-state.ensures.same
+    on.names

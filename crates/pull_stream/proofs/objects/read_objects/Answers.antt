@@ -76,17 +76,18 @@ returns-clause-ready g c = λ blocks all.
     let after : new ≡ objects_after_all k.git (objects_among b.objects) = b.holds ∙ ap (λ (os : List Object). objects_after_all os (objects_among b.objects)) same in
     let more = grown k.git b.objects (subst (λ (os : List Object). AddsAll os (objects_among b.objects)) same b.adds) in
     let within : IsWithin k.git new = subst (IsWithin k.git) (sym after) more.kept in
-    let state = all.state in (
+    let state = all.state in
+    let are : AreKnown new = c.in_ok-git.ensures.known (subst AreKnown (sym same) state.sound) in (
       b.objects,
       record {
         state = record {
           state = record {
-            held = history-on k new within state.sound c.check.ensures blocks state.held;
-            sound = c.check.ensures;
+            held = history-on k new within state.sound are blocks state.held;
+            sound = are;
             blocks_are = state.blocks_are;
             changesets = state.changesets;
             commits = state.commits;
-            agreed = λ node has. agreed-on k new within state.sound c.check.ensures node (state.agreed node has);
+            agreed = λ node has. agreed-on k new within state.sound are node (state.agreed node has);
           };
           saved = all.saved;
         };

@@ -20,6 +20,9 @@ use Rattle.pull_stream.proofs.Counts.{so-many, asked-git, all-taken}
 use Rattle.pull_stream.proofs.Pulls.{over-all, some-map, if-any, judged-cause, read-refused, order-refused, commit-refused, held-nodes, count-is, count-within, goes-on, accepted}
 use Rattle.pull_stream.proofs.pull.pull_git.Goals as goal
 
+pub returns-clause-history : goal.returns-clause-history
+returns-clause-history g c = rw (sym c.into_parts-parts.ensures.parts) c.into_parts-parts.ensures.history
+
 pub order_commits-requires : goal.order_commits-requires
 order_commits-requires g c =
     let blocks = c.into_parts-parts.ensures.history.0 in

@@ -1,5 +1,6 @@
 use Rattle.std.proofs.Common.{◌≡◌, true≢false, None, refl, sym, subst, ◌∙◌}
 use Rattle.git_model.specs.Unfold.{walk_fault}
+use Rattle.git_view.proofs.One.{one-held}
 use Rattle.view_model.specs.View.{CommitView}
 use Rattle.state_audit.proofs.KeptFiles.{kept-files}
 use Rattle.state_audit.proofs.SameCommits.{other-text, same-held, same-commit}
@@ -17,7 +18,7 @@ returns-then-not-has_text c = λ e v held made. (
 pub returns-then-are_stored : goal.returns-then-are_stored
 returns-then-are_stored c = λ e v held made.
     let walk : walk_fault c.args.known.now.git (e.value).tree_id ≡ None =
-    subst (λ (x : CommitView). walk_fault c.args.known.now.git (x.value).tree_id ≡ None) (c.commits_are_held.ensures.one c.requires.held.0 e c.requires.held.1 held) c.requires.held.2 in
+    subst (λ (x : CommitView). walk_fault c.args.known.now.git (x.value).tree_id ≡ None) (one-held c.args.known.now.git c.args.id.now c.requires.held.0 e c.requires.held.1 held) c.requires.held.2 in
     let stored = sym c.are_stored.ensures ∙ c.if-are_stored.true in (
       (λ t. same-held c.args.known.now.git c.args.id.now e v held c.args.partner.now made c.args.text.now c.requires.text (sym (c.has_text.ensures.same e held) ∙ c.if-not-has_text.false)
           (λ same. kept-files c.args.known.now.git c.has_text.ensures.known c.args.partner.now v made stored c.args.id.now e held walk same)),

@@ -1,6 +1,4 @@
-use Rattle.std.proofs.Common.{refl, sym, ap, subst, ◌∙◌}
-use Rattle.hg_store.specs.Known.{AreAdded}
-use Rattle.pair_known.specs.Partners.{ArePartners}
+use Rattle.std.proofs.Common.{refl, ap, ◌∙◌}
 use Rattle.pair_state.specs.declared.state_parts.StateParts.{StateParts}
 use Rattle.state_text.proofs.Assembled.{IsMadeOf, stands, has-blocks, exactly}
 use Rattle.state_text.proofs.assemble.assemble.Goals as goal
@@ -27,8 +25,6 @@ from_parts-requires c =
       tags_are = c.into_parts-git.ensures.tags;
       names_are = c.into_parts-partners.ensures.names;
       none_agreed = c.new.ensures;
-      added = subst AreAdded (sym c.into_store.ensures) c.check.ensures;
-      partners = c.check-2.ensures;
     } in
     record { history = has-blocks s c.args.hg c.args.blocks c.args.tags c.args.named.names c.requires.sections.0 c.requires.sections.1 made }
 
@@ -46,8 +42,6 @@ returns-clause-stands c =
       tags_are = ap (λ (x : StateParts). x.tags) e ∙ c.into_parts-git.ensures.tags;
       names_are = ap (λ (x : StateParts). x.names) e ∙ c.into_parts-partners.ensures.names;
       none_agreed = ap (λ (x : StateParts). x.agreed) e ∙ c.new.ensures;
-      added = subst (λ (x : StateParts). AreAdded x.known.hg) (sym e) (subst AreAdded (sym c.into_store.ensures) c.check.ensures);
-      partners = subst (λ (x : StateParts). ArePartners x.known.partners) (sym e) c.check-2.ensures;
     } in
     (λ m a. stands s c.args.hg c.args.blocks c.args.tags c.args.named.names m a made)
 
@@ -65,7 +59,5 @@ returns-clause-exactly c =
       tags_are = ap (λ (x : StateParts). x.tags) e ∙ c.into_parts-git.ensures.tags;
       names_are = ap (λ (x : StateParts). x.names) e ∙ c.into_parts-partners.ensures.names;
       none_agreed = ap (λ (x : StateParts). x.agreed) e ∙ c.new.ensures;
-      added = subst (λ (x : StateParts). AreAdded x.known.hg) (sym e) (subst AreAdded (sym c.into_store.ensures) c.check.ensures);
-      partners = subst (λ (x : StateParts). ArePartners x.known.partners) (sym e) c.check-2.ensures;
     } in
     (λ m a. exactly s c.args.hg c.args.blocks c.args.tags c.args.named.names m a made)

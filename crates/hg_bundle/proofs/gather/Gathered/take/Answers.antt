@@ -1,4 +1,4 @@
-use Rattle.std.proofs.Common.{◌≡◌, ℕ, ◌==◌, [], ◌∷◌, None, Some, false, true≢false, arith, ap, length, length-drop}
+use Rattle.std.proofs.Common.{◌≡◌, ℕ, ◌==◌, [], ◌∷◌, None, Some, false, true≢false, arith, ap, length, length-drop, sym}
 use Rattle.std.specs.Prelude.{if◌then◌else◌}
 use Rattle.std.proofs.lemmas.Result.{err_from_is_err_and}
 use Rattle.text_model.specs.Text.{Bytes}
@@ -26,11 +26,11 @@ pub returns-in_err-file_group-in-AtPath-clause-fault : goal.returns-in_err-file_
 returns-in_err-file_group-in-AtPath-clause-fault c =
     let p = err_from_is_err_and c.from_residual.result c.from_residual.ensures.1 in
     rw (p.1, p.2, c.in-AtPath.is)
-    (unfit c.args.at c.args.self.now _ (payload_bytes c.args.payload.now) (rw (c.is_empty.ensures, c.bytes.ensures.value) at c.if-is_empty.false)
-    (rw c.bytes-in-AtPath.ensures.value at c.in_err-file_group-in-AtPath.ensures.fault))
+    (unfit c.args.at c.args.self.now _ (payload_bytes c.args.payload.now) (rw c.bytes.ensures at (sym c.if-is_end.ensures.end))
+    (rw c.bytes-in-AtPath.ensures at c.in_err-file_group-in-AtPath.ensures.fault))
 
 pub returns-in_ok-file_group-in-AtPath-clause-bytes : goal.returns-in_ok-file_group-in-AtPath-clause-bytes
-returns-in_ok-file_group-in-AtPath-clause-bytes c = rw (← c.bytes.ensures.value) c.bytes.ensures.bytes
+returns-in_ok-file_group-in-AtPath-clause-bytes c = rw (← c.bytes.ensures) c.if-is_end.ensures.bytes
 
 pub returns-in_ok-add-in-In-clause-bytes : goal.returns-in_ok-add-in-In-clause-bytes
-returns-in_ok-add-in-In-clause-bytes c = rw (← c.bytes.ensures.value) c.bytes.ensures.bytes
+returns-in_ok-add-in-In-clause-bytes c = rw (← c.bytes.ensures) c.if-is_end.ensures.bytes

@@ -1,4 +1,4 @@
-use Rattle.std.proofs.Common.{◌≡◌, ◌-◌, ℕ, List, [], length, take, drop, refl, sym, subst, arith, length-drop}
+use Rattle.std.proofs.Common.{◌≡◌, ◌<◌, ◌-◌, ℕ, List, [], length, take, drop, refl, sym, subst, arith, length-drop}
 use Rattle.std.specs.Prelude.{false}
 use Rattle.text_model.specs.Lists.{Each}
 use Rattle.hg_model.specs.Manifest.{ManifestEntry}
@@ -12,6 +12,8 @@ use Rattle.view_model.specs.Held.{AreChangesetsHeld}
 use Rattle.hg_dump.specs.Marks.{Met, none, marks_in, meets}
 use Rattle.hg_dump.proofs.HeldLemmas.{held-take, held-drop}
 use Rattle.hg_dump.proofs.MeetLemmas.{none-is_met}
+use Rattle.hg_dump.proofs.BroughtLemmas.{are-brought}
+use Rattle.hg_store.specs.Known.{AreAdded}
 use Rattle.hg_dump.proofs.brought.Brought.collect.Goals as goal
 
 rest : (nodes : List Id) (from : ℕ) → take (length nodes - from) (drop from nodes) ≡ drop from nodes
@@ -32,12 +34,20 @@ refer_all-requires-2 c = record {
   before = null-has_none c.args.store.now _ c.none-2.result refl c.none-2.ensures;
 }
 
-pub returns : goal.returns
-returns c = λ hs are.
+pub returns-clause-met : goal.returns-clause-met
+returns-clause-met c = λ hs are.
     let no-lines : (s : Met) (es : List ManifestEntry) → es ≡ [] → Each (IsLineMet s) es = λ s es none. subst (λ (l : List ManifestEntry). Each (IsLineMet s) l) (sym none) tt in
     let known = c.args.store.now in
     let nodes = c.args.nodes.now in
     let from = c.args.from in
-    c.in_ok-refer_all-2.ensures (drop from hs) (rest-held known nodes from hs are) (meets false none (marks_in (take from hs)))
-    (c.in_ok-refer_all.ensures (take from hs) (held-take known nodes hs from are) none (none-is_met c.new-brought.ensures) (no-lines none c.none.result c.none.ensures))
+    c.in_ok-refer_all-2.ensures.steps (drop from hs) (rest-held known nodes from hs are) (meets false none (marks_in (take from hs)))
+    (c.in_ok-refer_all.ensures.steps (take from hs) (held-take known nodes hs from are) none (none-is_met c.new-brought.ensures) (no-lines none c.none.result c.none.ensures))
     (no-lines (meets false none (marks_in (take from hs))) c.none-2.result c.none-2.ensures)
+
+pub returns-clause-brought : goal.returns-clause-brought
+returns-clause-brought c = λ hs are.
+    let known = c.args.store.now in
+    let nodes = c.args.nodes.now in
+    let from = c.args.from in
+    let added = subst (λ (l : List Id). 0 < length l → AreAdded known) (rest nodes from) c.in_ok-refer_all-2.ensures.known in
+    are-brought known (drop from nodes) (take from hs) (drop from hs) c.refer_all-2.new.self added (held-drop known nodes hs from are) (returns-clause-met c hs are)

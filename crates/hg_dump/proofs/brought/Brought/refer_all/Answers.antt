@@ -17,6 +17,7 @@ loop-node-init c = record {
   steps = λ hs are s is lines. is;
   lines = λ hs are s lines. lines;
   manifest = c.requires.before;
+  known = λ some. absurd (omega (arith, some));
 }
 
 pub of-walk-requires : goal.of-walk-requires
@@ -50,6 +51,7 @@ loop-node-preserved c =
           (ap (meets is_new so_far) (sym same) ∙ sym (meets-append is_new s (marks_in (take i hs)) (marks_of at.view)) ∙ ap (meets is_new s) (sym (marks-push hs i at.view at.at_place)))
           (step so_far (c.loop-node.invariant.steps hs are s is before) (c.loop-node.invariant.lines hs are s before));
       manifest = c.named_lines-manifest_node.ensures.manifest;
+      known = λ some. c.named_lines-manifest_node.ensures.known;
       lines = λ hs are s before.
           let at = held-at known nodes hs are i node node c.loop-node-test.true c.node-item.is in
           let so_far = meets is_new s (marks_in (take i hs)) in
@@ -59,8 +61,11 @@ loop-node-preserved c =
           (view-lines is_new so_far node manifest_node es);
     }
 
-pub returns : goal.returns
-returns c = λ hs are.
+pub returns-clause-steps : goal.returns-clause-steps
+returns-clause-steps c = λ hs are.
     let i = c.loop-node.node-index in
     let whole : length hs ≤ i = omega (arith, held-length c.args.store.now c.args.nodes.now hs are) in
     subst (λ (xs : List ChangesetView). StepsAfter c.args.previous c.args.is_new (marks_in xs) c.args.self.now c.loop-node.self) (take_all i hs whole) (c.loop-node.invariant.steps hs are)
+
+pub returns-clause-known : goal.returns-clause-known
+returns-clause-known c = λ some. c.loop-node.invariant.known (omega (arith, some))

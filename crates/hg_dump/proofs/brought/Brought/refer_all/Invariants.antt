@@ -1,5 +1,6 @@
-use Rattle.std.proofs.Common.{List, take}
+use Rattle.std.proofs.Common.{◌<◌, List, take}
 use Rattle.text_model.specs.Lists.{Each}
+use Rattle.hg_store.specs.Known.{AreAdded}
 use Rattle.hg_store.specs.Views.{IsManifestOf}
 use Rattle.view_model.specs.View.{ChangesetView}
 use Rattle.view_model.specs.Held.{AreChangesetsHeld}
@@ -12,4 +13,5 @@ invariant-loop-node l = record {
   steps : (hs : List ChangesetView) → AreChangesetsHeld l.store l.nodes hs → StepsAfter l.fn.previous l.is_new (marks_in (take l.node-index hs)) l.fn.self l.self;
   lines : (hs : List ChangesetView) → AreChangesetsHeld l.store l.nodes hs → (s : Met) → Each (IsLineMet s) l.fn.previous → Each (IsLineMet (meets l.is_new s (marks_in (take l.node-index hs)))) l.previous;
   manifest : IsManifestOf l.store l.before l.previous;
+  known : 0 < l.node-index → AreAdded l.store;
 }

@@ -1,17 +1,13 @@
 use Rattle.std.proofs.Common.{take, drop, refl}
 use Rattle.view_model.specs.Dump.{brought_by, hg_increment}
-use Rattle.hg_dump.proofs.HeldLemmas.{held-drop}
-use Rattle.hg_dump.proofs.BroughtLemmas.{are-brought}
 use Rattle.hg_dump.proofs.dump.Dump.collect.Goals as goal
 
 pub returns-clause-text : goal.returns-clause-text
 returns-clause-text c = λ hs are.
-    let known = c.args.store.now in
-    let nodes = c.args.nodes.now in
     let from = c.args.from in
     record {
       revisions = brought_by (take from hs) (drop from hs);
-      brought = are-brought known (drop from nodes) (take from hs) (drop from hs) c.in_ok-brought.brought c.check.ensures (held-drop known nodes hs from are) (c.in_ok-brought.ensures hs are);
+      brought = c.in_ok-brought.ensures.brought hs are;
       text_is = refl;
     }
 

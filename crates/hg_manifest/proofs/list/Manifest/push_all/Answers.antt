@@ -8,7 +8,7 @@ pub push_shared-requires-clause-fit : goal.push_shared-requires-clause-fit
 push_shared-requires-clause-fit c =
     let at = slice_get-get_or c.args.entries.now c.loop-entry.entry-index c.entry-item.result c.loop-entry-test.true ∙ ap Some (sym c.entry-item.is) in
     let n = next-at c.args.self.now c.args.entries.now c.loop-entry.entry-index c.entry-item.result at c.requires in
-    rw c.in_ok-again.ensures n.fit.0
+    rw c.in_ok-again.ensures n.fit
 
 pub push_shared-requires-clause-rises : goal.push_shared-requires-clause-rises
 push_shared-requires-clause-rises c =

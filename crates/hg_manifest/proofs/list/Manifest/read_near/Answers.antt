@@ -4,7 +4,7 @@ use Rattle.text_model.specs.Text.{Bytes, IsBytes}
 use Rattle.text_model.proofs.ByteLemmas.{IsBytes-by_index}
 use Rattle.hg_model.specs.Manifest.{entry_of_line, entry_fault}
 use Rattle.hg_manifest.specs.Values.{IsNamed}
-use Rattle.hg_manifest.proofs.ReadLemmas.{IsLineOf, at_start, line_fault, goes_on, goes_near_many, many_behind, less_left, path_within, path_is}
+use Rattle.hg_manifest.proofs.ReadLemmas.{IsLineOf, at_start, line_fault, goes_on, goes_near_many, many_behind, less_left, path_within, path_is, line_entry}
 use Rattle.hg_manifest.proofs.BesideLemmas.{later-more, told-start, told-same, told-one, told-end}
 use Rattle.hg_manifest.proofs.list.Manifest.read_near.Goals as goal
 
@@ -38,24 +38,24 @@ part-requires-clause-within c =
     let l : IsLineOf c.loop-near.rest.now c.first_line.result.0.now c.first_line.result.1.now = record { lines = c.first_line.ensures.lines; whole = c.first_line.ensures.whole; some = c.first_line.ensures.some } in
     rw (c.len.ensures.value) (path_within c.args.text.now _ c.loop-near.manifest c.loop-near.rest.now c.first_line.result.0.now c.first_line.result.1.now c.loop-near.invariant.read l _ c.in-Ok.ensures.line.reads)
 
-pub push-requires-in_default-clause-fit : goal.push-requires-in_default-clause-fit
-push-requires-in_default-clause-fit c =
+pub push_shared-requires-clause-fit : goal.push_shared-requires-clause-fit
+push_shared-requires-clause-fit c =
     let l : IsLineOf c.loop-near.rest.now c.first_line.result.0.now c.first_line.result.1.now = record { lines = c.first_line.ensures.lines; whole = c.first_line.ensures.whole; some = c.first_line.ensures.some } in
-    rw (c.in_ok-part.ensures, c.len.ensures.value, path_is c.args.text.now _ c.loop-near.manifest c.loop-near.rest.now c.first_line.result.0.now c.first_line.result.1.now c.loop-near.invariant.read l _ c.in-Ok.ensures.line.reads) c.in-Ok.ensures.line.fit
+    rw (c.in_ok-new.ensures, c.in_ok-part.ensures, c.len.ensures.value, path_is c.args.text.now _ c.loop-near.manifest c.loop-near.rest.now c.first_line.result.0.now c.first_line.result.1.now c.loop-near.invariant.read l _ c.in-Ok.ensures.line.reads) (line_entry c.args.text.now _ c.loop-near.manifest c.loop-near.rest.now c.first_line.result.0.now c.first_line.result.1.now c.loop-near.invariant.read l _ c.in-Ok.ensures.line.reads c.in-Ok.ensures.line.fit)
 
-pub push-requires-in_default-clause-rises : goal.push-requires-in_default-clause-rises
-push-requires-in_default-clause-rises c =
+pub push_shared-requires-clause-rises : goal.push_shared-requires-clause-rises
+push_shared-requires-clause-rises c =
     let l : IsLineOf c.loop-near.rest.now c.first_line.result.0.now c.first_line.result.1.now = record { lines = c.first_line.ensures.lines; whole = c.first_line.ensures.whole; some = c.first_line.ensures.some } in
-    rw (c.in_ok-part.ensures, c.len.ensures.value, path_is c.args.text.now _ c.loop-near.manifest c.loop-near.rest.now c.first_line.result.0.now c.first_line.result.1.now c.loop-near.invariant.read l _ c.in-Ok.ensures.line.reads, ← c.loop-near.invariant.read.last_is) c.in-Ok.ensures.line.above
+    rw (c.in_ok-new.ensures, c.in_ok-part.ensures, c.len.ensures.value, path_is c.args.text.now _ c.loop-near.manifest c.loop-near.rest.now c.first_line.result.0.now c.first_line.result.1.now c.loop-near.invariant.read l _ c.in-Ok.ensures.line.reads, ← c.loop-near.invariant.read.last_is) c.in-Ok.ensures.line.above
 
 pub loop-near-preserved : goal.loop-near-preserved
 loop-near-preserved c =
     let l : IsLineOf c.loop-near.rest.now c.first_line.result.0.now c.first_line.result.1.now = record { lines = c.first_line.ensures.lines; whole = c.first_line.ensures.whole; some = c.first_line.ensures.some } in
     let r = goes_on c.args.text.now _ c.loop-near.manifest c.loop-near.rest.now c.first_line.result.0.now c.first_line.result.1.now c.loop-near.invariant.read l _ c.in-Ok.ensures.line.reads c.in-Ok.ensures.line.above c.in-Ok.ensures.line.fit in
     record {
-      read = rw (c.in_ok-push-2.ensures.ok, c.in_ok-part.ensures, c.len.ensures.value, path_is c.args.text.now _ c.loop-near.manifest c.loop-near.rest.now c.first_line.result.0.now c.first_line.result.1.now c.loop-near.invariant.read l _ c.in-Ok.ensures.line.reads) r;
+      read = rw (c.in_ok-push_shared.ensures.ok, c.in_ok-new.ensures, c.in_ok-part.ensures, c.len.ensures.value, path_is c.args.text.now _ c.loop-near.manifest c.loop-near.rest.now c.first_line.result.0.now c.first_line.result.1.now c.loop-near.invariant.read l _ c.in-Ok.ensures.line.reads) r;
       told =
-          rw (c.len-told.ensures.len, c.in_ok-push-2.ensures.ok, c.in_ok-push.ensures, c.len-in_default.ensures.len)
+          rw (c.len-told.ensures.len, c.in_ok-push_shared.ensures.ok, c.in_ok-push.ensures, c.len-in_default.ensures.len)
           (told-one c.args.near c.loop-near.near c.pass.new.self c.loop-near.newer c.loop-near.told c.loop-near.manifest _ c.loop-near.invariant.told (later-more c.loop-near.near c.take.new.self c.pass.new.self c.take.ensures.later c.pass.ensures));
     }
 

@@ -10,7 +10,7 @@ pub split_at-requires-2 : goal.split_at-requires-2
 split_at-requires-2 c =
     let entry = c.get-entry.result.now in
     let measures : IsId entry.node → c.line_len.result ≡ length (entry_text (manifest_entry entry)) =
-    λ is. c.line_len.ensures entry.node is ∙ ap (λ (p : Bytes). length (entry_text (record { path = p; node = entry.node; flag = file_flag entry.flag }))) c.as_slice.ensures in
+    λ is. c.line_len.ensures ∙ ap (λ (p : Bytes). length (entry_text (record { path = p; node = entry.node; flag = file_flag entry.flag }))) c.as_slice.ensures in
     let parts = first-behind c.self.inside.entries.now c.self.inside.lines.now entry c.line_len.result c.self.invariant (sym c.in_ok-shared.ensures.value ∙ ap Some (sym c.get-entry.ensures)) measures in
     parts.within
 
@@ -18,7 +18,7 @@ pub invariant_of-result : goal.invariant_of-result
 invariant_of-result c =
     let entry = c.get-entry.result.now in
     let measures : IsId entry.node → c.line_len.result ≡ length (entry_text (manifest_entry entry)) =
-    λ is. c.line_len.ensures entry.node is ∙ ap (λ (p : Bytes). length (entry_text (record { path = p; node = entry.node; flag = file_flag entry.flag }))) c.as_slice.ensures in
+    λ is. c.line_len.ensures ∙ ap (λ (p : Bytes). length (entry_text (record { path = p; node = entry.node; flag = file_flag entry.flag }))) c.as_slice.ensures in
     let parts = first-behind c.self.inside.entries.now c.self.inside.lines.now entry c.line_len.result c.self.invariant (sym c.in_ok-shared.ensures.value ∙ ap Some (sym c.get-entry.ensures)) measures in
     rw (c.split_at-2.ensures.back, c.split_at.ensures.back) parts.behind
 
@@ -26,6 +26,6 @@ pub returns-clause-some : goal.returns-clause-some
 returns-clause-some c =
     let entry = c.get-entry.result.now in
     let measures : IsId entry.node → c.line_len.result ≡ length (entry_text (manifest_entry entry)) =
-    λ is. c.line_len.ensures entry.node is ∙ ap (λ (p : Bytes). length (entry_text (record { path = p; node = entry.node; flag = file_flag entry.flag }))) c.as_slice.ensures in
+    λ is. c.line_len.ensures ∙ ap (λ (p : Bytes). length (entry_text (record { path = p; node = entry.node; flag = file_flag entry.flag }))) c.as_slice.ensures in
     let parts = first-behind c.self.inside.entries.now c.self.inside.lines.now entry c.line_len.result c.self.invariant (sym c.in_ok-shared.ensures.value ∙ ap Some (sym c.get-entry.ensures)) measures in
     rw (c.split_at.ensures.back, c.split_at-2.ensures.front, ← c.self.view_is) (parts.first, parts.line, parts.fit)

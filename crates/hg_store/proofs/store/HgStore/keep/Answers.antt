@@ -4,7 +4,8 @@ use Rattle.hg_store.specs.contracts.held.KeyPartialEq.TheImpl as key_eq
 use Rattle.hg_store.specs.declared.held.Held.{Held}
 use Rattle.hg_store.specs.declared.held.Key.{Key}
 use Rattle.hg_store.specs.Groups.{paths_in, revisions_in, revision_value, IsStore}
-use Rattle.hg_store.specs.Known.{IsAddedTo}
+use Rattle.hg_store.specs.Known.{IsAddedTo, AreAdded}
+use Rattle.hg_store.proofs.Found.{are_ids}
 use Rattle.hg_store.proofs.EqLemmas.{tests}
 use Rattle.hg_store.proofs.StoreLemmas.{IsStore-grown, revisions_in-grown, on_err, absent, kept}
 use Rattle.hg_store.proofs.store.HgStore.keep.Goals as goal
@@ -45,16 +46,17 @@ after_insert c =
     let key : Key = record { group = c.in_ok-group.group; node = a.node } in
     let held : Held = record { p = a.p; q = a.q; link = a.link; text = a.text; parsed = c.args.parsed } in
     let none = absent new es s c.args.self.now view r c.in_ok-group.group number (key_eq.eq-value.it key) (tests c.in_ok-group.group a.node) c.requires.fresh in
+    let ids = are_ids c.args.self.now r c.requires.faultless (subst AreAdded (c.self.view_is) c.self.invariant.0.added) in
     let added : IsAddedTo c.args.self.now r = record {
       faultless = c.requires.faultless;
       fresh = c.requires.fresh;
-      node = c.is_of_bytes.ensures.node;
-      parents = (c.is_of_bytes.ensures.p, c.is_of_bytes.ensures.q);
-      link = c.is_of_bytes.ensures.link;
-      bytes = c.is_of_bytes.ensures.text;
+      node = ids.node;
+      parents = ids.parents;
+      link = ids.link;
+      bytes = c.requires.bytes;
       short = c.requires.short;
       path = c.requires.path;
-      path_bytes = c.is_of_bytes.ensures.path;
+      path_bytes = c.number_group.ensures.path;
     } in
     let entries : c.insert.new.self.entries ≡ es ++ (key, held) ∷ [] = c.in_ok-insert.ensures.entries ∙ insert_entry-new key_eq.eq-value.it c.self.inside.revisions key held none in
     let all = kept new es s c.args.self.now view r c.in_ok-group.group number held refl c.requires.value c.requires.newer added in
@@ -65,3 +67,6 @@ invariant_of-self-2 c = ((after_insert c).0, c.self.invariant.1)
 
 pub returns-clause-ok : goal.returns-clause-ok
 returns-clause-ok c = (after_insert c).1
+
+pub returns-clause-added : goal.returns-clause-added
+returns-clause-added c = (after_insert c).0.added

@@ -1,10 +1,11 @@
-use Rattle.std.proofs.Common.{sym, ap, ◌∙◌, option_map}
+use Rattle.std.proofs.Common.{sym, ap, ◌∙◌, option_map, arith}
+use Rattle.text_model.proofs.ByteLemmas.{IsBytes-by_index}
 use Rattle.mark_code.specs.Values.{mark_value}
 use Rattle.mark_code.proofs.ListLemmas.{at-start, mark-list, at-end, no-line, shorter, no-mark, goes-on, no-place}
 use Rattle.mark_code.proofs.list.CommitMarks.read.Goals as goal
 
 pub lines-init : goal.lines-init
-lines-init c = rw c.new-marks.ensures (at-start c.args.headers.now c.each_is_byte.ensures)
+lines-init c = rw c.new-marks.ensures (at-start c.args.headers.now (IsBytes-by_index c.args.headers.now (λ i. omega (arith, c.type_inv.headers i))))
 
 pub returns-in_default-2 : goal.returns-in_default-2
 returns-in_default-2 c =

@@ -126,7 +126,7 @@ returns-clause-ok c = λ blocks b p.
     c.have_bodies-agreed.result (λ e. c.have_bodies-agreed.ensures.yes e b.changeset (asked s c.args.block.now c.args.commit blocks b p c.add_parts.new.hg came c.add_commit.new.git grown c.in_ok-nodes.nodes.last (c.in_ok-nodes.ensures.last blocks b.links b.changeset (whole-parts s c.args.block.now blocks b p.brings))))
     (known-of c.have_bodies-agreed.result s.known.git c.is_stored-stored.result c.object_id-id.result _ id c.is_stored-stored.ensures c.in_ok-check_bodies.ensures.ok)
     free c.in_ok-nodes.nodes.links (c.in_ok-nodes.ensures.links blocks b.links b.changeset of) c.in_ok-nodes.nodes.last (c.in_ok-nodes.ensures.last blocks b.links b.changeset of)
-    c.object_id-id.result id c.put_where.new.set c.in_ok-put_where.ensures c.insert.new.self
+    c.object_id-id.result id c.put_where.new.set c.in_ok-put_where.ensures c.in_ok-nodes.ensures.added c.insert.new.self
     (subst (λ (ids : List Id). IsPushed (with_all s c.add_parts.new.hg c.add_commit.new.git c.put_where.new.set) c.insert.new.self ids c.in_ok-nodes.nodes.last c.object_id-id.result) c.as_slice-2.ensures c.in_ok-insert.ensures)
 
 pub add_commit-requires-clause-its_id : goal.add_commit-requires-clause-its_id

@@ -3,6 +3,7 @@ use Rattle.std.specs.Prelude.{is_some}
 use Rattle.std.proofs.lemmas.Result.{err_from_is_err_and}
 use Rattle.text_model.specs.Id.{Id}
 use Rattle.text_model.proofs.Options.{none_is}
+use Rattle.git_view.proofs.Held.{held-id}
 use Rattle.pair_known.specs.Partners.{hg_at}
 use Rattle.pair_state.specs.Step.{AreItsTexts, IsPushed}
 use Rattle.pair_state.proofs.BlockLemmas.{hg-some}
@@ -56,6 +57,6 @@ returns-clause-ok c = λ blocks b p.
     let s = c.args.self.now in
     let d = c.args.block in
     let of = parts s d blocks b p.brings c.replace-texts.new.dest c.none.result c.replace-texts.ensures.after c.none.ensures.changeset c.none.ensures.manifest in
-    pushed s d blocks b p.brings c.add_parts.new.hg (c.in_ok-nodes.ensures.came blocks b.links b.changeset of) c.args.id p.held p.walks (c.commits_are_held.ensures.node b.commit p.held)
-    c.in_ok-nodes.nodes.links (c.in_ok-nodes.ensures.links blocks b.links b.changeset of) c.in_ok-nodes.nodes.last (c.in_ok-nodes.ensures.last blocks b.links b.changeset of) c.insert.new.self
+    pushed s d blocks b p.brings c.add_parts.new.hg (c.in_ok-nodes.ensures.came blocks b.links b.changeset of) c.args.id p.held p.walks (held-id s.known.git p.brings.state.sound c.args.id b.commit p.held)
+    c.in_ok-nodes.nodes.links (c.in_ok-nodes.ensures.links blocks b.links b.changeset of) c.in_ok-nodes.nodes.last (c.in_ok-nodes.ensures.last blocks b.links b.changeset of) c.in_ok-nodes.ensures.added c.insert.new.self
     (subst (λ (ids : List Id). IsPushed (with_revisions s d blocks b p.brings c.add_parts.new.hg) c.insert.new.self ids c.in_ok-nodes.nodes.last c.args.id) c.as_slice.ensures c.in_ok-insert.ensures)

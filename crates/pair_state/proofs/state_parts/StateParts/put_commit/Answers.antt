@@ -5,6 +5,7 @@ use Rattle.std.proofs.lemmas.Result.{err_from_is_err_and}
 use Rattle.text_model.specs.Id.{Id, commit, object_id, has_id}
 use Rattle.text_model.proofs.Options.{none_is}
 use Rattle.git_model.specs.Object.{Object}
+use Rattle.hg_view.proofs.Right.{held-node}
 use Rattle.pair_model.specs.Block.{block_of_id}
 use Rattle.pair_known.specs.Partners.{git_at}
 use Rattle.git_store.specs.Growth.{HasGrown, Clash}
@@ -88,6 +89,6 @@ returns-clause-ok c = λ blocks b p.
     let apart = sym (ap (list_any (has_id s.changesets)) c.as_slice.ensures) ∙ sym c.contains_any.ensures ∙ c.if-contains_any.false in
     pushed s c.args.h.now c.args.links.now c.args.commit c.args.node blocks b p c.add_commit.new.git grown p.state.sound c.in_ok-add_commit.ensures.sound
     (c.have_bodies.ensures.yes c.if-not-have_bodies.false b.changeset (asked s c.args.h.now c.args.links.now c.args.commit c.args.node blocks b p c.add_commit.new.git grown))
-    (c.views_are_held.ensures.node b.changeset p.held) free apart c.object_id-id.result id
+    (held-node s.known.hg p.state.held.added c.args.node b.changeset p.held) free apart c.object_id-id.result id
     c.insert.new.self (inserted c.insert.new.self s.agreed c.args.node c.in_ok-insert.field-0 c.in_ok-insert.ensures.ok)
     c.insert-2.new.self (subst (λ (ids : List Id). IsPushed (with_objects s c.add_commit.new.git c.insert.new.self) c.insert-2.new.self ids c.args.node c.object_id-id.result) c.as_slice-3.ensures c.in_ok-insert-2.ensures)

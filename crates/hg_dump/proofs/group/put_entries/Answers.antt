@@ -8,13 +8,13 @@ use Rattle.hg_model.specs.Chunk.{chunk_text}
 use Rattle.hg_store.specs.Groups.{group_value}
 use Rattle.hg_dump.specs.Written.{base_size, chunks_over}
 use Rattle.hg_dump.proofs.EntryLemmas.{at-place, of-at, of-length, chunks-step, group-spelled}
-use Rattle.hg_dump.proofs.group.put_group.Goals as goal
+use Rattle.hg_dump.proofs.group.put_entries.Goals as goal
 
 pub put_entry-requires : goal.put_entry-requires
 put_entry-requires c =
     let i = c.loop-reference.reference-index in
     let r = c.reference-item.result in
-    let o = of-at c.args.store.now (group_value c.args.group) c.args.references.now c.requires.0 c.requires.1 i r (at-place c.args.references.now i r c.loop-reference-test.true c.reference-item.is) in
+    let o = of-at c.args.store.now (group_value c.args.group) c.args.references.now c.requires.are.0 c.requires.are.1 i r (at-place c.args.references.now i r c.loop-reference-test.true c.reference-item.is) in
     (o.revision, o.is_of)
 
 pub loop-reference-preserved : goal.loop-reference-preserved

@@ -3,7 +3,7 @@ use Rattle.std.specs.Io.{StartsWith}
 use Rattle.hg_model.specs.Revision.{Revision}
 use Rattle.hg_store.specs.Groups.{group_value}
 use Rattle.hg_dump.specs.Written.{AreOf, base_size, chunks_over}
-use Rattle.hg_dump.proofs.group.put_group.Given as goal
+use Rattle.hg_dump.proofs.group.put_entries.Given as goal
 
 abbrev pub invariant-loop-reference : goal.invariant-loop-reference
 invariant-loop-reference l = record {

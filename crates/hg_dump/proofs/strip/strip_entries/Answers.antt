@@ -8,20 +8,20 @@ use Rattle.hg_dump.specs.Begins.{LacksFront, IsBehind, GoOnAlike}
 use Rattle.hg_dump.specs.Written.{base_size, chunks_over}
 use Rattle.hg_dump.proofs.EntryLemmas.{at-place, of-at, of-length, group-spelled}
 use Rattle.hg_dump.proofs.StripLemmas.{lacks-first, behind-both, alike-begin, alike-end, entry-step, entry-lacks}
-use Rattle.hg_dump.proofs.strip.strip_group.Goals as goal
+use Rattle.hg_dump.proofs.strip.strip_entries.Goals as goal
 
 pub loop-reference-init : goal.loop-reference-init
 loop-reference-init c = λ rs are.
     let known = c.args.store.now in
     let group = group_value c.args.group in
-    alike-begin c.args.bytes.now (chunks_over (base_size known group rs) rs) (chunks_over c.first_base_len-base_len.result rs)
-    (ap (λ (n : ℕ). chunks_over n rs) (sym (c.first_base_len-base_len.ensures rs are)))
+    alike-begin c.args.bytes.now (chunks_over (base_size known group rs) rs) (chunks_over c.args.base_len rs)
+    (ap (λ (n : ℕ). chunks_over n rs) (sym (c.requires.base rs are)))
 
 pub strip_entry-requires : goal.strip_entry-requires
 strip_entry-requires c =
     let i = c.loop-reference.reference-index in
     let r = c.reference-item.result in
-    let o = of-at c.args.store.now (group_value c.args.group) c.args.references.now c.requires.0 c.requires.1 i r (at-place c.args.references.now i r c.loop-reference-test.true c.reference-item.is) in
+    let o = of-at c.args.store.now (group_value c.args.group) c.args.references.now c.requires.are.0 c.requires.are.1 i r (at-place c.args.references.now i r c.loop-reference-test.true c.reference-item.is) in
     (o.revision, o.is_of)
 
 pub returns-in_err-behind : goal.returns-in_err-behind
