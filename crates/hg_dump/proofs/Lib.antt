@@ -10,4 +10,5 @@ pub mod OnceLemmas
 pub mod PathLemmas
 pub mod RefersLemmas
 pub mod StripLemmas
+pub mod ToldLemmas
 pub mod WalkLemmas

@@ -5,3 +5,5 @@ pub mod Written
 pub mod State
 pub mod Refers
 pub mod Dumps
+pub mod Told
+pub mod ToldParts

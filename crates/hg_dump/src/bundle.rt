@@ -6,6 +6,7 @@ ghost use Rattle.view_model.specs.View.{ChangesetView};
 ghost use Rattle.view_model.specs.Held.{AreChangesetsHeld};
 ghost use Rattle.view_model.specs.Dump.{written_bundle, hg_increment};
 ghost use Rattle.hg_dump.specs.State.{AreBrought};
+ghost use Rattle.hg_dump.specs.Told.{TellsTexts};
 
 use crate::brought::Brought;
 use crate::dump::Dump;
@@ -40,14 +41,17 @@ pub fn write(alloc: Global, store: &HgStore, order: &IdList, from: usize) -> Res
     Ok(out)
 }
 
-/// Whether bytes are the bundle of all changesets of a list, as [`write`] gives it from place 0 on. The bundle is not written.
-pub fn is_dump(
+/// Whether bytes that were read into this store are the bundle of all changesets of a list, as [`write`] gives it from place 0 on.
+///
+/// Each entry makes the text that is known under its node, so no text is compared, and the bundle is not written.
+pub fn read_is_dump(
     alloc: Global,
     store: &HgStore,
     order: &IdList,
     bytes: &[u8],
 ) -> Result<bool, NoMemory>
-    requires { (hs : List ChangesetView) × AreChangesetsHeld store.now order.now hs }
+    requires told { TellsTexts store.now bytes.now }
+    requires held { (hs : List ChangesetView) × AreChangesetsHeld store.now order.now hs }
     ensures { IfOk result (λ yes. (hs : List ChangesetView) → AreChangesetsHeld store.now order.now hs
         → (yes ≡ true) ↔ (bytes.now ≡ hg_increment store.now [] hs)) }
 {

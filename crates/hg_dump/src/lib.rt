@@ -13,7 +13,7 @@ mod references;
 mod refers;
 mod strip;
 
-pub use bundle::{is_dump, write, written_len};
+pub use bundle::{read_is_dump, write, written_len};
 pub use dump::Dump;
 pub use held::are_held;
 pub use refers::{Refers, lines_of, manifest_of};

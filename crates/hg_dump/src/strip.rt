@@ -1,7 +1,8 @@
-// Bytes are compared with a bundle that isn't written.
-ghost use Rattle.std.specs.Prelude.{◌≡◌, ◌+◌, ◌++◌, ◌≤◌, ◌<◌, ◌^◌, [], true, List, length, MatchOption};
+// Bytes of a bundle that was read are compared with a bundle that isn't written. No text is compared.
+ghost use Rattle.std.specs.Prelude.{◌≡◌, ◌+◌, ◌++◌, ◌≤◌, ◌<◌, ◌^◌, [], true, List, length, IfSome, MatchOption};
 ghost use Rattle.std.specs.List.{flat_map};
 ghost use Rattle.byteorder.specs.Endian.{big_bytes};
+ghost use Rattle.text_model.specs.Text.{Bytes};
 ghost use Rattle.text_model.specs.Id.{IsId};
 ghost use Rattle.hg_model.specs.Revision.{FilesAt, Revision};
 ghost use Rattle.hg_model.specs.Chunk.{chunk_text};
@@ -11,6 +12,8 @@ ghost use Rattle.hg_store.specs.Groups.{group_value};
 ghost use Rattle.view_model.specs.Dump.{written_bundle, written_group};
 ghost use Rattle.hg_dump.specs.Begins.{LacksFront, HasFront, IsBehind};
 ghost use Rattle.hg_dump.specs.State.{AreBrought, AreFiles, AreRising, paths_of};
+ghost use Rattle.hg_dump.specs.Told.{TellsTexts};
+ghost use Rattle.hg_dump.specs.ToldParts.{TellsDelta, TellsGroup, TellsFiles};
 ghost use Rattle.hg_dump.specs.Written.{AreOf, IsOf, base_size, entry_over, entry_chunk, file_part, file_part_of};
 
 use crate::brought::Brought;
@@ -23,9 +26,10 @@ use byteorder::{BigEndian, ByteOrder};
 use hg_store::{Group, HgStore};
 use std::collections::BTreeMap;
 
-/// Whether bytes are the bundle of what was brought. The bundle is not written.
+/// Whether bytes that were read into this store are the bundle of what was brought. The bundle is not written.
 pub fn is_bundle(bytes: &[u8], store: &HgStore, brought: &Brought) -> bool
-    requires { (rs : List Revision) × AreBrought store.now brought.now rs }
+    requires told { TellsTexts store.now bytes.now }
+    requires brought { (rs : List Revision) × AreBrought store.now brought.now rs }
     ensures yes { (rs : List Revision) → AreBrought store.now brought.now rs → result ≡ true → bytes.now ≡ bundle_text (written_bundle store.now rs) }
     ensures no { (rs : List Revision) → AreBrought store.now brought.now rs → bytes.now ≡ bundle_text (written_bundle store.now rs) → result ≡ true }
 {
@@ -37,7 +41,8 @@ pub fn is_bundle(bytes: &[u8], store: &HgStore, brought: &Brought) -> bool
 
 // What follows the bundle of what was brought.
 fn strip_bundle<'a>(bytes: &'a [u8], store: &HgStore, brought: &Brought) -> Option<&'a [u8]>
-    requires { (rs : List Revision) × AreBrought store.now brought.now rs }
+    requires told { TellsTexts store.now bytes.now }
+    requires brought { (rs : List Revision) × AreBrought store.now brought.now rs }
     ensures { (rs : List Revision) → AreBrought store.now brought.now rs → IsBehind bytes.entry.now (bundle_text (written_bundle store.now rs)) result }
 {
     let changesets = strip(bytes, MAGIC)?;
@@ -63,7 +68,8 @@ fn strip_files<'a>(
     store: &HgStore,
     files: &BTreeMap<Vec<u8>, References>,
 ) -> Option<&'a [u8]>
-    requires { (rs : List Revision) × AreFiles store.now files.now rs }
+    requires told { TellsFiles store.now bytes.now }
+    requires files { (rs : List Revision) × AreFiles store.now files.now rs }
     ensures behind { (rs : List Revision) → AreFiles store.now files.now rs → IsBehind bytes.entry.now (flat_map (file_part store.now rs) (paths_of files.now)) result }
     ensures rising { AreRising (paths_of files.now) }
 {
@@ -80,9 +86,11 @@ fn strip_file<'a>(
     path: &[u8],
     references: &[Reference],
 ) -> Option<&'a [u8]>
-    requires { (rs : List Revision) × AreOf store.now (FilesAt path.now) references.now rs }
-    ensures { (rs : List Revision) → AreOf store.now (FilesAt path.now) references.now rs
+    requires told { TellsFiles store.now bytes.now }
+    requires are { (rs : List Revision) × AreOf store.now (FilesAt path.now) references.now rs }
+    ensures behind { (rs : List Revision) → AreOf store.now (FilesAt path.now) references.now rs
         → IsBehind bytes.entry.now (file_part_of (record { path = path.now; entries = written_group store.now (FilesAt path.now) rs }) rs) result }
+    ensures told { IfSome result (λ rest. TellsFiles store.now rest.now) }
 {
     if references.is_empty() {
         return Some(bytes);
@@ -100,9 +108,11 @@ fn strip_group<'a>(
     group: Group<'_>,
     references: &[Reference],
 ) -> Option<&'a [u8]>
-    requires { (rs : List Revision) × AreOf store.now (group_value group) references.now rs }
-    ensures { (rs : List Revision) → AreOf store.now (group_value group.entry) references.now rs
+    requires told { (tail : Bytes) × TellsGroup store.now (group_value group) bytes.now tail }
+    requires are { (rs : List Revision) × AreOf store.now (group_value group) references.now rs }
+    ensures behind { (rs : List Revision) → AreOf store.now (group_value group.entry) references.now rs
         → IsBehind bytes.entry.now (group_text (written_group store.now (group_value group.entry) rs)) result }
+    ensures tail { IfSome result (λ rest. (tail : Bytes) → TellsGroup store.now (group_value group.entry) bytes.entry.now tail → rest.now ≡ tail) }
 {
     let base_len = first_base_len(store, group, references);
     strip_entries(bytes, store, group, references, base_len)
@@ -116,10 +126,12 @@ fn strip_entries<'a>(
     references: &[Reference],
     base_len: u32,
 ) -> Option<&'a [u8]>
+    requires told { (tail : Bytes) × TellsGroup store.now (group_value group) bytes.now tail }
     requires are { (rs : List Revision) × AreOf store.now (group_value group) references.now rs }
     requires base { (rs : List Revision) → AreOf store.now (group_value group) references.now rs → base_len ≡ base_size store.now (group_value group) rs }
-    ensures { (rs : List Revision) → AreOf store.now (group_value group.entry) references.now rs
+    ensures behind { (rs : List Revision) → AreOf store.now (group_value group.entry) references.now rs
         → IsBehind bytes.entry.now (group_text (written_group store.now (group_value group.entry) rs)) result }
+    ensures tail { IfSome result (λ rest. (tail : Bytes) → TellsGroup store.now (group_value group.entry) bytes.entry.now tail → rest.now ≡ tail) }
 {
     let mut base_len = base_len;
     let mut rest = bytes;
@@ -139,10 +151,12 @@ fn strip_entry<'a>(
     reference: &Reference,
     base_len: u32,
 ) -> Option<(&'a [u8], u32)>
-    requires { (r : Revision) × IsOf store.now (group_value group) reference.now r }
-    ensures { (r : Revision) → IsOf store.now (group_value group.entry) reference.now r
+    requires told { (tail : Bytes) × TellsGroup store.now (group_value group) bytes.now tail }
+    requires is { (r : Revision) × IsOf store.now (group_value group) reference.now r }
+    ensures entry { (r : Revision) → IsOf store.now (group_value group.entry) reference.now r
         → MatchOption result (LacksFront bytes.entry.now (entry_chunk (entry_over base_len r)))
         (λ found. HasFront bytes.entry.now (entry_chunk (entry_over base_len r)) found.0.now × (found.1 ≡ length r.text)) }
+    ensures told { IfSome result (λ found. (tail : Bytes) → TellsGroup store.now (group_value group.entry) bytes.entry.now tail → TellsGroup store.now (group_value group.entry) found.0.now tail) }
 {
     let text = store.revision_text(group, &reference.node).unwrap();
     let (p, q) = parents(store, group, &reference.node);
@@ -175,7 +189,8 @@ fn strip_header<'a>(
 
 // What follows the delta that replaces a base of this length by the text.
 fn strip_delta<'a>(bytes: &'a [u8], base_len: u32, text: &[u8]) -> Option<&'a [u8]>
-    requires { length text.now < 2 ^ 32 }
+    requires told { TellsDelta bytes.now (length (whole_delta base_len text.now)) text.now }
+    requires short { length text.now < 2 ^ 32 }
     ensures { IsBehind bytes.entry.now (whole_delta base_len text.now) result }
 {
     if base_len == 0 && text.is_empty() {
@@ -184,14 +199,16 @@ fn strip_delta<'a>(bytes: &'a [u8], base_len: u32, text: &[u8]) -> Option<&'a [u
     strip_hunk(bytes, base_len, text)
 }
 
+// What follows the hunk that replaces a base of this length by the text. The bytes make the text, so those behind the three numbers are it.
 fn strip_hunk<'a>(bytes: &'a [u8], base_len: u32, text: &[u8]) -> Option<&'a [u8]>
-    requires { length text.now < 2 ^ 32 }
+    requires told { TellsDelta bytes.now (12 + length text.now) text.now }
+    requires short { length text.now < 2 ^ 32 }
     ensures { IsBehind bytes.entry.now (hunk_text (record { start = 0; finish = base_len; bytes = text.now })) result }
 {
     let finish = strip_number(bytes, 0)?;
     let len = strip_number(finish, base_len)?;
     let new = strip_number(len, text.len() as u32)?;
-    strip(new, text)
+    Some(&new[text.len()..])
 }
 
 // What follows the chunk of a payload.

@@ -12,6 +12,7 @@ use Rattle.view_model.specs.View.{ChangesetView, changeset_node}
 use Rattle.view_model.specs.Held.{AreChangesetsHeld}
 use Rattle.view_model.specs.Dump.{brought_by, hg_increment}
 use Rattle.state_model.specs.Limits.{dump_limit}
+use Rattle.hg_dump.specs.Told.{TellsTexts}
 use Rattle.hg_dump_law.specs.Taken.{in_bundle_order}
 use Rattle.hg_section.specs.declared.section.HgSection.{HgSection}
 
@@ -28,11 +29,12 @@ pub record HoldsChangesets (s : HgSection) (hs : List ChangesetView) : Type 0 wh
 abbrev pub IsRefused : Bytes → Type 0
 IsRefused bytes = is_ok (bundle_reading [] bytes) ≡ false
 
--- the bytes are read: what is known then, each revision added to those before it, and the arrivals
+-- the bytes are read: what is known then, each revision added to those before it, and the arrivals. Each entry makes the text that is known then.
 pub record IsRead (bytes : Bytes) (store : List Revision) (listed : List Arrival) : Type 0 where
   pub reads : Reads [] bytes (Ok (store, listed))
   pub short : length bytes ≤ dump_limit
   pub added : AreAdded store
+  pub told : TellsTexts store bytes
 
 abbrev pub is_changeset : Arrival → Bool
 is_changeset a = same_kind Changeset a.kind

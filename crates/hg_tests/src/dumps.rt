@@ -1,6 +1,9 @@
 // Bundles of what a store has.
+ghost use Rattle.std.specs.Prelude.{[]};
+ghost use Rattle.hg_dump.specs.Told.{TellsTexts};
+
 use bridge_text::{Id, IdList, fit_path};
-use hg_dump::{Dump, are_held, is_dump, write, written_len};
+use hg_dump::{Dump, are_held, read_is_dump, write, written_len};
 use hg_store::{Group, HgStore};
 use rope::Rope;
 use shared_text::{Text, keep};
@@ -366,8 +369,6 @@ fn written(
     let len = written_len(alloc, store, order.as_slice())?;
     let bytes = write(alloc, store, order, from)?.joined()?;
     assert!(rt; from > 0 || len == bytes.len() as u64);
-    let is_dump = is_dump(alloc, store, order, bytes.as_slice())?;
-    assert!(rt; is_dump == (from == 0));
     let dump = Dump::collect(alloc, store, order.as_slice(), from)?;
     assert!(rt; dump.len() == bytes.len() as u64);
     let mut out = Rope::of(alloc, b"front ".to_vec(alloc)?);
@@ -391,5 +392,27 @@ fn bundles(rt: HostRuntime) -> Result<(), Fail> {
         let is_written = is_written(&rt, rt.alloc(), &store, case)?;
         assert!(rt; is_written);
     }
+    Ok(())
+}
+
+// Whether bytes are the bundle of no changesets of a store without revisions.
+fn is_dump_of_nothing(alloc: Global, bytes: &[u8]) -> Result<bool, Fail>
+    requires { TellsTexts [] bytes.now }
+{
+    let store = HgStore::new(alloc);
+    let order = IdList::new(alloc);
+    Ok(read_is_dump(alloc, &store, &order, bytes)?)
+}
+
+/// The bundle of no changesets has no path.
+#[test]
+fn dumps_of_nothing(rt: HostRuntime) -> Result<(), Fail> {
+    let empty = is_dump_of_nothing(rt.alloc(), b"HG10UN\0\0\0\0\0\0\0\0\0\0\0\0")?;
+    assert!(rt; empty);
+    let path = is_dump_of_nothing(
+        rt.alloc(),
+        b"HG10UN\0\0\0\0\0\0\0\0\0\0\0\x05a\0\0\0\0\0\0\0\0",
+    )?;
+    assert!(rt; !path);
     Ok(())
 }

@@ -9,10 +9,11 @@ use Rattle.hg_dump.proofs.BundleLemmas.{positive}
 use Rattle.hg_dump.proofs.EntryLemmas.{some-held, of-length}
 use Rattle.hg_dump.proofs.HeldLemmas.{held-path}
 use Rattle.hg_dump.proofs.StripLemmas.{lacks-first, behind-both, part-none, part-some, no-references}
+use Rattle.hg_dump.proofs.ToldLemmas.{told-file, told-left}
 use Rattle.hg_dump.proofs.strip.strip_file.Goals as goal
 
-pub returns-then-is_empty : goal.returns-then-is_empty
-returns-then-is_empty c = λ rs are.
+pub returns-then-is_empty-clause-behind : goal.returns-then-is_empty-clause-behind
+returns-then-is_empty-clause-behind c = λ rs are.
     let known = c.args.store.now in
     let path = c.args.path.now in
     let bytes = c.args.bytes.now in
@@ -25,12 +26,22 @@ strip_chunk-requires c =
     let path = c.args.path.now in
     let references = c.args.references.now in
     let some = positive _ (sym c.if-is_empty.ensures) in
-    let first = some-held known (FilesAt path) references c.requires.0 c.requires.1 some in
+    let first = some-held known (FilesAt path) references c.requires.are.0 c.requires.are.1 some in
     let size = held-path known path first.revision (c.first_base_len-base_len.ensures.known some) first.is_held in
     record { some = size.0; limit = omega (arith, size.1) }
 
-pub returns-in_err-entries : goal.returns-in_err-entries
-returns-in_err-entries c = rw c.from_residual.ensures (λ rs are.
+pub strip_entries-requires-clause-told : goal.strip_entries-requires-clause-told
+strip_entries-requires-clause-told c =
+    let known = c.args.store.now in
+    let path = c.args.path.now in
+    let some = positive _ (sym c.if-is_empty.ensures) in
+    let first = some-held known (FilesAt path) c.args.references.now c.requires.are.0 c.requires.are.1 some in
+    let sizes = held-path known path first.revision (c.first_base_len-base_len.ensures.known some) first.is_held in
+    let f = told-file known c.args.bytes.now path c.in_ok-entries.entries.now c.requires.told c.in_ok-entries.ensures (omega (arith, sizes.0)) (omega (arith, sizes.1)) in
+    (f.tail, f.group)
+
+pub returns-in_err-entries-clause-behind : goal.returns-in_err-entries-clause-behind
+returns-in_err-entries-clause-behind c = rw c.from_residual.ensures (λ rs are.
     let known = c.args.store.now in
     let path = c.args.path.now in
     let bytes = c.args.bytes.now in
@@ -39,12 +50,22 @@ returns-in_err-entries c = rw c.from_residual.ensures (λ rs are.
     (part-some f rs (omega (arith, positive _ (sym c.if-is_empty.ensures), of-length known (FilesAt path) c.args.references.now rs are)))
     (lacks-first bytes (chunk_text path) (group_text f.entries) c.in_err-entries.ensures))
 
-pub returns : goal.returns
-returns c = λ rs are.
+pub returns-clause-behind : goal.returns-clause-behind
+returns-clause-behind c = λ rs are.
     let known = c.args.store.now in
     let path = c.args.path.now in
     let bytes = c.args.bytes.now in
     let f : FileGroup = record { path = path; entries = written_group known (FilesAt path) rs } in
     subst (λ (x : Bytes). IsBehind bytes x c.strip_entries.result)
     (part-some f rs (omega (arith, positive _ (sym c.if-is_empty.ensures), of-length known (FilesAt path) c.args.references.now rs are)))
-    (behind-both bytes (chunk_text path) (group_text f.entries) c.in_ok-entries.entries.now c.strip_entries.result c.in_ok-entries.ensures (c.strip_entries.ensures rs are))
+    (behind-both bytes (chunk_text path) (group_text f.entries) c.in_ok-entries.entries.now c.strip_entries.result c.in_ok-entries.ensures (c.strip_entries.ensures.behind rs are))
+
+pub returns-clause-told : goal.returns-clause-told
+returns-clause-told c =
+    let known = c.args.store.now in
+    let path = c.args.path.now in
+    let some = positive _ (sym c.if-is_empty.ensures) in
+    let first = some-held known (FilesAt path) c.args.references.now c.requires.are.0 c.requires.are.1 some in
+    let sizes = held-path known path first.revision (c.first_base_len-base_len.ensures.known some) first.is_held in
+    let f = told-file known c.args.bytes.now path c.in_ok-entries.entries.now c.requires.told c.in_ok-entries.ensures (omega (arith, sizes.0)) (omega (arith, sizes.1)) in
+    told-left known path c.in_ok-entries.entries.now c.strip_entries.result f c.strip_entries.ensures.tail

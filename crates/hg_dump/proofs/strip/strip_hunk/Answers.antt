@@ -1,8 +1,10 @@
-use Rattle.std.proofs.Common.{◌++◌, length, subst}
+use Rattle.std.proofs.Common.{◌++◌, ◌-◌, length, take, drop, subst, sym, arith, length-drop}
+use Rattle.std.proofs.lemmas.List.{take_all}
 use Rattle.byteorder.specs.Endian.{big_bytes}
 use Rattle.text_model.specs.Text.{Bytes}
-use Rattle.hg_dump.specs.Begins.{LacksFront, IsBehind}
-use Rattle.hg_dump.proofs.StripLemmas.{has-both, lacks-first, lacks-second, behind-both, hunk-spelled}
+use Rattle.hg_dump.specs.Begins.{LacksFront, HasFront}
+use Rattle.hg_dump.proofs.StripLemmas.{has-both, lacks-first, lacks-second, hunk-spelled}
+use Rattle.hg_dump.proofs.ToldLemmas.{hunk-behind}
 use Rattle.hg_dump.proofs.strip.strip_hunk.Goals as goal
 
 pub returns-in_err-finish : goal.returns-in_err-finish
@@ -43,10 +45,13 @@ pub returns : goal.returns
 returns c =
     let bytes = c.args.bytes.now in
     let text = c.args.text.now in
+    let new = c.in_ok-new.new.now in
     let start = big_bytes 4 0 in
     let finish = big_bytes 4 c.args.base_len in
     let len = big_bytes 4 (length text) in
     let two = has-both bytes start finish c.in_ok-finish.finish.now c.in_ok-len.len.now c.in_ok-finish.ensures c.in_ok-len.ensures in
-    let three = has-both bytes (start ++ finish) len c.in_ok-len.len.now c.in_ok-new.new.now two c.in_ok-new.ensures in
-    subst (λ (f : Bytes). IsBehind bytes f c.strip.result) (hunk-spelled c.args.base_len text)
-    (behind-both bytes (start ++ finish ++ len) text c.in_ok-new.new.now c.strip.result three c.strip.ensures)
+    let three = has-both bytes (start ++ finish) len c.in_ok-len.len.now new two c.in_ok-new.ensures in
+    let behind = hunk-behind bytes new text c.args.base_len c.requires.told c.ranges.base_len.fits c.requires.short three in
+    let all = take_all (length new - length text) (drop (length text) new) (omega (arith, length-drop (length text) new)) in
+    subst (λ (f : Bytes). HasFront bytes f (take (length new - length text) (drop (length text) new))) (hunk-spelled c.args.base_len text)
+    (has-both bytes (start ++ finish ++ len) text new (take (length new - length text) (drop (length text) new)) three (subst (λ (x : Bytes). HasFront new text x) (sym all) behind.1))

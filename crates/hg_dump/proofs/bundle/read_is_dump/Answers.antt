@@ -2,12 +2,12 @@ use Rattle.std.proofs.Common.{[], List, sym, subst}
 use Rattle.text_model.specs.Id.{Id}
 use Rattle.view_model.specs.Held.{AreChangesetsHeld}
 use Rattle.view_model.specs.Dump.{brought_by}
-use Rattle.hg_dump.proofs.bundle.is_dump.Goals as goal
+use Rattle.hg_dump.proofs.bundle.read_is_dump.Goals as goal
 
-pub is_bundle-requires : goal.is_bundle-requires
-is_bundle-requires c =
-    let hs = c.requires.0 in
-    let are = c.requires.1 in
+pub is_bundle-requires-clause-brought : goal.is_bundle-requires-clause-brought
+is_bundle-requires-clause-brought c =
+    let hs = c.requires.held.0 in
+    let are = c.requires.held.1 in
     (brought_by [] hs, c.in_ok-brought.ensures.brought hs (subst (λ (l : List Id). AreChangesetsHeld c.args.store.now l hs) (sym c.as_slice.ensures) are))
 
 pub returns : goal.returns
