@@ -92,6 +92,12 @@ visited-again objects a h =
       listed = nothing.listed ∙ ap (λ (l : List Object). a.listed ++ ids_of l) (sym none);
     }
 
+-- an entry that was met adds nothing
+pub entry-again : (known : List Object) (depth : ℕ) (e : TreeEntry) (a : Met) → IsClosed known a.met → has_id a.met e.id ≡ true → Visited (entry_objects known (walk_objects known depth) e) a a
+entry-again known depth e a closed h =
+    visited-again (entry_objects known (walk_objects known depth) e) a
+    (entry-met known a.met (walk_objects known depth) e (record { subtree = λ d. h; file = λ d. h }) (all-met known a.met closed depth e.id))
+
 -- ---- what was visited is met
 
 pub first-met : (met : List Id) (objects : List Object) → AreMet (met ++ ids_of (first_met met objects)) objects
@@ -110,6 +116,15 @@ first-met met (o ∷ objects) = by (has_id met o.id) refl (first-met met objects
 
 pub visited-met : (objects : List Object) (a b : Met) → Visited objects a b → AreMet b.met objects
 visited-met objects a b v = subst (λ (m : List Id). AreMet m objects) (sym v.met) (first-met a.met objects)
+
+-- ---- what was met stays so
+
+pub id-later : (objects : List Object) (a b : Met) (id : Id) → Visited objects a b → has_id a.met id ≡ true → has_id b.met id ≡ true
+id-later objects a b id v h = subst (λ (m : List Id). has_id m id ≡ true) (sym v.met) (stays-met a.met (ids_of (first_met a.met objects)) id h)
+
+pub entries-later : (objects : List Object) (a b : Met) (es : List TreeEntry) → Visited objects a b → Each (IsMetEntry a.met) es → Each (IsMetEntry b.met) es
+entries-later objects a b es v h =
+    Each-weaker (IsMetEntry a.met) (IsMetEntry b.met) (λ e k. record { subtree = λ d. id-later objects a b e.id v (k.subtree d); file = λ d. id-later objects a b e.id v (k.file d) }) es h
 
 -- ---- what stays closed
 
@@ -157,7 +172,7 @@ blob-there known id h = let t = there known blob id h in (t.object, t.at, ap (λ
 self-met : (known : List Object) (met : List Id) (id : Id) (o : Object) → object_at known id ≡ Some o → AreMet met (objects_at known id) → has_id met id ≡ true
 self-met known met id o at h = subst (λ (x : Id). has_id met x ≡ true) (sym (found-id known id o at)) (subst (λ (p : Option Object). AreMet met (object_list p)) at h).0
 
-root-met : (known : List Object) (met : List Id) (depth : ℕ) (id : Id) → IsWalkable known depth id → AreMet met (walk_objects known depth id) → has_id met id ≡ true
+pub root-met : (known : List Object) (met : List Id) (depth : ℕ) (id : Id) → IsWalkable known depth id → AreMet met (walk_objects known depth id) → has_id met id ≡ true
 unfolding IsWalkable
 root-met known met zero id w h = absurd w
 root-met known met (suc depth) id w h =
@@ -209,8 +224,8 @@ flat-more f entries i e h is =
     ∙ flat_map-append f (take i entries) (e ∷ [])
     ∙ ap (λ (t : List Object). flat_map f (take i entries) ++ t) (append-nil (f e))
 
-pub one-more : (depth below : ℕ) → 1 ≤ depth → below ≡ depth - 1 → depth ≡ suc below
-one-more depth below h is = omega (arith, h, is)
+pub one-more : (depth : ℕ) → (depth ≡ 0 → ⊥) → depth ≡ suc (depth - 1)
+one-more depth h = omega (arith, h)
 
 -- the entry at a place of the tree
 pub record Turn (known : List Object) (depth : ℕ) (id : Id) (items : List TreeEntry) (i : ℕ) (e : TreeEntry) : Type 0 where
@@ -218,6 +233,15 @@ pub record Turn (known : List Object) (depth : ℕ) (id : Id) (items : List Tree
   pub walkable : IsWalkable known (suc depth) id
   pub within : i < length items
   pub is : e ≡ get_or items i e
+
+pub turn-of : (known : List Object) (depth : ℕ) (id : Id) (entries items : List TreeEntry) (i : ℕ) (e : TreeEntry) → (depth ≡ 0 → ⊥) → Some entries ≡ tree_at known id → items ≡ entries
+    → IsWalkable known depth id → i < length items → e ≡ get_or items i e → Turn known (depth - 1) id items i e
+turn-of known depth id entries items i e some at same walkable within is = record {
+  at = sym at ∙ ap (λ (es : List TreeEntry). Some es) (sym same);
+  walkable = subst (λ (n : ℕ). IsWalkable known n id) (one-more depth some) walkable;
+  within = within;
+  is = is;
+}
 
 pub turn-entry : (known : List Object) (depth : ℕ) (id : Id) (items : List TreeEntry) (i : ℕ) (e : TreeEntry) → Turn known depth id items i e → IsWalkableEntry known (IsWalkable known depth) e
 turn-entry known depth id items i e t = each-at (IsWalkableEntry known (IsWalkable known depth)) items i e (walkable-entries known depth id items t.walkable t.at) t.within t.is

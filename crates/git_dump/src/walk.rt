@@ -1,16 +1,17 @@
 // The walk through the trees of commits.
-ghost use Rattle.std.specs.Prelude.{◌≡◌, ◌<◌, ◌↔◌, List, [], ◌∷◌, IsTrue, OnOk, Some, length, slice_get};
-ghost use Rattle.text_model.specs.Id.{has_id};
+ghost use Rattle.std.specs.Prelude.{◌≡◌, ◌<◌, ◌↔◌, true, List, [], ◌∷◌, IsTrue, IfOk, IfSome, OnOk, Some, length, slice_get};
+ghost use Rattle.text_model.specs.Lists.{Each};
+ghost use Rattle.text_model.specs.Id.{Id, has_id};
 ghost use Rattle.view_model.specs.View.{CommitView, commit_objects};
 ghost use Rattle.git_dump.specs.Commits.{IsWalkableCommit, AreWalkableCommits};
 ghost use Rattle.git_dump.specs.Visits.{ids_of, met_by, IsWalk, MeetsOther, Visits};
-ghost use Rattle.git_dump.specs.Walks.{objects_at, file_objects, walk_objects, IsWalkable, IsClosed};
+ghost use Rattle.git_dump.specs.Walks.{objects_at, file_objects, walk_objects, IsWalkable, IsMetEntry, IsClosed};
 ghost use Rattle.git_model.specs.Object.{Object};
 ghost use Rattle.git_store.specs.Places.{IsPlaceOf};
 ghost use Rattle.view_model.specs.Dump.{objects_in};
 
 use bridge_text::{Id, IdList, IdSet, NoMemory};
-use git_object::{Objects, TreeEntry};
+use git_object::{Mode, Objects, TreeEntry};
 use git_store::GitStore;
 use std::alloc::Global;
 use tree_shape::LEVELS;
@@ -74,50 +75,71 @@ impl Walk {
         ensures visits { OnOk result ((cs : List CommitView) → AreWalkableCommits store.now ids.now cs → Visits store.now (objects_in cs) self.old self.new) }
         ensures closed { OnOk result (IsClosed store.now (met_by store.now self.new).met) }
     {
+        let mut beside: &[TreeEntry] = &[];
         for id in ids {
-            self.visit_commit(store, id)?;
+            beside = self.visit_commit(store, id, beside)?;
         }
         Ok(())
     }
 
-    fn visit_commit(&mut self, store: &GitStore, id: &Id) -> Result<(), NoMemory>
+    // Visits the objects of a commit, whose tree is walked beside entries that were met. The entries of its tree, which are met then.
+    fn visit_commit<'a>(
+        &mut self,
+        store: &'a GitStore,
+        id: &Id,
+        beside: &[TreeEntry],
+    ) -> Result<&'a [TreeEntry], NoMemory>
         requires commit { (c : CommitView) × IsWalkableCommit store.now id.now c }
         requires walk { IsWalk store.now self.old }
         requires closed { IsClosed store.now (met_by store.now self.old).met }
+        requires beside { Each (IsMetEntry (met_by store.now self.old).met) beside.now }
         ensures visits { OnOk result ((c : CommitView) → IsWalkableCommit store.now id.now c → Visits store.now (commit_objects c) self.old self.new) }
         ensures closed { OnOk result (IsClosed store.now (met_by store.now self.new).met) }
+        ensures entries { IfOk result (λ entries. Each (IsMetEntry (met_by store.now self.new).met) entries.now) }
     {
         let Some(commit) = store.commit(id) else {
-            return Ok(());
+            return Ok(&[]);
         };
-        self.visit_tree(store, &commit.tree, LEVELS)?;
-        self.visit_object(store, id)
+        self.visit_tree(store, &commit.tree, beside, LEVELS)?;
+        self.visit_object(store, id)?;
+        Ok(entries_of(store, &commit.tree))
     }
 
     // Visits the objects of the entries of a tree, in their order and subtrees whole, and then the tree. So many trees may
-    // lie on the way to a file. What a tree reaches that was met is not walked through again.
-    fn visit_tree(&mut self, store: &GitStore, root: &Id, depth: usize) -> Result<(), NoMemory>
+    // lie on the way to a file. What a tree reaches that was met is not walked through again. Nor is an entry looked up that
+    // stands beside one of the same object among entries that were met, those of the tree before.
+    fn visit_tree(
+        &mut self,
+        store: &GitStore,
+        root: &Id,
+        beside: &[TreeEntry],
+        depth: usize,
+    ) -> Result<(), NoMemory>
         requires walkable { IsWalkable store.now depth root.now }
         requires walk { IsWalk store.now self.old }
         requires closed { IsClosed store.now (met_by store.now self.old).met }
+        requires beside { Each (IsMetEntry (met_by store.now self.old).met) beside.now }
         ensures visits { OnOk result (Visits store.now (walk_objects store.now depth root.now) self.old self.new) }
         ensures closed { OnOk result (IsClosed store.now (met_by store.now self.new).met) }
     {
         let Some(place) = store.place(root) else {
             return Ok(());
         };
-        if self.has_met(place, root) {
+        if depth == 0 || self.has_met(place, root) {
             return Ok(());
         }
-        let Some(below) = depth.checked_sub(1) else {
-            return Ok(());
-        };
         let Some(tree) = store.tree(root) else {
             return Ok(());
         };
+        let mut ahead = beside;
         for entry in tree.entries() {
+            let (other, rest) = next_beside(ahead, entry);
+            ahead = rest;
+            if is_of_same(other, entry) {
+                continue;
+            }
             if entry.mode().is_directory() {
-                self.visit_tree(store, entry.id(), below)?;
+                self.visit_tree(store, entry.id(), subtree_entries(store, other), depth - 1)?;
             } else {
                 self.visit_file(store, entry)?;
             }
@@ -185,5 +207,56 @@ impl Walk {
         } else {
             Ok(())
         }
+    }
+}
+
+// The entry that stands beside one of another tree, the first of these that isn't below it; and those that are left to stand
+// beside the next.
+fn next_beside<'a>(
+    others: &'a [TreeEntry],
+    entry: &TreeEntry,
+) -> (Option<&'a TreeEntry>, &'a [TreeEntry])
+    ensures { (met : List Id) → Each (IsMetEntry met) others.now → IfSome result.0 (λ other. IsMetEntry met other.now) × Each (IsMetEntry met) result.1.now }
+{
+    let mut ahead = others;
+    'others: while let Some((first, rest)) = ahead.split_first() {
+        if is_of_same(Some(first), entry) {
+            return (Some(first), rest);
+        }
+        if !first.order_name().is_below(&entry.order_name()) {
+            return (Some(first), ahead);
+        }
+        ahead = rest;
+    }
+    (None, ahead)
+}
+
+// Whether an entry is of the object of another one, which lies in the same repository.
+fn is_of_same(other: Option<&TreeEntry>, entry: &TreeEntry) -> bool
+    ensures { (met : List Id) → IfSome other.entry (λ other. IsMetEntry met other.now) → IsTrue result → has_id met entry.now.id ≡ true }
+{
+    match other {
+        Some(other) => other.id() == entry.id() && other.mode() != Mode::Gitlink,
+        None => false,
+    }
+}
+
+// The entries of the tree that an entry names, where it does.
+fn subtree_entries<'a>(store: &'a GitStore, entry: Option<&TreeEntry>) -> &'a [TreeEntry]
+    ensures { (met : List Id) → IsClosed store.now met → IfSome entry.entry (λ entry. IsMetEntry met entry.now) → Each (IsMetEntry met) result.now }
+{
+    match entry {
+        Some(entry) if entry.mode().is_directory() => entries_of(store, entry.id()),
+        _ => &[],
+    }
+}
+
+// The entries of a tree; none where there is no tree with this id.
+fn entries_of<'a>(store: &'a GitStore, id: &Id) -> &'a [TreeEntry]
+    ensures { (met : List Id) → IsClosed store.now met → has_id met id.now ≡ true → Each (IsMetEntry met) result.now }
+{
+    match store.tree(id) {
+        Some(tree) => tree.entries(),
+        None => &[],
     }
 }

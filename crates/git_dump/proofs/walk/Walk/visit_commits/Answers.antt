@@ -12,13 +12,14 @@ loop-id-init c = record {
   visits = λ cs are. record { visited = visited-none (met_by c.args.store.now c.args.self.now); walk = c.requires.walk };
   walk = c.requires.walk;
   closed = c.requires.closed;
+  beside = tt;
 }
 
 pub visit_commit-requires : goal.visit_commit-requires
 visit_commit-requires c =
     let id = c.id-item.result in
     let at = commit-at_place c.args.store.now c.args.ids.now c.requires.commits.0 c.requires.commits.1 c.loop-id.id-index id id c.loop-id-test.true c.id-item.is in
-    record { commit = (at.view, at.is); walk = c.loop-id.invariant.walk; closed = c.loop-id.invariant.closed }
+    record { commit = (at.view, at.is); walk = c.loop-id.invariant.walk; closed = c.loop-id.invariant.closed; beside = c.loop-id.invariant.beside }
 
 pub loop-id-preserved : goal.loop-id-preserved
 loop-id-preserved c =
@@ -29,13 +30,14 @@ loop-id-preserved c =
     record {
       visits = λ cs are.
           let at = commit-at_place known c.args.ids.now cs are i id id c.loop-id-test.true c.id-item.is in
-          let visits = c.in_ok-visit_commit.ensures.visits at.view at.is in
+          let visits = c.in_ok-beside.ensures.visits at.view at.is in
           record {
             visited = visited-push cs i at.view (met_by known c.args.self.now) (met_by known c.loop-id.self) (met_by known c.visit_commit.new.self) at.at_place (c.loop-id.invariant.visits cs are).visited visits.visited;
             walk = visits.walk;
           };
-      walk = (c.in_ok-visit_commit.ensures.visits first.view first.is).walk;
-      closed = c.in_ok-visit_commit.ensures.closed;
+      walk = (c.in_ok-beside.ensures.visits first.view first.is).walk;
+      closed = c.in_ok-beside.ensures.closed;
+      beside = c.in_ok-beside.ensures.entries;
     }
 
 pub returns : goal.returns
