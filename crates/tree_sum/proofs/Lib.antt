@@ -6,3 +6,4 @@ pub mod Passing
 pub mod Entries
 pub mod Keeping
 pub mod Turns
+pub mod Files

@@ -58,3 +58,7 @@ IsAnswer known levels id (Some s) = Passes known levels id × IsSum known id s
 -- the object of an entry that is no directory is there
 abbrev pub is_file_there : List Object → TreeEntry → Bool
 is_file_there known e = not (is_blob_mode e.mode) || is_kind_there blob (object_at known e.id)
+
+-- the object of each of these entries that is no directory is there
+abbrev pub AreFilesThere : List Object → List TreeEntry → Type 0
+AreFilesThere known entries = Each (λ e. is_file_there known e ≡ true) entries

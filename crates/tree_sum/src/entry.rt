@@ -1,5 +1,5 @@
 // The entries of a tree that are no directories.
-ghost use Rattle.std.specs.Prelude.{◌≡◌, ◌≤◌, ◌||◌, not, true, length, MatchOption};
+ghost use Rattle.std.specs.Prelude.{◌≡◌, ◌≤◌, ◌||◌, ◌&&◌, not, true, false, length, MatchOption, IfSome, bytes_eq};
 ghost use Rattle.text_model.specs.Id.{blob};
 ghost use Rattle.git_model.specs.Tree.{is_blob_mode};
 ghost use Rattle.git_model.specs.Unfold.{is_kind_there};
@@ -13,24 +13,44 @@ use git_object::{Objects, TreeEntry};
 use git_store::GitStore;
 
 /// The sum with a file or the commit of another repository; `None` exactly where its blob isn't there or a limit is passed.
-pub fn with_file(sum: &Sum, store: &GitStore, entry: &TreeEntry, levels: usize) -> Option<Sum>
+/// The file of the other entry is there.
+pub fn with_file(
+    sum: &Sum,
+    store: &GitStore,
+    entry: &TreeEntry,
+    other: Option<&TreeEntry>,
+    levels: usize,
+) -> Option<Sum>
+    requires other { IfSome other (λ o. is_file_there store.now o.now ≡ true) }
     requires within { IsWithin levels sum.now }
     requires name { length entry.now.name ≤ 4096 }
     requires levels { levels ≤ 256 }
     ensures { MatchOption result ((is_file_there store.now entry.now ≡ true) × IsWithin levels (both sum.now (under (length entry.now.name) none_below)) → ⊥)
         (λ s. (is_file_there store.now entry.now ≡ true) × (s ≡ both sum.now (under (length entry.now.name) none_below)) × IsWithin levels s) }
 {
-    if !has_object(store, entry) {
+    if !has_object(store, entry, other) {
         return None;
     }
     sum.with_entry(entry.name().len(), &Sum::nothing(), levels)
 }
 
-/// Whether the object of an entry that is no directory is there; none is asked for the commit of another repository.
-fn has_object(store: &GitStore, entry: &TreeEntry) -> bool
+/// Whether the object of an entry that is no directory is there; none is asked for the commit of another repository. A blob
+/// that the other entry names is there, and isn't looked up.
+fn has_object(store: &GitStore, entry: &TreeEntry, other: Option<&TreeEntry>) -> bool
+    requires other { IfSome other (λ o. is_file_there store.now o.now ≡ true) }
     ensures { result ≡ is_file_there store.now entry.now }
 {
-    !entry.mode().is_blob() || has_blob(store, entry.id())
+    !entry.mode().is_blob() || names_blob(other, entry.id()) || has_blob(store, entry.id())
+}
+
+/// Whether the entry is that of the blob with this id.
+pub fn names_blob(entry: Option<&TreeEntry>, id: &Id) -> bool
+    ensures { MatchOption entry.entry (result ≡ false) (λ e. result ≡ (is_blob_mode e.now.mode && bytes_eq e.now.id id.now)) }
+{
+    let Some(entry) = entry else {
+        return false;
+    };
+    entry.mode().is_blob() && entry.id() == id
 }
 
 /// Whether a blob is there.

@@ -3,12 +3,12 @@ ghost use Rattle.std.specs.Map.{lookup};
 ghost use Rattle.git_model.specs.Object.{AreObjects};
 ghost use Rattle.git_model.specs.Unfold.{walk_fault};
 ghost use Rattle.text_model.specs.Id as model;
-ghost use Rattle.tree_sum.specs.Sums.{AreSums, IsSum, IsAnswer, is_summed};
+ghost use Rattle.tree_sum.specs.Sums.{AreSums, IsSum, IsAnswer, is_summed, AreFilesThere};
 
-use crate::entry::with_file;
+use crate::entry::{names_blob, with_file};
 use crate::sum::Sum;
 use bridge_text::{COMPONENT_LIMIT, Id, NoMemory};
-use git_object::Objects;
+use git_object::{Objects, TreeEntry};
 use git_store::GitStore;
 use indexmap::IndexMap;
 use std::alloc::Global;
@@ -18,11 +18,13 @@ use std::marker::Model;
 /// are summed.
 pub struct Sums {
     known: IndexMap<Id, Sum>,
+    /// The last tree through which the walk passed.
+    last: Option<Id>,
 }
 
 impl Drop for Sums {
     fn drop(self) {
-        let Sums { known: _ } = self;
+        let Sums { known: _, last: _ } = self;
     }
 }
 
@@ -43,11 +45,13 @@ impl Sums {
     {
         Sums {
             known: IndexMap::new(alloc),
+            last: None,
         }
     }
 
     /// Whether the walk through a tree passes. A tree through which it does is looked at once, also where thousands of
-    /// commits have it; one that is refused is not kept.
+    /// commits have it; one that is refused is not kept. It is looked at beside the last one that passed, so that only
+    /// blobs that stand elsewhere there are looked up.
     pub fn walks(&mut self, store: &GitStore, root: &Id) -> Result<bool, NoMemory>
         requires sums { AreSums store.now self.old }
         ensures ok { IfOk result (λ passes. IsTrue passes ↔ (walk_fault store.now root.now ≡ None)) }
@@ -55,8 +59,13 @@ impl Sums {
         ensures summed { IfOk result (λ passes. IsTrue passes → IsTrue (is_summed self.new root.now)) }
         ensures stays { (id : model.Id) → IsTrue (is_summed self.old id) → IsTrue (is_summed self.new id) }
     {
-        let sum = self.sum_at(store, root, COMPONENT_LIMIT)?;
-        Ok(sum.is_some())
+        let last = self.last;
+        let sum = self.sum_at(store, root, last, COMPONENT_LIMIT)?;
+        let passes = sum.is_some();
+        if passes {
+            self.last = Some(*root);
+        }
+        Ok(passes)
     }
 
     /// The sum of a tree that was looked at.
@@ -64,6 +73,23 @@ impl Sums {
         ensures { result ≡ lookup (bytes_eq id.now) self.now }
     {
         self.known.get(id).copied()
+    }
+
+    /// The entries of a tree that is summed; none where it isn't.
+    fn summed_entries<'a>(&self, store: &'a GitStore, id: Option<Id>) -> &'a [TreeEntry]
+        requires sums { AreSums store.now self.now }
+        ensures { AreFilesThere store.now result.now }
+    {
+        let Some(id) = id else {
+            return &[];
+        };
+        if self.get(&id).is_none() {
+            return &[];
+        }
+        match store.tree(&id) {
+            Some(tree) => tree.entries(),
+            None => &[],
+        }
     }
 
     /// Keeps the sum of a tree.
@@ -79,8 +105,14 @@ impl Sums {
     }
 
     /// The sum of a tree, below which so many levels of names may stand; `None` exactly where the walk through it doesn't
-    /// pass so.
-    fn sum_at(&mut self, store: &GitStore, id: &Id, levels: usize) -> Result<Option<Sum>, NoMemory>
+    /// pass so. The other tree, where it is summed, is known to be there, so what it has in common isn't looked up again.
+    fn sum_at(
+        &mut self,
+        store: &GitStore,
+        id: &Id,
+        other: Option<Id>,
+        levels: usize,
+    ) -> Result<Option<Sum>, NoMemory>
         requires sums { AreSums store.now self.old }
         requires levels { levels ≤ 256 }
         ensures ok { IfOk result (IsAnswer store.now levels id.now) }
@@ -95,13 +127,17 @@ impl Sums {
         let Some(tree) = store.tree(id) else {
             return Ok(None);
         };
+        let others = self.summed_entries(store, other);
+        let mut place = 0;
         let mut sum = Sum::nothing();
         'entries: for entry in tree.entries() {
             if levels == 0 {
                 return Ok(None);
             }
+            place = place_from(others, place, entry);
+            let other = others.get(place);
             if entry.mode().is_directory() {
-                let Some(below) = self.sum_at(store, entry.id(), levels - 1)? else {
+                let Some(below) = self.sum_at(store, entry.id(), id_of(other), levels - 1)? else {
                     return Ok(None);
                 };
                 let Some(more) = sum.with_entry(entry.name().len(), &below, levels) else {
@@ -109,7 +145,7 @@ impl Sums {
                 };
                 sum = more;
             } else {
-                let Some(more) = with_file(&sum, store, entry, levels) else {
+                let Some(more) = with_file(&sum, store, entry, other, levels) else {
                     return Ok(None);
                 };
                 sum = more;
@@ -117,5 +153,27 @@ impl Sums {
         }
         self.put(store, id, &sum)?;
         Ok(Some(sum))
+    }
+}
+
+// Where an entry's blob stands, mostly right behind the place before; or else the first place, from that one on, whose entry
+// isn't below the entry.
+fn place_from(others: &[TreeEntry], from: usize, entry: &TreeEntry) -> usize {
+    if from < others.len() && names_blob(others.get(from + 1), entry.id()) {
+        return from + 1;
+    }
+    let name = entry.order_name();
+    let mut place = from;
+    'others: while place < others.len() && others[place].order_name().is_below(&name) {
+        place += 1;
+    }
+    place
+}
+
+// The id that an entry names, where there is one.
+fn id_of(entry: Option<&TreeEntry>) -> Option<Id> {
+    match entry {
+        Some(entry) => Some(*entry.id()),
+        None => None,
     }
 }
