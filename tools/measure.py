@@ -2,12 +2,13 @@
 import multiprocessing
 import os
 import shutil
+import statistics
 import subprocess
 import tempfile
 import time
 from typing import Dict, List, NamedTuple
 
-ROUNDS = 3
+ROUNDS = 7
 STATE = 'hggit.state'
 MB = 1 << 20
 
@@ -43,17 +44,18 @@ def run_once(words, path, output=os.devnull, state=None):
     return Run(elapsed, usage.ru_utime + usage.ru_stime, usage.ru_maxrss * 1024)
 
 
-def best_runs(commands: Dict[str, List], rounds=ROUNDS, state=None) -> Dict[str, Run]:
-    """For each named pair of words and input file the best times of some runs, over a saved state where one is given; the commands take turns."""
+def middle_runs(commands: Dict[str, List], rounds=ROUNDS, state=None) -> Dict[str, Run]:
+    """For each named pair of words and input file the middle times of some runs, over a saved state where one is given. The commands take turns, since
+    the speed of a machine that others use too changes from one moment to the next, and the best of few runs is then a matter of luck."""
     runs = {name: [] for name in commands}
     for _ in range(rounds):
         for name, (words, path) in commands.items():
             runs[name].append(run_once(words, path, state=state))
-    return {name: best_of(some) for name, some in runs.items()}
+    return {name: middle_of(some) for name, some in runs.items()}
 
 
-def best_of(runs):
-    return Run(min(r.elapsed for r in runs), min(r.processor for r in runs), max(r.peak for r in runs))
+def middle_of(runs):
+    return Run(statistics.median(r.elapsed for r in runs), statistics.median(r.processor for r in runs), max(r.peak for r in runs))
 
 
 def print_table(title, size, runs):
