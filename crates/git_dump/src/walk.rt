@@ -16,6 +16,9 @@ use git_store::GitStore;
 use std::alloc::Global;
 use tree_shape::LEVELS;
 
+// How many entries of the tree beside are passed over for one entry at most.
+const MOST_PASSED: usize = 4;
+
 /// The objects of a store that a walk has met. Those that it meets in the store's own order are only counted; from the first
 /// other one on, each object that is new is kept by its id.
 #[derive(Drop)]
@@ -211,7 +214,7 @@ impl Walk {
 }
 
 // The entry that stands beside one of another tree, the first of these that isn't below it; and those that are left to stand
-// beside the next.
+// beside the next. Only so many are passed over for one entry: a small tree doesn't cost what a large one beside it has.
 fn next_beside<'a>(
     others: &'a [TreeEntry],
     entry: &TreeEntry,
@@ -219,7 +222,10 @@ fn next_beside<'a>(
     ensures { (met : List Id) → Each (IsMetEntry met) others.now → IfSome result.0 (λ other. IsMetEntry met other.now) × Each (IsMetEntry met) result.1.now }
 {
     let mut ahead = others;
-    'others: while let Some((first, rest)) = ahead.split_first() {
+    'passed: for _ in 0..MOST_PASSED {
+        let Some((first, rest)) = ahead.split_first() else {
+            return (None, ahead);
+        };
         if is_of_same(Some(first), entry) {
             return (Some(first), rest);
         }

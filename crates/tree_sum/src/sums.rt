@@ -1,6 +1,6 @@
-ghost use Rattle.std.specs.Prelude.{◌≡◌, ◌↔◌, ◌≤◌, [], None, IfOk, IfSome, OnOk, IsTrue, bytes_eq};
+ghost use Rattle.std.specs.Prelude.{◌≡◌, ◌↔◌, ◌≤◌, List, [], None, IfOk, IfSome, OnOk, IsTrue, bytes_eq};
 ghost use Rattle.std.specs.Map.{lookup};
-ghost use Rattle.git_model.specs.Object.{AreObjects};
+ghost use Rattle.git_model.specs.Object.{Object, AreObjects};
 ghost use Rattle.git_model.specs.Unfold.{walk_fault};
 ghost use Rattle.text_model.specs.Id as model;
 ghost use Rattle.tree_sum.specs.Sums.{AreSums, IsSum, IsAnswer, is_summed, AreFilesThere};
@@ -13,6 +13,9 @@ use git_store::GitStore;
 use indexmap::IndexMap;
 use std::alloc::Global;
 use std::marker::Model;
+
+// How many entries of the tree beside are passed over for one entry at most.
+const MOST_PASSED: usize = 4;
 
 /// How many rows stand below each tree, their sizes, the longest path and the most components. Contracts see which trees
 /// are summed.
@@ -93,10 +96,8 @@ impl Sums {
     }
 
     /// Keeps the sum of a tree.
-    fn put(&mut self, _store: &GitStore, id: &Id, sum: &Sum) -> Result<(), NoMemory>
-        requires sums { AreSums _store.now self.old }
-        requires sum { IsSum _store.now id.now sum.now }
-        ensures sums { AreSums _store.now self.new }
+    fn put(&mut self, id: &Id, sum: &Sum) -> Result<(), NoMemory>
+        ensures sums { (known : List Object) → AreSums known self.old → IsSum known id.now sum.now → AreSums known self.new }
         ensures summed { OnOk result (IsTrue (is_summed self.new id.now)) }
         ensures stays { (x : model.Id) → IsTrue (is_summed self.old x) → IsTrue (is_summed self.new x) }
     {
@@ -151,20 +152,23 @@ impl Sums {
                 sum = more;
             }
         }
-        self.put(store, id, &sum)?;
+        self.put(id, &sum)?;
         Ok(Some(sum))
     }
 }
 
 // Where an entry's blob stands, mostly right behind the place before; or else the first place, from that one on, whose entry
-// isn't below the entry.
+// isn't below the entry. Only so many are passed over for one entry: a small tree doesn't cost what a large one beside it has.
 fn place_from(others: &[TreeEntry], from: usize, entry: &TreeEntry) -> usize {
     if from < others.len() && names_blob(others.get(from + 1), entry.id()) {
         return from + 1;
     }
     let name = entry.order_name();
     let mut place = from;
-    'others: while place < others.len() && others[place].order_name().is_below(&name) {
+    'passed: for _ in 0..MOST_PASSED {
+        if place >= others.len() || !others[place].order_name().is_below(&name) {
+            return place;
+        }
         place += 1;
     }
     place
@@ -172,8 +176,5 @@ fn place_from(others: &[TreeEntry], from: usize, entry: &TreeEntry) -> usize {
 
 // The id that an entry names, where there is one.
 fn id_of(entry: Option<&TreeEntry>) -> Option<Id> {
-    match entry {
-        Some(entry) => Some(*entry.id()),
-        None => None,
-    }
+    Some(*entry?.id())
 }

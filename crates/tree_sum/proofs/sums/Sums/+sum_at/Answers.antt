@@ -84,8 +84,15 @@ entries-preserved t c =
       }
     ]
 
-pub put-requires-clause-sum : goal.put-requires-clause-sum
-put-requires-clause-sum t c =
+pub returns-in_err-put-clause-sums : goal.returns-in_err-put-clause-sums
+returns-in_err-put-clause-sums t c =
+    c.in_err-put.ensures.sums c.args.store.now c.entries.invariant.sums
+    (done-all c.args.store.now c.args.levels c.args.id.now c.in-Some-tree.tree.now c.entries-entry-items.result.now c.entries.entry-index c.entries.sum c.in-Some-tree.ensures.objects c.requires.levels c.in-Some-tree.ensures.tree c.entries-entry-items.ensures.entries
+    (omega (arith, c.entries-test.false)) c.entries.invariant.done).1
+
+pub returns-clause-sums : goal.returns-clause-sums
+returns-clause-sums t c =
+    c.in_ok-put.ensures.sums c.args.store.now c.entries.invariant.sums
     (done-all c.args.store.now c.args.levels c.args.id.now c.in-Some-tree.tree.now c.entries-entry-items.result.now c.entries.entry-index c.entries.sum c.in-Some-tree.ensures.objects c.requires.levels c.in-Some-tree.ensures.tree c.entries-entry-items.ensures.entries
     (omega (arith, c.entries-test.false)) c.entries.invariant.done).1
 

@@ -18,10 +18,10 @@ still false s o h = h
 
 pub returns : goal.returns
 returns c =
-    let known = c.args._store.now in
     let id = c.args.id.now in record {
-      sums = subst (AreSums known) (ap (λ (es : List (Id × Sum)). insert_entry bytes_eq es id c.args.sum.now) (sym c.self.view_is) ∙ sym c.in_ok-insert.ensures.entries)
-          (kept-more (λ (x : Id × Sum). IsSum known x.0 x.1) c.args.self.now id c.args.sum.now c.requires.sums c.requires.sum);
+      sums = λ known sums is.
+          subst (AreSums known) (ap (λ (es : List (Id × Sum)). insert_entry bytes_eq es id c.args.sum.now) (sym c.self.view_is) ∙ sym c.in_ok-insert.ensures.entries)
+          (kept-more (λ (x : Id × Sum). IsSum known x.0 x.1) c.args.self.now id c.args.sum.now sums is);
       summed = ap is_some (c.in_ok-insert.ensures.updates.0 id) ∙ there (bytes_eq id id) c.args.sum.now (lookup (bytes_eq id) c.self.inside.known.entries) (bytes_eq-self id);
       stays = λ x h.
           ap is_some (c.in_ok-insert.ensures.updates.0 x)
