@@ -5,7 +5,6 @@ pub mod TakeLemmas
 pub mod ArrivalLemmas
 pub mod ReadLemmas
 pub mod PullLemmas
-pub mod Came
 pub mod FirstThat
 pub mod LateLemmas
 pub mod LeftOverLemmas

@@ -38,7 +38,8 @@ use Rattle.pull_outcome.specs.Takes.{IsTakeFault, choice_refused}
 use Rattle.pull_bundle.specs.Faults.{IsOfChangeset, ViewLacks, IsLate}
 use Rattle.pull_bundle.specs.Puts.{IsPairFor, IsPut}
 use Rattle.pull_bundle.specs.Takes.{IsTaking, Comes, IsNew, GetsBlock, Takes, IsRefusedNew}
-use Rattle.pull_bundle.proofs.Came.{came-found}
+use Rattle.pull_bundle.proofs.ArrivalLemmas.{ComesDue}
+use Rattle.pull_bundle.proofs.Known.{came-found}
 use Rattle.pull_bundle.proofs.Lacks.{no-manifest_lacks, no-file_lacks}
 use Rattle.pull_bundle.proofs.LinkLemmas.{not-link}
 use Rattle.pull_bundle.proofs.PutLemmas.{PutDue}
@@ -162,9 +163,6 @@ module _ (t : Taking) (node : Id) (blocks : List Block) (r : Revision) (is : r.n
 
 abbrev pub NewDue : Taking → Id → FaultName → Type 0
 NewDue t node name = (blocks : List Block) (r : Revision) → r.node ≡ node → IsNew t blocks r → IsRefusedNew t blocks r name
-
-abbrev pub ComesDue : Taking → Id → FaultName → Type 0
-ComesDue t node name = (blocks : List Block) (before : List Revision) (r : Revision) → r.node ≡ node → r.group ≡ Changesets → Comes t blocks before r → IsRefusedNew t blocks r name
 
 pub view-fault : (t : Taking) (node : Id) (f : TakeFault) → IsTakeFault (λ name. (r : Revision) → revision_of (t.state).known.hg Changesets node ≡ Some r → ViewLacks (t.state).known.hg r name) f → IsTakeFault (NewDue t node) f
 view-fault t node f h =

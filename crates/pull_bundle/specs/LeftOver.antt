@@ -4,12 +4,14 @@ use Rattle.text_model.specs.Lists.{Each, In, SomeOf, IsFirstThat}
 use Rattle.text_model.specs.Id.{Id}
 use Rattle.text_model.specs.Fault.{Refusal, refusal}
 use Rattle.text_model.specs.Fault as fault
+use Rattle.hg_model.specs.Changeset.{Changeset}
 use Rattle.hg_model.specs.Revision.{Group, Changesets, Revision, knows}
 use Rattle.hg_model.specs.Reading.{Arrival}
 use Rattle.view_model.specs.Dump.{revisions_in}
 use Rattle.pair_model.specs.Block.{Block, changesets_in}
 use Rattle.history_model.specs.Pull as model
 use Rattle.history_model.specs.Pull.{IsKnownLink, IsOrphan, Dangles, is_changesets, revisions_among}
+use Rattle.hg_store.specs.Views.{IsChangesetOf}
 use Rattle.hg_dump.specs.declared.refers.Refers.{Refers}
 use Rattle.hg_dump.specs.Refers.{RefersTo, IsNamedBy}
 use Rattle.hg_bundle.specs.declared.arrival.Arrival as listed
@@ -42,6 +44,14 @@ AreReferred known referred = (rs : List Revision) × RefersTo referred rs × Ref
 abbrev pub NameMore : List Revision → List Block → List Arrival → List Revision → Type 0
 NameMore known blocks came more =
     (group : Group) (n : Id) → (knows more group n ≡ true) ↔ SomeOf came (λ a. Dangles known blocks a × IsNamedBy known (a.revision).node group n)
+
+-- the changeset is known and names this manifest
+pub record NamesManifest (known : List Revision) (node manifest : Id) : Type 0 where
+  pub p : Id
+  pub q : Id
+  pub fields : Changeset
+  pub changeset : IsChangesetOf known node p q fields
+  pub names : manifest ≡ fields.manifest
 
 -- the first entry to which no known changeset refers
 pub record IsFirstOrphan (known : List Revision) (came : List Arrival) (why : Refusal) : Type 0 where

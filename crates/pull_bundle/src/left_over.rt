@@ -1,6 +1,8 @@
 // What a bundle leaves over: entries to which no changeset refers, and links that stand in no block.
-ghost use Rattle.std.specs.Prelude.{◌≡◌, ◌↔◌, ◌++◌, List, map, IsTrue, IfOk, IfErr, OnOk, MatchOption};
+ghost use Rattle.std.specs.Prelude.{◌≡◌, ◌⊎◌, ◌↔◌, ◌++◌, true, false, List, map, IsTrue, IfOk, IfErr, OnOk, MatchOption};
 ghost use Rattle.text_model.specs.Lists.{Each, IsFirstThat};
+ghost use Rattle.text_model.specs.Id as text;
+ghost use Rattle.text_model.specs.Id.{has_id};
 ghost use Rattle.hg_model.specs.Revision.{Revision};
 ghost use Rattle.hg_model.specs.Reading as model;
 ghost use Rattle.hg_bundle.specs.Arrivals.{arrival_of};
@@ -11,14 +13,14 @@ ghost use Rattle.pair_state.specs.Blocks.{IsStateOf};
 ghost use Rattle.pull_outcome.specs.Names.{IsOfPullHg};
 ghost use Rattle.pull_outcome.specs.Refused.{IsRefusedBy};
 ghost use Rattle.pull_bundle.specs.Faults.{IsNoRead};
-ghost use Rattle.pull_bundle.specs.LeftOver.{HasTaken, HasNothingOver, IsFirstOrphan, AreReferred, NameMore};
+ghost use Rattle.pull_bundle.specs.LeftOver.{HasTaken, HasNothingOver, IsFirstOrphan, AreReferred, NameMore, NamesManifest};
 
 use crate::arrivals::is_changeset;
 use crate::link::is_known_link;
-use bridge_text::NoMemory;
+use bridge_text::{Id, IdSet, NoMemory};
 use hg_bundle::{Arrival, Arrivals, RevKind};
 use hg_dump::Refers;
-use hg_store::Group;
+use hg_store::{Group, HgStore};
 use pair_state::StateParts;
 use pull_outcome::{Fault, PullFault, Refusal};
 use std::alloc::Global;
@@ -40,7 +42,7 @@ pub fn check_left_over(
     match first_dangling(state, arrivals) {
         None => check_orphans(&referred, arrivals),
         Some(arrival) => {
-            let all = with_links(state, referred, arrivals)?;
+            let all = with_links(alloc, state, referred, arrivals)?;
             check_orphans(&all, arrivals)?;
             Err(PullFault::Refused(Refusal {
                 fault: Fault::DanglingLink,
@@ -77,19 +79,37 @@ fn dangles(state: &StateParts, arrival: &Arrival) -> bool
     is_known_link(&state.known.hg, &arrival.node) && !state.changesets.contains(&arrival.node)
 }
 
-// Adds what is named by the links that stand in no block.
-fn with_links(state: &StateParts, referred: Refers, arrivals: &Arrivals) -> Result<Refers, NoMemory>
+// Adds what is named by the links that stand in no block. Of those with one manifest the first names all.
+fn with_links(
+    alloc: Global,
+    state: &StateParts,
+    referred: Refers,
+    arrivals: &Arrivals,
+) -> Result<Refers, NoMemory>
     ensures { IfOk result (λ next. (blocks : List Block) (came : List model.Arrival) (rs : List Revision) → IsStateOf state.now blocks → arrivals.now ≡ map arrival_of came → RefersTo referred rs
         → (more : List Revision) × NameMore state.now.known.hg blocks came more × RefersTo next (rs ++ more)) }
 {
+    let hg = &state.known.hg;
     let mut next = referred;
+    let mut manifests = IdSet::new(alloc);
     for place in 0..arrivals.len() {
         let arrival = arrivals.at(place);
-        if dangles(state, arrival) {
-            next.add_named(&state.known.hg, &arrival.node)?;
+        if dangles(state, arrival) && is_first_of_manifest(hg, &arrival.node, &mut manifests)? {
+            next.add_named(hg, &arrival.node)?;
         }
     }
     Ok(next)
+}
+
+// Whether the manifest that a changeset names is none of these, among which it is put.
+fn is_first_of_manifest(hg: &HgStore, node: &Id, manifests: &mut IdSet) -> Result<bool, NoMemory>
+    ensures again { IfOk result (λ first. first ≡ false → (m : text.Id) → NamesManifest hg.now node.now m → has_id manifests.old m ≡ true) }
+    ensures named { OnOk result ((m : text.Id) → has_id manifests.new m ≡ true → (has_id manifests.old m ≡ true) ⊎ NamesManifest hg.now node.now m) }
+{
+    match hg.changeset(node) {
+        Some((_, _, changeset)) => manifests.insert(changeset.manifest),
+        None => Ok(false),
+    }
 }
 
 // Passes where a changeset refers to each new manifest and file revision. Orphan comes exactly at the first to which none refers.

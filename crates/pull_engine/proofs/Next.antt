@@ -14,13 +14,13 @@ use Rattle.state_model.specs.Kept.{Kept, kept_of, with_kept, ids_of}
 use Rattle.saved_model.specs.Step.{known_of}
 use Rattle.pair_state.specs.declared.state_parts.StateParts.{StateParts}
 use Rattle.pair_state.specs.AllBlocks.{HasAllBlocks, state_value}
-use Rattle.pair_state.specs.Blocks.{IsStateOf, value_of, block_value}
 use Rattle.state_size.specs.Large.{kept_up_to}
 use Rattle.state_text.specs.Stands.{AreAt, Stands}
 use Rattle.pull_outcome.specs.declared.refused.PullFault.{PullFault}
 use Rattle.pull_outcome.specs.declared.refused.PullFault.TheVariants.{Refused, Read, Memory}
 use Rattle.pull_outcome.specs.Refused.{IsRefusedBy, FaultCause}
 use Rattle.pull_outcome.specs.Steps.{AreFew}
+use Rattle.pull_bundle.proofs.StepLemmas.{count-is}
 use Rattle.pull_engine.specs.Names.{IsLimitFault, IsTargetFault}
 use Rattle.pull_engine.specs.Read.{IsReadState}
 
@@ -65,9 +65,6 @@ module _ (s : StateParts) (tags new : List Object) (n : ℕ) (are : s.tags ≡ i
 
   pub new-tags : drop n (tags ++ new) ≡ new
   new-tags = ap (λ (j : ℕ). drop j (tags ++ new)) count ∙ drop_front tags new
-
-pub count-is : (s : StateParts) (blocks : List Block) → IsStateOf s blocks → length s.blocks ≡ length blocks
-count-is s blocks state = sym (length-map s.blocks value_of) ∙ ap length state.blocks_are ∙ length-map blocks block_value
 
 -- the new blocks come behind those that there were
 pub within : (s : StateParts) (blocks new : List Block) (n : ℕ) → HasAllBlocks s (blocks ++ new) → n ≡ length blocks → n ≤ length s.blocks
