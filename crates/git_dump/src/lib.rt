@@ -9,4 +9,4 @@ mod walk;
 mod written;
 
 pub use dump::{Dump, is_in_order, write, written_len};
-pub use length::len_at;
+pub use listed::{append_objects, objects_len};

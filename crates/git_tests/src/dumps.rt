@@ -4,7 +4,7 @@ ghost use Rattle.git_dump.specs.Commits.{IsWalkableCommit, AreWalkableCommits};
 
 // Streams of what a store has.
 use bridge_text::{Id, IdList, Kind, decimal_into, object_id};
-use git_dump::{Dump, is_in_order, write, written_len};
+use git_dump::{Dump, append_objects, is_in_order, objects_len, write, written_len};
 use git_store::GitStore;
 use git_view::commits_are_held;
 use rope::Rope;
@@ -259,5 +259,19 @@ fn orders(rt: HostRuntime) -> Result<(), Fail> {
         let is_told = is_told(&rt, rt.alloc(), case)?;
         assert!(rt; is_told, "at {i}");
     }
+    Ok(())
+}
+
+// Objects that are listed by their ids, one of them twice and one that the store lacks.
+#[test]
+fn listed_objects(rt: HostRuntime) -> Result<(), Fail> {
+    let store = store_of(&rt, rt.alloc(), &[0, 1, 2])?;
+    let ids = [id(2)?, id(3)?, id(0)?, id(2)?];
+    let want = stream_of(rt.alloc(), &[2, 0, 2])?;
+    let mut out = Rope::new(rt.alloc());
+    append_objects(&mut out, &store, &ids)?;
+    let text = out.joined()?;
+    assert!(rt; text == want);
+    assert!(rt; objects_len(&store, &ids) == want.len() as u64);
     Ok(())
 }

@@ -1,22 +1,12 @@
 -- The objects that are known under ids.
-use Rattle.std.proofs.Common.{◌≡◌, ℕ, zero, suc, Bool, true, false, true≢false, ◌||◌, List, [], ◌∷◌, ◌++◌, length, take, Option, Some, refl, sym, ap, ◌∙◌}
+use Rattle.std.proofs.Common.{◌≡◌, ℕ, zero, suc, Bool, true, false, true≢false, ◌||◌, List, [], ◌∷◌, length, take, Some, refl, sym, ap, ◌∙◌}
 use Rattle.std.proofs.lemmas.List.{length-map, take-map}
 use Rattle.text_model.specs.Lists.{Each}
 use Rattle.text_model.specs.Id.{Id}
 use Rattle.git_model.specs.Object.{Object, object_at}
-use Rattle.git_dump.specs.Walks.{object_list}
-use Rattle.state_model.specs.Kept.{ids_of}
 use Rattle.state_text.specs.Stands.{AreAt}
-use Rattle.state_size.specs.Sizes.{objects_of}
 
 module _ (known : List Object) where
-  all-of : (os : List Object) → Each (λ o. object_at known o.id ≡ Some o) os → objects_of known (ids_of os) ≡ os
-  all-of [] h = refl
-  all-of (o ∷ os) h = ap (λ (found : Option Object). object_list found ++ objects_of known (ids_of os)) h.0 ∙ ap (λ (l : List Object). o ∷ l) (all-of os h.1)
-
-  pub objects-are : (ids : List Id) (os : List Object) → AreAt known ids os → objects_of known ids ≡ os
-  objects-are ids os at = ap (objects_of known) at.0 ∙ all-of os at.1
-
   pub objects-count : (ids : List Id) (os : List Object) → AreAt known ids os → length ids ≡ length os
   objects-count ids os at = ap length at.0 ∙ length-map os (λ (o : Object). o.id)
 

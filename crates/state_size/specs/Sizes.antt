@@ -1,10 +1,7 @@
 -- The parts of a state that count for its limits.
 use Rattle.std.specs.Prelude.{ℕ, ◌+◌, Bool, nat_lt, List, length, sum_by}
-use Rattle.std.specs.List.{flat_map}
-use Rattle.text_model.specs.Id.{Id}
 use Rattle.git_model.specs.Object.{Object}
 use Rattle.git_model.specs.Stream.{stream_text}
-use Rattle.git_dump.specs.Walks.{objects_at}
 use Rattle.view_model.specs.View.{ChangesetView, CommitView}
 use Rattle.state_model.specs.Kept.{hg_dump, git_dump}
 use Rattle.state_model.specs.Limits.{dump_limit}
@@ -13,10 +10,6 @@ use Rattle.pair_state.specs.declared.blocks.Block.{Block}
 -- how many changesets pairs have, with their links
 abbrev pub count_of : List Block → ℕ
 count_of blocks = sum_by (λ b. b.links + 1) blocks
-
--- the known objects with these ids
-abbrev pub objects_of : List Object → List Id → List Object
-objects_of known ids = flat_map (objects_at known) ids
 
 -- the bundle of the changesets is past its limit
 abbrev pub is_bundle_large : List ChangesetView → Bool

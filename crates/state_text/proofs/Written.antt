@@ -1,23 +1,20 @@
 -- What a state writes.
-use Rattle.std.proofs.Common.{◌≡◌, ◌+◌, ℕ, suc, List, [], ◌∷◌, ◌++◌, map, take, drop, length, slice_get, codes, Some, None, option_map, refl, sym, ap, subst, ◌∙◌, append_assoc, append-nil}
-use Rattle.text_model.proofs.Options.{none_some}
-use Rattle.text_model.proofs.Elements.{each_at, get_unmap, take_push, flat_map_append}
+use Rattle.std.proofs.Common.{◌≡◌, ℕ, suc, List, [], ◌∷◌, ◌++◌, map, take, drop, length, codes, Option, Some, None, refl, sym, ap, subst, ◌∙◌, append_assoc}
 use Rattle.text_model.specs.Lists.{Each}
 use Rattle.text_model.specs.Text.{Bytes}
-use Rattle.text_model.specs.Id.{Id, ObjectKind}
+use Rattle.text_model.specs.Id.{Id}
 use Rattle.git_model.specs.Object.{Object, object_at}
-use Rattle.git_model.specs.Stream.{object_text, stream_text}
+use Rattle.git_model.specs.Stream.{stream_text}
 use Rattle.git_model.specs.Unfold.{walk_fault}
 use Rattle.view_model.specs.View.{ChangesetView, CommitView}
 use Rattle.view_model.specs.Held.{AreChangesetsHeld, AreCommitsHeld}
 use Rattle.view_model.specs.Dump.{hg_increment, git_increment}
 use Rattle.git_dump.specs.Commits.{HasWalk, AreWalkableCommits}
-use Rattle.git_dump.specs.Walks.{object_list}
-use Rattle.git_dump.proofs.VisitLemmas.{there-is}
+use Rattle.git_dump.specs.Walks.{object_list, objects_of}
 use Rattle.pair_model.specs.Block.{Block, changesets_in, commits_in}
 use Rattle.pair_known.specs.declared.known.Known.{Known}
 use Rattle.state_model.specs.Saved.{AreBlocks}
-use Rattle.state_model.specs.Kept.{State, hg_dump, git_dump}
+use Rattle.state_model.specs.Kept.{State, hg_dump, git_dump, ids_of}
 use Rattle.state_model.specs.Text.{Sections, sections_of, section_text, text_up_to, state_text, refs_text, sized}
 use Rattle.dump_law.proofs.Blocks.{ids-blocks}
 use Rattle.pair_state.specs.declared.blocks.Block as pair
@@ -101,32 +98,19 @@ module _ (s : StateParts) (blocks : List Block) (h : HasAllBlocks s blocks) (kno
 pub tags-at : (s : StateParts) (m : State) → Stands s m → (known : Known) → known ≡ s.known → (ids : List Id) → ids ≡ s.tags → AreAt known.git ids m.tags
 tags-at s m h known same ids list = rw (same, list) (h.tags, h.tags_held)
 
--- ---- objects, one by one
+-- ---- the objects that are known under ids
 
--- the object that is known under an id is written
-pub put-same : (known : List Object) (id : Id) (kind : ObjectKind) (content old now : Bytes) → Some (kind, content) ≡ option_map {U = ObjectKind × Bytes} (λ (o : Object). (o.kind, o.content)) (object_at known id)
-    → now ≡ old ++ object_text (record { id = id; kind = kind; content = content }) → (o : Object) → object_at known id ≡ Some o → now ≡ old ++ object_text o
-put-same known id kind content old now is written o at =
-    let both : record { id = id; kind = kind; content = content } ∷ [] ≡ o ∷ [] = sym (there-is known id kind content is) ∙ ap object_list at in
-    let same : record { id = id; kind = kind; content = content } ≡ o = cc in
-    written ∙ ap (λ (x : Object). old ++ object_text x) same
+module _ (known : List Object) where
+  all-of : (os : List Object) → Each (λ o. object_at known o.id ≡ Some o) os → objects_of known (ids_of os) ≡ os
+  all-of [] h = refl
+  all-of (o ∷ os) h = ap (λ (found : Option Object). object_list found ++ objects_of known (ids_of os)) h.0 ∙ ap (λ (l : List Object). o ∷ l) (all-of os h.1)
 
--- an id of no known object
-pub none-known : (known : List Object) (id : Id) (o : Object) → None ≡ option_map {U = ObjectKind × Bytes} (λ (o : Object). (o.kind, o.content)) (object_at known id) → object_at known id ≡ Some o → ⊥
-none-known known id o is at = none_some {x = (o.kind, o.content)} (is ∙ ap (option_map {U = ObjectKind × Bytes} (λ (o : Object). (o.kind, o.content))) at)
+  pub objects-are : (ids : List Id) (os : List Object) → AreAt known ids os → objects_of known ids ≡ os
+  objects-are ids os at = ap (objects_of known) at.0 ∙ all-of os at.1
 
-pub one-object : (objects : List Object) (ids : List Id) (known : List Object) (old out now : Bytes) (i : ℕ) (id : Id) → AreAt known ids objects → slice_get ids i ≡ Some id
-    → out ≡ old ++ stream_text (take i objects) → ((o : Object) → object_at known id ≡ Some o → now ≡ out ++ object_text o) → now ≡ old ++ stream_text (take (i + 1) objects)
-unfolding stream_text
-one-object objects ids known old out now i id are at so_far more =
-    let found = get_unmap (λ (o : Object). o.id) objects i id (sym (ap (λ (l : List Id). slice_get l i) are.0) ∙ at) in
-    let there : object_at known id ≡ Some found.0 = ap (object_at known) (sym found.2) ∙ each_at (λ o. object_at known o.id ≡ Some o) objects i found.0 found.1 are.1 in
-    more found.0 there
-    ∙ ap (λ (l : Bytes). l ++ object_text found.0) so_far
-    ∙ append_assoc old (stream_text (take i objects)) (object_text found.0)
-    ∙ ap (λ (l : Bytes). old ++ l) (ap (λ (l : Bytes). stream_text (take i objects) ++ l) (sym (append-nil (object_text found.0)))
-    ∙ sym (flat_map_append object_text (take i objects) (found.0 ∷ []))
-    ∙ ap stream_text (sym (take_push objects i found.0 found.1)))
+  -- what is written of the ids is the text of the objects
+  pub objects-text : (ids : List Id) (os : List Object) (old now : Bytes) → AreAt known ids os → now ≡ old ++ stream_text (objects_of known ids) → now ≡ old ++ stream_text os
+  objects-text ids os old now at written = written ∙ ap (λ (l : List Object). old ++ stream_text l) (objects-are ids os at)
 
 -- ---- the text
 

@@ -1,15 +1,14 @@
 // A state is written as its text.
-ghost use Rattle.std.specs.Prelude.{◌≡◌, ◌++◌, List, Some, IfOk, OnErr, OnOk};
+ghost use Rattle.std.specs.Prelude.{◌≡◌, ◌++◌, List, IfOk, OnErr, OnOk};
 ghost use Rattle.std.specs.Io.{StartsWith};
-ghost use Rattle.git_model.specs.Object.{Object, object_at};
-ghost use Rattle.git_model.specs.Stream.{object_text, stream_text};
+ghost use Rattle.git_model.specs.Stream.{stream_text};
 ghost use Rattle.pair_model.specs.Block.{Block, changesets_in, commits_in};
 ghost use Rattle.state_model.specs.Kept as model;
 ghost use Rattle.state_model.specs.Saved.{AreBlocks};
 ghost use Rattle.state_model.specs.Text.{state_text};
 ghost use Rattle.saved_model.specs.Written.{map_text};
 ghost use Rattle.pair_state.specs.AllBlocks.{HasAllBlocks};
-ghost use Rattle.state_text.specs.Stands.{Stands, AreAt};
+ghost use Rattle.state_text.specs.Stands.{Stands};
 ghost use Rattle.state_text.specs.Sizes.{AreSizes};
 
 use crate::appended::{append_bundle, append_stream};
@@ -17,9 +16,8 @@ use crate::blocks::pairs_of;
 use crate::names::NAMES;
 use crate::sections::TAGS;
 use crate::sizes::Sizes;
-use bridge_text::{Id, NoMemory};
-use git_batch::put_with_id;
-use git_store::GitStore;
+use bridge_text::NoMemory;
+use git_dump::append_objects;
 use pair_state::State;
 use ref_map::write_refs;
 use rope::Rope;
@@ -55,7 +53,7 @@ pub fn tags_text(state: &State) -> Result<Vec<u8>, NoMemory>
     ensures { IfOk result (λ text. (m : model.State) → Stands state.now m → text.items ≡ stream_text m.tags) }
 {
     let mut text = Rope::new(state.alloc());
-    put_tags(&mut text, &state.known().git, state.tags().as_slice())?;
+    append_objects(&mut text, &state.known().git, state.tags().as_slice())?;
     Ok(text.joined()?)
 }
 
@@ -83,7 +81,7 @@ pub fn dump_git(state: &State) -> Result<Rope, NoMemory>
         → bytes ≡ model.git_dump (commits_in m.blocks) ++ stream_text m.tags) }
 {
     let mut out = dump_commits(state)?;
-    put_tags(&mut out, &state.known().git, state.tags().as_slice())?;
+    append_objects(&mut out, &state.known().git, state.tags().as_slice())?;
     Ok(out)
 }
 
@@ -93,24 +91,4 @@ fn dump_commits(state: &State) -> Result<Rope, NoMemory>
     ensures { IfOk result (λ bytes. (m : model.State) → Stands state.now m → bytes ≡ model.git_dump (commits_in m.blocks)) }
 {
     git_dump::write(state.alloc(), &state.known().git, state.commits(), 0)
-}
-
-// Appends the objects with these ids, which are known.
-fn put_tags(out: &mut Rope, store: &GitStore, ids: &[Id]) -> Result<(), NoMemory>
-    ensures { OnOk result ((objects : List Object) → AreAt store.now ids.now objects → out.new ≡ out.old ++ stream_text objects) }
-{
-    for id in ids {
-        put_tag(out, store, id)?;
-    }
-    Ok(())
-}
-
-// Appends the object with this id, which is known.
-fn put_tag(out: &mut Rope, store: &GitStore, id: &Id) -> Result<(), NoMemory>
-    ensures { OnOk result ((o : Object) → object_at store.now id.now ≡ Some o → out.new ≡ out.old ++ object_text o) }
-{
-    match store.shared_object(id) {
-        Some((kind, content)) => put_with_id(out, id, kind, content),
-        None => Ok(()),
-    }
 }

@@ -2,8 +2,10 @@ use Rattle.std.proofs.Common.{◌≡◌, ◌<◌, List, length, take, sym, ap, �
 use Rattle.std.proofs.lemmas.List.{length-take-le}
 use Rattle.pair_model.specs.Block.{changesets_in, commits_in}
 use Rattle.pair_state.specs.declared.blocks.Block.{Block}
-use Rattle.state_size.specs.Sizes.{count_of, objects_of, is_stream_large}
-use Rattle.state_size.proofs.Objects.{objects-are, at-take}
+use Rattle.git_dump.specs.Walks.{objects_of}
+use Rattle.state_size.specs.Sizes.{count_of, is_stream_large}
+use Rattle.state_text.proofs.Written.{objects-are}
+use Rattle.state_size.proofs.Objects.{at-take}
 use Rattle.state_size.proofs.Prefixes.{count-within, front-held, front-nodes, earlier-front, front-walkable}
 use Rattle.state_size.proofs.Limits.{has-many, has-large-bundle, is-stream}
 use Rattle.state_size.proofs.Written.{ok-each}

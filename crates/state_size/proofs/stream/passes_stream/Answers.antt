@@ -3,7 +3,7 @@ use Rattle.std.specs.Prelude.{nat_lt}
 use Rattle.git_model.specs.Stream.{stream_text}
 use Rattle.state_model.specs.Kept.{git_dump}
 use Rattle.state_model.specs.Limits.{dump_limit}
-use Rattle.state_size.specs.Sizes.{objects_of}
+use Rattle.git_dump.specs.Walks.{objects_of}
 use Rattle.state_size.proofs.Written.{past}
 use Rattle.state_size.proofs.stream.passes_stream.Goals as goal
 
