@@ -104,6 +104,16 @@ pub fn run<I: Source, O: Sink, E: Sink, K: Slot, L: Ledger>(
     report.status()
 }
 
+/// The end of a program that has no memory to begin a command with. A line on `errors` says so.
+pub fn without_memory<E: Sink>(errors: &mut E) -> Status
+    ensures status { result ≡ Status.Memory }
+    ensures line { TakesOrFails (E.taken errors.old) (E.taken errors.new) (E.faults errors.old) (E.faults errors.new) (run.report_line run.Memory) }
+{
+    // What the errors do with the line changes nothing.
+    let _ = write_all(errors, line_of(&Report::Memory).as_slice());
+    Status::Memory
+}
+
 // Does the work of a command.
 fn perform<I: Source, O: Sink, K: Slot, L: Ledger>(
     alloc: Global,

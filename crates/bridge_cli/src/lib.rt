@@ -16,6 +16,6 @@ mod status;
 mod words;
 mod work;
 
-pub use command::run;
+pub use command::{run, without_memory};
 pub use status::Status;
 pub use words::Words;

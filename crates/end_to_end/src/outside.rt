@@ -1,6 +1,6 @@
 // Runs whose input or output fails.
-use crate::run_over::{Outside, run_over};
-use bridge_cli::Status;
+use crate::run_over::{Outside, run_over, sink_of};
+use bridge_cli::{Status, without_memory};
 use std::alloc::{AllocError, Global};
 use std::test::Fail;
 
@@ -103,5 +103,14 @@ fn an_output_without_room_takes_what_it_can(rt: HostRuntime) -> Result<(), Fail>
     let input = two_manifests(rt.alloc())?;
     let is_cut_off = is_cut_off(rt.alloc(), &input)?;
     assert!(rt; is_cut_off);
+    Ok(())
+}
+
+// A program that has no memory to begin with ends as a run does whose memory ran out.
+#[test]
+fn want_of_memory_is_told(rt: HostRuntime) -> Result<(), Fail> {
+    let mut errors = sink_of(rt.alloc(), 100, 0, &[])?;
+    let status = without_memory(&mut errors);
+    assert!(rt; status == Status::Memory && errors.bytes() == b"no memory\n".as_slice());
     Ok(())
 }

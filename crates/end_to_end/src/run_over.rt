@@ -86,7 +86,12 @@ fn input_of(alloc: Global, outside: &Outside<'_>) -> Result<MemSource, AllocErro
 }
 
 // A sink with so much room, some calls of which fail.
-fn sink_of(alloc: Global, room: usize, cut: usize, fails: &[u64]) -> Result<MemSink, AllocError> {
+pub fn sink_of(
+    alloc: Global,
+    room: usize,
+    cut: usize,
+    fails: &[u64],
+) -> Result<MemSink, AllocError> {
     let bytes = Vec::with_capacity(alloc, room)?;
     let fails = fails.to_vec(alloc)?;
     Ok(MemSink::new(bytes, room, cut, fails))

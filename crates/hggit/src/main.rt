@@ -5,7 +5,7 @@
 
 ghost use Rattle.std.specs.Prelude.{◌≡◌, ◌<◌};
 
-use bridge_cli::{Status, Words, run};
+use bridge_cli::{Status, Words, run, without_memory};
 use bridge_io::{FileSlot, Slot, StdSink, StdSource, Steps};
 use bridge_text::NoMemory;
 use std::alloc::Global;
@@ -44,8 +44,9 @@ fn start<L: Ledger>(
     requires parts { blank.parts ≡ L.parts }
     requires some { 0 < blank.parts }
 {
+    let mut errors = StdSink::new(errors);
     let Ok(input) = BufReader::new(alloc, input) else {
-        return Status::Memory;
+        return without_memory(&mut errors);
     };
     let mut steps = Steps::<L>::new(blank);
     run(
@@ -53,7 +54,7 @@ fn start<L: Ledger>(
         words,
         &mut StdSource::new(input),
         &mut StdSink::new(output),
-        &mut StdSink::new(errors),
+        &mut errors,
         slot,
         &mut steps,
     )
@@ -70,7 +71,7 @@ fn main(rt: HostRuntime) -> ExitCode {
             &mut FileSlot::new(rt.alloc(), &rt),
             Blank::new(1),
         ),
-        Err(NoMemory) => Status::Memory,
+        Err(NoMemory) => without_memory(&mut StdSink::new(rt.stderr())),
     };
     ExitCode::from(status.code())
 }
