@@ -10,6 +10,8 @@ mod inputs;
 #[cfg(test)]
 mod made;
 #[cfg(test)]
+mod members;
+#[cfg(test)]
 mod names;
 #[cfg(test)]
 mod outside;

@@ -1,5 +1,10 @@
 // The pulls of bundles and streams.
 use crate::inputs::{LEAST, ONE_CHANGESET};
+use crate::members::{
+    FILE_BEFORE_ITS_PARENT, GITLINK_CHANGESET, GITLINK_COMMIT, KEPT_GITLINK_CHANGESETS,
+    KEPT_GITLINK_COMMITS, LINKS_ALONE, MANIFEST_BEFORE_ITS_PARENT, OCTOPUS_CHANGESETS,
+    OCTOPUS_COMMITS, OVER_A_LINK, RENAME_CHANGESETS, RENAME_COMMITS,
+};
 use crate::table::{Answer, Row, check};
 use std::test::Fail;
 
@@ -218,11 +223,43 @@ const MARKED: &[Row] = &[
     Row(PULL_GIT, BRANCH_COMMIT, Answer::Done(WITH_EXTRAS)),
     Row(PULL_GIT, WITHOUT_LF, Answer::Done(MESSAGE_CHANGESET)),
     Row(PULL_HG, MESSAGE_CHANGESET, Answer::Done(WITHOUT_LF)),
+    Row(PULL_HG, RENAME_CHANGESETS, Answer::Done(RENAME_COMMITS)),
+    Row(PULL_GIT, RENAME_COMMITS, Answer::Done(RENAME_CHANGESETS)),
 ];
 
 #[test]
 fn what_needs_marks_comes_over(rt: HostRuntime) -> Result<(), Fail> {
     check(&rt, MARKED)
+}
+
+const LINKED: &[Row] = &[
+    Row(PULL_GIT, OCTOPUS_COMMITS, Answer::Done(OCTOPUS_CHANGESETS)),
+    Row(PULL_HG, OCTOPUS_CHANGESETS, Answer::Done(OCTOPUS_COMMITS)),
+];
+
+#[test]
+fn four_parents_come_over(rt: HostRuntime) -> Result<(), Fail> {
+    check(&rt, LINKED)
+}
+
+const GITLINKS: &[Row] = &[
+    Row(PULL_GIT, GITLINK_COMMIT, Answer::Done(GITLINK_CHANGESET)),
+    Row(PULL_HG, GITLINK_CHANGESET, Answer::Done(GITLINK_COMMIT)),
+    Row(
+        PULL_GIT,
+        KEPT_GITLINK_COMMITS,
+        Answer::Done(KEPT_GITLINK_CHANGESETS),
+    ),
+    Row(
+        PULL_HG,
+        KEPT_GITLINK_CHANGESETS,
+        Answer::Done(KEPT_GITLINK_COMMITS),
+    ),
+];
+
+#[test]
+fn gitlinks_come_over(rt: HostRuntime) -> Result<(), Fail> {
+    check(&rt, GITLINKS)
 }
 
 const REFUSED: &[Row] = &[
@@ -251,9 +288,37 @@ const REFUSED: &[Row] = &[
         WITHOUT_ITS_TREE,
         Answer::Refused(b"refused ObjectUnknown fb8491d27293299d600326567e91d35289f99b8d 0\n"),
     ),
+    Row(
+        PULL_HG,
+        LINKS_ALONE,
+        Answer::Refused(b"refused DanglingLink a1759422d04f8c6e500d88a3b5ec49bfe1e9309d 642\n"),
+    ),
 ];
 
 #[test]
 fn what_lacks_a_part_is_refused(rt: HostRuntime) -> Result<(), Fail> {
     check(&rt, REFUSED)
+}
+
+const WRONG_PARENTS: &[Row] = &[
+    Row(
+        PULL_HG,
+        OVER_A_LINK,
+        Answer::Refused(b"refused ParentIsLink c5ccf7e0a8a1c6126fe9930870e3980051363d6b 1078\n"),
+    ),
+    Row(
+        PULL_HG,
+        FILE_BEFORE_ITS_PARENT,
+        Answer::Refused(b"refused FileParentLate d9603e6b53c0d0c2e95f2ad582b1f9b428a09035 6\n"),
+    ),
+    Row(
+        PULL_HG,
+        MANIFEST_BEFORE_ITS_PARENT,
+        Answer::Refused(b"refused ManifestParentLate 0ae650c5e9815ec586e7bb3449f07345a5f9adc7 6\n"),
+    ),
+];
+
+#[test]
+fn what_stands_over_a_wrong_parent_is_refused(rt: HostRuntime) -> Result<(), Fail> {
+    check(&rt, WRONG_PARENTS)
 }

@@ -220,6 +220,20 @@ fn commands_go_on_from_a_saved_state(rt: HostRuntime) -> Result<(), Fail> {
     Ok(())
 }
 
+/// The commands that begin with the saved state.
+const OVER_A_STATE: &[&[u8]] = &[
+    b"pull-hg",
+    b"pull-git",
+    b"dump-hg",
+    b"dump-git",
+    b"map",
+    b"verify",
+    b"set-names-hg",
+    b"set-names-git",
+    b"names-hg",
+    b"names-git",
+];
+
 /// A text of no state, and the line on the errors.
 const BAD: &[(&[u8], &[u8])] = &[
     (b"hg-git-bridge 9\n", b"state StateVersion 0\n"),
@@ -227,15 +241,25 @@ const BAD: &[(&[u8], &[u8])] = &[
     (b"hg-git-bridge 2\n", b"state StateShape 1\n"),
 ];
 
-// Whether each command says of this text that it is no state, and leaves it.
-fn is_bad(alloc: Global, text: &[u8], line: &[u8]) -> Result<bool, Fail> {
-    let made = run_over(alloc, &[b"pull-hg"], Outside::over(LEAST, text))?;
+// Whether the command says of this text that it is no state, and leaves it.
+fn is_bad_for(alloc: Global, word: &[u8], text: &[u8], line: &[u8]) -> Result<bool, Fail> {
+    let made = run_over(alloc, &[word], Outside::over(LEAST, text))?;
     let is_left = match &made.held {
         Some(held) => held.as_slice() == text,
         None => false,
     };
     let is_told = made.errors.as_slice() == line;
     Ok(made.status == Status::StateBad && made.output.is_empty() && is_told && is_left)
+}
+
+// Whether each command says of this text that it is no state, and leaves it.
+fn is_bad(alloc: Global, text: &[u8], line: &[u8]) -> Result<bool, Fail> {
+    for word in OVER_A_STATE {
+        if !is_bad_for(alloc, word, text, line)? {
+            return Ok(false);
+        }
+    }
+    Ok(true)
 }
 
 #[test]

@@ -1,7 +1,9 @@
 // Objects in a store.
 use bridge_text::{Added, Id, Kind, object_id};
+use git_batch::put_with_id;
 use git_object::Objects;
 use git_store::{GitAddFault, GitStore};
+use rope::Rope;
 use shared_text::{Text, keep};
 use std::alloc::Global;
 use std::process::Abort;
@@ -299,10 +301,26 @@ fn empty_and_written(alloc: Global) -> Result<GitStore, Fail> {
     Ok(store)
 }
 
+// A store of one blob that keeps the text of its stream.
+#[tactic(auto, unfolding(git_model::specs::Stream::stream_text))]
+fn one_and_written(alloc: Global) -> Result<GitStore, Fail> {
+    let blob = keep(b"hello\n".to_vec(alloc)?)?;
+    let its_id = object_id(Kind::Blob, blob.as_slice());
+    let mut out = Rope::new(alloc);
+    put_with_id(&mut out, &its_id, Kind::Blob, &blob)?;
+    let text = keep(out.joined()?)?;
+    let mut store = GitStore::new(alloc);
+    store.add(its_id, Kind::Blob, blob).map_err(|_| "a blob")?;
+    store.keep_written(text);
+    Ok(store)
+}
+
 #[test]
 fn written(rt: HostRuntime) -> Result<(), Fail> {
     let new = GitStore::new(rt.alloc());
-    let store = empty_and_written(rt.alloc())?;
-    assert!(rt; written_of(&new).is_none() && written_of(&store) == Some((0, 0)));
+    let empty = empty_and_written(rt.alloc())?;
+    let one = one_and_written(rt.alloc())?;
+    assert!(rt; written_of(&new).is_none() && written_of(&empty) == Some((0, 0)));
+    assert!(rt; written_of(&one) == Some((1, 55)));
     Ok(())
 }

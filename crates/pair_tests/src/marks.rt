@@ -112,7 +112,6 @@ fn marks_hold_their_parts(rt: HostRuntime) -> Result<(), Fail> {
         p: node,
         q: Id::NULL,
     };
-    let _bytes = (node.bytes(), Id::NULL.bytes());
     let mut marks = CommitMarks::new(rt.alloc());
     marks.push(Mark::Manifest(manifest))?;
     assert!(rt; marks.len() == 1 && is_manifest(marks.at(0), &manifest));

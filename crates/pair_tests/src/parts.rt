@@ -9,7 +9,6 @@ use pair_known::{
 use shared_text::{Text, keep};
 use std::alloc::Global;
 use std::test::Fail;
-use tree_shape::Files;
 
 fn id(byte: u8) -> Id {
     Id::new([byte; 20])
@@ -95,13 +94,6 @@ fn rows(rt: HostRuntime) -> Result<(), Fail> {
     })?;
     assert!(rt; rows.len() == 1 && !rows.is_empty());
     assert!(rt; rows.at(0).flag == Flag::Exec && rows.at(0).blob == id(2));
-    Ok(())
-}
-
-#[test]
-fn files_with_room(rt: HostRuntime) -> Result<(), Fail> {
-    let files = Files::with_capacity(rt.alloc(), 2)?;
-    assert!(rt; files.is_empty());
     Ok(())
 }
 

@@ -1,12 +1,12 @@
 // Which tags of a stream are kept.
 use crate::values::{COMMIT, STREAM, id};
-use bridge_text::IdSet;
+use bridge_text::{Fault, IdList, IdSet, Refusal};
 use git_batch::{ObjectArrivals, read_into};
 use git_store::GitStore;
 use state_part::Part;
 use std::alloc::Global;
 use std::test::Fail;
-use tag_rule::new_tags;
+use tag_rule::{TagFault, new_tags};
 
 /// A tag of the commit, a tag of that tag, and a tag of the tree.
 const FIRST: &[u8] =
@@ -43,12 +43,17 @@ fn set_of(alloc: Global, ids: &[&[u8]]) -> Result<IdSet, Fail> {
     Ok(set)
 }
 
-// Whether these are the tags that are newly kept, in this order.
-fn are_kept(alloc: Global, tags: &[&[u8]], kept: &[&[u8]], want: &[&[u8]]) -> Result<bool, Fail> {
+// The tags that are newly kept, or why none is.
+fn new_of(alloc: Global, tags: &[&[u8]], kept: &[&[u8]]) -> Result<Result<IdList, TagFault>, Fail> {
     let (store, arrivals) = came(alloc, tags)?;
     let commits = set_of(alloc, &[COMMIT])?;
     let kept = set_of(alloc, kept)?;
-    let new = new_tags(alloc, &store, &commits, &kept, &arrivals).map_err(|_| "targets")?;
+    Ok(new_tags(alloc, &store, &commits, &kept, &arrivals))
+}
+
+// Whether these are the tags that are newly kept, in this order.
+fn are_kept(alloc: Global, tags: &[&[u8]], kept: &[&[u8]], want: &[&[u8]]) -> Result<bool, Fail> {
+    let new = new_of(alloc, tags, kept)?.map_err(|_| "targets")?;
     Ok(
         new.len() == want.len()
             && new
@@ -78,6 +83,29 @@ fn tags_that_lead_to_a_commit_are_kept(rt: HostRuntime) -> Result<(), Fail> {
     for [tags, kept, want] in CASES {
         let are_kept = are_kept(rt.alloc(), tags, kept, want)?;
         assert!(rt; are_kept);
+    }
+    Ok(())
+}
+
+/// The tags that come, of which `SECOND` lacks its target, and where it stands.
+const LACKING: &[(&[&[u8]], u64)] = &[(&[SECOND], 295), (&[OF_TREE, SECOND], 439)];
+
+// Whether `SECOND` is refused at this place.
+fn is_refused_at(alloc: Global, tags: &[&[u8]], place: u64) -> Result<bool, Fail> {
+    let fault = new_of(alloc, tags, &[])?.err();
+    let refusal = Refusal {
+        fault: Fault::ObjectUnknown,
+        id: id(SECOND_ID)?,
+        place,
+    };
+    Ok(fault == Some(TagFault::Refused(refusal)))
+}
+
+#[test]
+fn a_tag_without_its_target_is_refused(rt: HostRuntime) -> Result<(), Fail> {
+    for (tags, place) in LACKING {
+        let is_refused_at = is_refused_at(rt.alloc(), tags, *place)?;
+        assert!(rt; is_refused_at);
     }
     Ok(())
 }

@@ -1,5 +1,5 @@
 // What each object gives and takes, and when it fails.
-ghost use Rattle.std.specs.Prelude.{◌≡◌, ◌<◌};
+ghost use Rattle.std.specs.Prelude.{◌≡◌, ◌+◌, ◌<◌};
 
 use crate::ropes::{bytes_from, in_thirds};
 use bridge_io::{
@@ -348,6 +348,13 @@ fn count_two<L: Ledger>(blank: Blank)
     requires some { 0 < blank.parts }
 {
     let mut steps = Steps::<L>::new(blank);
+    tick_twice(&mut steps);
+}
+
+// Two ticks are two steps.
+fn tick_twice<L: Ledger>(steps: &mut Steps<L>)
+    ensures { steps.new ≡ 2 + steps.old }
+{
     steps.tick();
     steps.tick();
 }
