@@ -3,15 +3,16 @@ import os
 import subprocess
 import sys
 
-from crate_list import TOP, crates_of, needed_by
-
-PARTS = ('src', 'specs', 'proofs')
+from crate_list import PARTS, TOP, crates_of, needed_by
 
 
 def program_path(name='hggit', argument=1):
-    """An argument of the script; or the program that `make` or `rt ci` built since its sources last changed; or one that is built now."""
-    if len(sys.argv) > argument:
-        return os.path.abspath(sys.argv[argument])
+    """An argument of the script, or the built program."""
+    return os.path.abspath(sys.argv[argument]) if len(sys.argv) > argument else built_program(name)
+
+
+def built_program(name='hggit'):
+    """The program that `make` or `rt ci` built since its sources last changed, or one that is built now."""
     changed = last_change(name)
     built = [os.path.join(TOP, 'build', name), os.path.join(TOP, 'crates', name, 'out', name)]
     for path in built:

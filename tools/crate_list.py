@@ -2,6 +2,7 @@
 import os
 
 TOP = os.path.dirname(os.path.dirname(os.path.abspath(__file__)))
+PARTS = ('src', 'specs', 'proofs')  # the folders of a crate with its sources
 
 
 def crates_of(top=TOP):

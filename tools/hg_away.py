@@ -3,9 +3,8 @@ import hashlib
 import os
 import re
 import shutil
-import subprocess
 
-from repositories import HG_SETTINGS, Fault, environment, make_repository, words_of
+from repositories import HG_SETTINGS, Fault, make_repository, words_of
 
 CLONES = 'clones'
 PUSHING = '.pushing'

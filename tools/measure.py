@@ -8,8 +8,9 @@ import tempfile
 import time
 from typing import Dict, List, NamedTuple
 
+from slot import STATE
+
 ROUNDS = 7
-STATE = 'hggit.state'
 MB = 1 << 20
 
 
@@ -44,6 +45,17 @@ def run_once(words, path, output=os.devnull, state=None):
     return Run(elapsed, usage.ru_utime + usage.ru_stime, usage.ru_maxrss * 1024)
 
 
+def saved_dumps(program, folder, bundle):
+    """Pulls a bundle in a folder; gives the paths of the saved state there, and of a file with both of its dumps."""
+    dumps = os.path.join(folder, 'dumps')
+    with open(bundle, 'rb') as source:
+        subprocess.run([program, 'pull-hg'], stdin=source, stdout=subprocess.DEVNULL, cwd=folder, check=True)
+    with open(dumps, 'wb') as sink:
+        for word in ('dump-hg', 'dump-git'):
+            subprocess.run([program, word], stdin=subprocess.DEVNULL, stdout=sink, cwd=folder, check=True)
+    return os.path.join(folder, STATE), dumps
+
+
 def middle_runs(commands: Dict[str, List], rounds=ROUNDS, state=None) -> Dict[str, Run]:
     """For each named pair of words and input file the middle times of some runs, over a saved state where one is given. The commands take turns, since
     the speed of a machine that others use too changes from one moment to the next, and the best of few runs is then a matter of luck."""
@@ -75,3 +87,7 @@ class Verdicts:
         print(('ok       ' if holds else 'FAILED   ') + text, flush=True)
         if not holds:
             self.status = 1
+
+    def check_growth(self, what, where, small, large, most):
+        """Of the times that something takes in one history and in another."""
+        self.check(f'{what} takes {large / small:.2f} times as long {where}; at most {most}', large <= most * small)

@@ -2,7 +2,7 @@
 import struct
 
 from repositories import Fault
-from small_deltas import common, common_end, hunks_between, patched
+from small_deltas import common, common_end, hunks_between, patched, seven_bits
 
 SHORTEST, LONGEST = 128, 1 << 24
 WINDOW = 64  # bytes at both ends by which objects are found
@@ -60,21 +60,11 @@ def hunk_of_bytes(base, content):
 
 def delta_of(base, content, hunks):
     """The sizes of both, and in turn what is copied from the base and what is put in."""
-    parts, place = [size_of(len(base)), size_of(len(content))], 0
+    parts, place = [seven_bits(len(base)), seven_bits(len(content))], 0
     for start, end, piece in hunks:
         parts += copies(place, start), inserts(piece)
         place = end
     return b''.join([*parts, copies(place, len(base))])
-
-
-def size_of(number):
-    """Seven bits a byte, the lowest first; the highest bit says that more follow."""
-    parts = bytearray()
-    while number > 0x7f:
-        parts.append(number & 0x7f | 0x80)
-        number >>= 7
-    parts.append(number)
-    return bytes(parts)
 
 
 def copies(start, end):

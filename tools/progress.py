@@ -19,6 +19,7 @@ WHY = {
     'ModeOut': 'a tree with a mode that Mercurial and this program don\'t know',
     'NameUnfit': 'a tree with a name that one of the two tools can\'t have',
     'DanglingLink': 'a link of a merge of many parents whose changeset isn\'t there',
+    'ParentIsLink': 'a parent is a link of a merge of many parents, which stands for no commit',
     'ObjectUnknown': 'an object to which another refers isn\'t there',
     'NestLimit': 'a member that was carried back and forth too often by another slot',
 }

@@ -15,6 +15,7 @@ PIECE = 1 << 20
 LEAST_HG = (5, 0)
 LEAST_GIT = (2, 28)
 APART = os.path.join('.hg', 'hggit')
+FIRST_BRANCHES = (b'main', b'master', b'default')
 HG_SETTINGS = ['--config', 'ui.interactive=no', '--config', 'phases.new-commit=draft', '--config', 'ui.quiet=no']
 
 
@@ -53,7 +54,7 @@ def environment():
     """The user's environment, with plain outputs and without what a hook of Git sets for the repository in which it runs."""
     kept = {name: value for name, value in os.environ.items() if not is_of_one_repository(name)}
     kept.pop('HGPLAINEXCEPT', None)
-    return dict(kept, HGPLAIN='1', HGENCODING='utf-8', LC_ALL='C.UTF-8', GIT_NO_REPLACE_OBJECTS='1', GIT_TERMINAL_PROMPT='0')
+    return dict(kept, HGPLAIN='1', HGENCODING='utf-8', LC_ALL='C.UTF-8', LANGUAGE='', GIT_NO_REPLACE_OBJECTS='1', GIT_TERMINAL_PROMPT='0')
 
 
 def is_of_one_repository(name):
@@ -250,6 +251,11 @@ def git_folder(path):
     words = ['git', '--git-dir', folder, 'rev-parse', '--git-common-dir']
     run = subprocess.run(words, stdout=subprocess.PIPE, stderr=subprocess.DEVNULL, env=environment())
     return os.path.realpath(os.fsdecode(run.stdout.rstrip(b'\n'))) if run.returncode == 0 else None
+
+
+def first_branch(branches):
+    """The branch of some that HEAD names in a new repository."""
+    return next((name for name in FIRST_BRANCHES if name in branches), min(branches))
 
 
 def make_git_repository(path):

@@ -7,12 +7,11 @@ import operator
 import re
 import struct
 
+from formats.hg import HEADER_SIZE, MAGIC, hunk
 from repositories import Fault
 
-MAGIC = b'HG10UN'
-HEADER = 80  # a node, its parents and its link node
 HUNK = struct.Struct('>III')
-TEXT = HEADER + HUNK.size  # where the text begins in an entry whose delta is one hunk
+TEXT = HEADER_SIZE + HUNK.size  # where the text begins in an entry whose delta is one hunk
 NEAR = 256  # bytes that are compared as a number
 CHANGED = re.compile(b'\1+')  # rows of lines that differ
 
@@ -49,7 +48,7 @@ def copy_group(source, target):
     """The entries of a kind or a path, each over the text before it."""
     for entry, before, text in texts_of(source):
         if text is not None and before is not None:
-            entry = entry[:HEADER] + difference(before, text)
+            entry = entry[:HEADER_SIZE] + difference(before, text)
         write_chunk(target, entry)
     write_chunk(target, b'')
 
@@ -64,9 +63,9 @@ def texts_of(source, before=None):
 
 def whole_text(before, entry):
     """The text, where the entry's delta puts it in place of the whole text before it; None where it doesn't, or that isn't known to be whole."""
-    if len(entry) <= HEADER:
+    if len(entry) <= HEADER_SIZE:
         return before
-    start, end, length = HUNK.unpack_from(entry, HEADER)
+    start, end, length = HUNK.unpack_from(entry, HEADER_SIZE)
     is_whole = start == 0 and TEXT + length == len(entry) and before is not None and end == len(before)
     if is_whole or before is None and start == 0 == end:
         return entry[TEXT:]
@@ -75,7 +74,7 @@ def whole_text(before, entry):
 
 def difference(before, text):
     """Hunks of whole lines, as hg reads the lines of a manifest from its deltas; nothing where the texts are equal."""
-    return b''.join([HUNK.pack(start, end, len(lines)) + lines for start, end, lines in hunks_between(before, text)])
+    return b''.join([hunk(*parts) for parts in hunks_between(before, text)])
 
 
 def hunks_between(before, text):
@@ -180,3 +179,13 @@ def read_whole(source, size):
 
 def write_chunk(target, payload):
     target.write(struct.pack('>I', len(payload) + 4 if payload else 0) + payload)
+
+
+def seven_bits(number):
+    """A number in bytes of seven bits, the lowest first; each but the last has the highest bit set, which says that more follow."""
+    parts = bytearray()
+    while number > 0x7f:
+        parts.append(number & 0x7f | 0x80)
+        number >>= 7
+    parts.append(number)
+    return bytes(parts)

@@ -7,11 +7,11 @@ import struct
 import zlib
 from urllib.parse import quote
 
+from formats.hg import NULL as NULL_NODE
 from repositories import PIECE, Fault
-from small_deltas import difference, read_chunk, read_magic, texts_of
+from small_deltas import difference, read_chunk, read_magic, seven_bits, texts_of
 
 ENTRY = struct.Struct('>20s20s20s20s')  # a node, its parents and its link node
-NULL_NODE = bytes(20)
 INDEX = struct.Struct('>Qiiiiii20s12x')  # where data begins, over flags; sizes, numbers of the base, the link and the parents; a node
 NUMBER = struct.Struct('>I')
 KIND = b'STREAM2'
@@ -184,7 +184,7 @@ class Files:
         """A file of the store, or a cache, by its plain name; hg encodes it."""
         data = b''.join(pieces)
         if data:
-            self.write(place + number_of(len(name)) + number_of(len(data)) + name)
+            self.write(place + seven_bits(len(name)) + seven_bits(len(data)) + name)
             for start in range(0, len(data), PIECE):
                 self.write(data[start:start + PIECE])
             self.count += 1
@@ -207,12 +207,3 @@ def write_stream(target, requirements, sizes, paths):
         with open(path, 'rb') as share:
             shutil.copyfileobj(share, target, PIECE)
     target.write(NUMBER.pack(0) * 2)
-
-
-def number_of(value):
-    """Seven bits in a byte, the lowest first; each byte but the last has the highest bit set."""
-    found = bytearray()
-    while value > 0x7f:
-        found.append(0x80 | value & 0x7f)
-        value >>= 7
-    return bytes(found) + bytes([value])

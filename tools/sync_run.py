@@ -125,7 +125,7 @@ def set_names(mercurial, folder, slot, pairs, seen, ways, progress, dry):
         keep_in_git(plan, seen, ref, ways)
     ids = ids_of_changes(plan, seen.base)
     count_git = len(plan.for_git)
-    why = names_to_git(mercurial, folder, slot, pairs, seen, plan, ids, ways)
+    why = names_to_git(mercurial, folder, slot, pairs, seen, plan, ids)
     count_side = side_names(mercurial, folder, slot, pairs) if ways[0] else 0
     write_base(slot, mercurial.path, agreed_after(plan, seen.base, {**failed, **why}), plan.both_moved, folder)
     if ways[0]:
@@ -255,7 +255,7 @@ def ids_of_changes(plan, base):
     return ids
 
 
-def names_to_git(mercurial, folder, slot, pairs, seen, plan, ids, ways):
+def names_to_git(mercurial, folder, slot, pairs, seen, plan, ids):
     if not plan.for_git:
         return {}
     tags = [id for ref, id in ids.items() if id and id != plan.for_git[ref][1]]

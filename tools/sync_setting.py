@@ -2,12 +2,11 @@
 import os
 import subprocess
 
-from repositories import EMPTY_TREE, environment, git, git_holds, parts_of, words_of
+from repositories import EMPTY_TREE, environment, first_branch, git, git_holds, parts_of, words_of
 from slot import LOCKS_OF_REFS, NO_ID, lock_of_index, locks_of_refs, noted
 from sync_names import HEADS, KEPT, PUBLIC, TAGS, can_be_hg_name
 
 JOURNAL = 'checkout'
-FIRST_BRANCHES = (b'main', b'master', b'default')
 
 
 # ---- Git
@@ -152,9 +151,8 @@ def point_head(folder, slot):
         return
     heads = [line[len(HEADS):] for line in git(folder, 'for-each-ref', '--format', '%(refname)', 'refs/heads/').splitlines()]
     if heads:
-        wanted = [name for name in FIRST_BRANCHES if name in heads]
         with noted(slot, LOCKS_OF_REFS):
-            git(folder, 'symbolic-ref', 'HEAD', os.fsdecode(HEADS + (wanted + heads)[0]))
+            git(folder, 'symbolic-ref', 'HEAD', os.fsdecode(HEADS + first_branch(heads)))
 
 
 def read_text(path):

@@ -27,6 +27,8 @@ def check(report):
         check_parts(report, source)
         check_many(report)
         check_deltas(report)
+        check_other(report, source)
+        check_places(report, source)
         check_faults_of_new(report, source)
         check_faults_of_old(report, source)
 
@@ -37,14 +39,14 @@ def source_in(folder):
     return Source(folder, data, git(folder, 'for-each-ref', '--format=%(objectname) %(refname)'))
 
 
-def load(folder, data, refs=None, name='loaded.git'):
-    """The status of the tool, run in a folder."""
+def load(folder, data, refs=None, name='loaded.git', **env):
+    """The status of the tool, run in a folder, with more in its environment where it is given."""
     words = [TOOL, name]
     if refs is not None:
         with open(os.path.join(folder, 'refs'), 'wb') as file:
             file.write(refs)
         words += ['--refs', 'refs']
-    run = subprocess.run(words, cwd=folder, env=ENVIRONMENT, input=data, capture_output=True)
+    run = subprocess.run(words, cwd=folder, env=dict(ENVIRONMENT, **env), input=data, capture_output=True)
     if folder_has(folder, 'refs'):
         os.remove(os.path.join(folder, 'refs'))
     return run.returncode
@@ -123,6 +125,35 @@ def check_deltas(report):
 def link(place, number):
     """A line of a tree that needs no other object."""
     return streams.tree_entry(b'160000', b'link%03d' % place, b'%040d' % number)
+
+
+def check_other(report, source):
+    """Git sets GIT_DIR and its like for a hook, to the repository of which that is."""
+    for name, first in (('a new repository', None), ('one that is there', b'')):
+        with tempfile.TemporaryDirectory() as folder:
+            made, other = (os.path.join(folder, place) for place in ('loaded.git', 'other.git'))
+            git(folder, 'init', '--quiet', '--bare', other)
+            before = files_of(other)
+            if first is not None:
+                load(folder, first)
+            status = load(folder, source.data, source.refs, GIT_DIR=other, GIT_OBJECT_DIRECTORY=os.path.join(other, 'objects'))
+            report.check(f'git-load: {name} is loaded where GIT_DIR names another', (status, status == 0 and shown(made)), (0, shown(source.folder)))
+            report.check('git-load: the repository that GIT_DIR names is left alone', files_of(other) == before, True)
+
+
+def check_places(report, source):
+    """A work tree beside others has its objects in the first one's repository; a folder below a work tree is no repository."""
+    with tempfile.TemporaryDirectory() as folder:
+        load(folder, source.data, source.refs)
+        made = os.path.join(folder, 'loaded.git')
+        git(made, 'worktree', 'add', '--quiet', '--detach', os.path.join(folder, 'tree'), 'main')
+        blobs = [streams.stream_object(b'blob', text) for text in (b'of a work tree\n', b'below it\n')]
+        status = load(folder, blobs[0], name='tree')
+        report.check('git-load: a linked work tree is loaded', (status, git(made, 'cat-file', '--batch', data=blobs[0][:40])), (0, blobs[0]))
+        os.mkdir(os.path.join(folder, 'tree', 'below'))
+        before = files_of(made)
+        status = load(folder, blobs[1], name='tree/below')
+        report.check('git-load: a folder below a work tree is not', (status, files_of(made) == before), (1, True))
 
 
 def faults_of(source):

@@ -1,4 +1,5 @@
 """One line for each check, and their count."""
+import os
 
 
 class Report:
@@ -19,12 +20,21 @@ class Report:
             print(f'FAILED   {name}: {why}', flush=True)
 
     def skipped(self, name, why):
+        """What may be left out everywhere, such as what only root can do."""
         print(f'skipped  {name}: {why}', flush=True)
 
+    def missing(self, name, tools):
+        """What needs tools that aren't there is left out; where HGGIT_WANTS_ALL is set, as in CI, it fails."""
+        why = f'{" and ".join(tools)} can\'t be run'
+        if os.environ.get('HGGIT_WANTS_ALL'):
+            self.verdict(name, False, why)
+        else:
+            self.skipped(name, why)
+
     def finish(self):
-        """Prints the count and gives the exit status."""
+        """Prints the count and gives the exit status; where nothing was checked it is no good one."""
         print(f'{self.passed} passed, {self.failed} failed')
-        return 1 if self.failed else 0
+        return 0 if self.passed and not self.failed else 1
 
 
 def _difference(got, wanted):

@@ -1,11 +1,14 @@
-"""The real hg and git, with settings of their own."""
+"""The real hg and git, with settings of their own, and nothing of the repository in whose hook the tests may run."""
 import os
 import shutil
 import subprocess
 
+from repositories import is_of_one_repository
+
 HISTORY = os.path.join(os.path.dirname(os.path.abspath(__file__)), 'history.py')
 ENVIRONMENT = dict(
-    os.environ, HGRCPATH='', HGPLAIN='1', PYTHONDONTWRITEBYTECODE='1', TZ='UTC', LC_ALL='C.UTF-8',
+    {name: value for name, value in os.environ.items() if not is_of_one_repository(name)},
+    HGRCPATH='', HGPLAIN='1', PYTHONDONTWRITEBYTECODE='1', TZ='UTC', LC_ALL='C.UTF-8', LANGUAGE='',
     GIT_CONFIG_NOSYSTEM='1', GIT_CONFIG_GLOBAL='/dev/null',
     GIT_AUTHOR_NAME='Ann', GIT_AUTHOR_EMAIL='ann@x', GIT_AUTHOR_DATE='@0 +0000',
     GIT_COMMITTER_NAME='Ann', GIT_COMMITTER_EMAIL='ann@x', GIT_COMMITTER_DATE='@0 +0000')
@@ -19,9 +22,11 @@ def is_there(tool, package):
 
 
 def install(package):
-    quiet = dict(env=dict(os.environ, DEBIAN_FRONTEND='noninteractive'), stdout=subprocess.DEVNULL, stderr=subprocess.DEVNULL)
-    subprocess.run(['apt-get', 'update'], **quiet)
-    subprocess.run(['apt-get', 'install', '-y', '--no-install-recommends', package], **quiet)
+    """Says what apt-get says where it fails."""
+    for words in (['apt-get', 'update'], ['apt-get', 'install', '-y', '--no-install-recommends', package]):
+        run = subprocess.run(words, env=dict(os.environ, DEBIAN_FRONTEND='noninteractive'), stdin=subprocess.DEVNULL, capture_output=True)
+        if run.returncode:
+            print(f'{" ".join(words)} ended with {run.returncode}: {run.stderr.decode(errors="replace").strip()}', flush=True)
 
 
 def output_of(words, folder, data=b''):

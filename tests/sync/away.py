@@ -27,7 +27,7 @@ def check(report):
         with served(hub, []) as other:
             check_refused(report, hub, bob, other, path)
         answer = run(['git', 'fetch', '-q'], bob, PATH=path)
-        report.check('a URL that gives no answer', answer.status != 0, True)
+        report.check('a URL that gives no answer', (answer.status, 'git-remote-hggit: hg pull: ' in answer.errors), (128, True))
         report.check('hg verify', run(['hg', '-R', hub, 'verify', '-q']).status, 0)
 
 

@@ -1,7 +1,8 @@
 """What is refused, what is left, and what is said: nothing is overwritten or lost in any of it."""
+import fcntl
 import os
-import subprocess
 import tempfile
+import threading
 
 from both import disagreements, git_refs, hg_names, hg_nodes, peeled_refs, run, said, sync, tool
 from cloning import git_commit, hg_commit
@@ -169,12 +170,13 @@ def dry_and_locked(report, folder):
     report.check('sets nothing', git_refs(git), before)
     ends(report, '--to-hg', run([*tool('hggit-sync'), '--to-hg', hg, git]), 0, 'nothing new')
     report.check('leaves Git', git_refs(git), before)
-    with subprocess.Popen(['flock', os.path.join(git, 'hggit', 'lock'), 'sleep', '30']) as holder:
-        while run(['flock', '-n', os.path.join(git, 'hggit', 'lock'), 'true']).status == 0:
-            pass
-        ends(report, 'another run', run([*tool('hggit-sync'), '--wait', '0', hg, git]), 4, 'another run holds')
-        holder.terminate()
-    ends(report, 'after it', sync(hg, git), 0, 'names set: 1 in Git')
+    with open(os.path.join(git, 'hggit', 'lock'), 'wb') as lock:
+        fcntl.flock(lock, fcntl.LOCK_EX)
+        ends(report, 'another run', sync(hg, git, '--wait', '0'), 4, 'another run holds')
+        threading.Timer(1, lock.close).start()
+        ends(report, 'a run that waits', sync(hg, git), 0, 'names set: 1 in Git')
+        report.check('until the other one has ended', lock.closed, True)
+    ends(report, 'after it', sync(hg, git, '--wait', '0'), 0, 'nothing new')
 
 
 def refused(report, folder):

@@ -106,8 +106,11 @@ def over_a_link(report, folder):
     sync(hg, git)
     said(['hg', 'update', '-q', 'extra("hg-git-link")'], hg)
     hg_commit(hg, 'e', 'over a link')
+    node = said(['hg', '-R', hg, 'log', '-r', 'tip', '-T', '{node}'])
+    before = hg_names(hg), git_refs(git)
     answer = sync(hg, git)
-    report.verdict('a changeset over a link is carried or refused', answer.status in (0, 1) and 'Traceback' not in answer.errors, repr(answer))
+    ends(report, 'a changeset over a link is refused', answer, 1, 'hggit refused ParentIsLink: a parent is a link of a merge of many parents')
+    report.check('it is named, and no name is changed', (node in answer.errors, hg_names(hg), git_refs(git)), (True, *before))
 
 
 def aside(report, folder):

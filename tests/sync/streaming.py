@@ -54,7 +54,7 @@ def check_moves(report, place):
     sync(source, mirror)
     add_commits(mirror)
     sync(source, mirror)
-    move_both_ways(report, place, mirror, streamed, unbundled)
+    move_both_ways(report, mirror, streamed, unbundled)
     report.check('a stream gives what hg unbundle gives', differing(told(streamed), told(unbundled)), [])
     report.check('and what was there at first, but for phases', (hg_nodes(streamed), disagreements(streamed, mirror + '1')), (hg_nodes(source), []))
     report.check('hg verify', verified(streamed), (0, ''))
@@ -62,7 +62,7 @@ def check_moves(report, place):
     check_use(report, place, streamed)
 
 
-def move_both_ways(report, place, mirror, streamed, unbundled):
+def move_both_ways(report, mirror, streamed, unbundled):
     """To a repository that is made, and to one that was there."""
     for number, target in ((1, streamed), (2, unbundled)):
         said(['git', 'clone', '-q', '--mirror', mirror, mirror + str(number)])
@@ -280,8 +280,8 @@ def check_fallbacks(report, place):
     maker = GitMaker(git, 9)
     for _ in range(5):
         maker.commit()
-    rows = [('a hook that a bundle runs', '[hooks]\npretxnchangegroup.x = touch ../ran', UNBUNDLED),
-            ('a hook of transactions', '[hooks]\ntxnclose = touch ../ran', UNBUNDLED),
+    rows = [('a hook that a bundle runs', '[hooks]\npretxnchangegroup.x = touch ../ran0', UNBUNDLED),
+            ('a hook of transactions', '[hooks]\ntxnclose = touch ../ran1', UNBUNDLED),
             ('other hooks', '[hooks]\nupdate = false\npretxncommit.x = false\npre-push = false\npost-log.y = false', STREAMED),
             ('no share-safe', '[format]\nuse-share-safe = no', STREAMED), ('no sparse revlogs', '[format]\nsparse-revlog = no\nrevlog-compression = zlib', STREAMED),
             ('bookmarks in the store', '[format]\nbookmarks-in-store = yes', UNBUNDLED), ('no fncache', '[format]\nusefncache = no', UNBUNDLED),
@@ -296,7 +296,7 @@ def check_fallbacks(report, place):
         way = 'a stream' if wanted == STREAMED else 'no stream'
         report.check(f'{name}: {way}', (answer.status, answer.errors, form_of(hg), verified(hg)), (0, '', wanted, SOUND))
         report.check('with all that Git has', disagreements(hg, plain), [])
-    report.check('the hooks ran', os.path.exists(os.path.join(place, 'ran')), True)
+    report.check('both hooks ran', [os.path.exists(os.path.join(place, f'ran{number}')) for number in range(2)], [True] * 2)
 
 
 # ---- runs that are killed
@@ -330,19 +330,30 @@ def check_kills(report, place):
     """The Mercurial repository isn't there before."""
     master, copy = os.path.join(place, 'master'), os.path.join(place, 'run')
     make_git(os.path.join(master, 'git'))
-    shutil.copytree(master, copy)
-    seconds, wanted = seconds_and_words(copy)
-    numbers, wrong, lost = random.Random(3), [], []
+    seconds, wanted = min((moved_anew(master, copy) for _ in range(2)), key=lambda run: run[0])
+    numbers, wrong, lost, early, looked = random.Random(3), [], [], 0, 0
     for _ in range(KILLS // 4):
         moment = numbers.uniform(seconds / 3, seconds)
-        shutil.rmtree(copy)
-        shutil.copytree(master, copy)
-        kill_at(copy, moment)
-        lost += [(moment, words) for words in damage(copy)] if os.path.isdir(os.path.join(copy, 'hg')) else []
+        copy_anew(master, copy)
+        early += kill_at(copy, moment)
+        if os.path.isdir(os.path.join(copy, 'hg')):
+            looked += 1
+            lost += [(moment, words) for words in damage(copy)]
         _, got = seconds_and_words(copy)
         wrong += [] if got == wanted else [(moment, {key: (got[key], wanted[key]) for key in got if got[key] != wanted[key]})]
     report.check(f'{KILLS // 4} first moves are killed: the next one ends as an unkilled one', wrong, [])
     report.check('and hg verify and git fsck find nothing wrong before', lost, [])
+    report.verdict('some were killed at work, some with a repository there', early > KILLS // 16 and looked > 0, f'{early} at work, {looked} with one')
+
+
+def copy_anew(master, copy):
+    shutil.rmtree(copy, ignore_errors=True)
+    shutil.copytree(master, copy)
+
+
+def moved_anew(master, copy):
+    copy_anew(master, copy)
+    return seconds_and_words(copy)
 
 
 def seconds_and_words(place):

@@ -1,7 +1,7 @@
 """Mercurial's side: node ids, deltas, and bundles HG10UN."""
 import hashlib
 import struct
-from typing import List, NamedTuple
+from typing import Iterator, List, NamedTuple, Tuple
 
 MAGIC = b'HG10UN'
 NULL = bytes(20)
@@ -17,6 +17,15 @@ def node_id(p, q, text):
 def hunk(start, end, data):
     """The bytes of the base from start to end give way to the data."""
     return struct.pack('>III', start, end, len(data)) + data
+
+
+def hunks_of(delta) -> Iterator[Tuple[int, int, bytes]]:
+    """The start, the end and the data of each hunk of a delta that is known to be well-formed."""
+    at = 0
+    while at < len(delta):
+        start, end, size = struct.unpack_from('>III', delta, at)
+        at += 12 + size
+        yield start, end, delta[at - size:at]
 
 
 def whole_delta(base_size, text):
@@ -45,6 +54,10 @@ def manifest_line(path, node, flag=b''):
     return path + b'\0' + node.hex().encode() + flag + b'\n'
 
 
+def hex_of(node):
+    return node.hex().encode()
+
+
 def escape(raw):
     """Every byte outside `!` to `~`, and `%` and the backslash, as `%` and two hex digits."""
     return b''.join(bytes([b]) if 33 <= b <= 126 and b not in b'%\\' else b'%%%02X' % b for b in raw)
@@ -63,10 +76,6 @@ class Entry(NamedTuple):
     def delta_at(self):
         return self.at + 4 + HEADER_SIZE
 
-    def words(self):
-        ids = b' '.join(i.hex().encode() for i in (self.node, self.p, self.q, self.link))
-        return self.group + b' ' + ids
-
 
 def entries_of(data) -> List[Entry]:
     """The entries of a bundle that is known to be well-formed."""
@@ -78,6 +87,11 @@ def entries_of(data) -> List[Entry]:
         path = data[at + 4:at + size]
         at = _read_group(data, at + size, b'file ' + escape(path), entries)
     return entries
+
+
+def revisions_of(data):
+    """Each revision of such a bundle by its group, node and parents in rising order: links, order and deltas are the writer's own."""
+    return {(e.group, e.node, *sorted([e.p, e.q])) for e in entries_of(data)}
 
 
 def _read_group(data, at, group, entries):
