@@ -17,6 +17,7 @@ OTHER = hg.node_id(NULL, NULL, OTHER_TEXT)
 
 def check(checks):
     check_chunks(checks)
+    check_magics(checks)
     check_ends(checks)
     check_listings(checks)
     check_limits(checks)
@@ -29,10 +30,11 @@ def field(n):
     return struct.pack('>I', n)
 
 
-def check_chunks(checks):
-    def fault(name, place):
-        return just(refusal(name, place))
+def fault(name, place):
+    return just(refusal(name, place))
 
+
+def check_chunks(checks):
     whole = hg.chunk(bytes(80))
     end = INPUT_LIMIT
     checks.table('hg_model.Chunk.chunk_fault', [
@@ -63,6 +65,9 @@ def check_chunks(checks):
     checks.equal('the text of the empty chunk', bytes(4), 'hg_model.Chunk.chunk_text', b'')
     checks.equal('the text of a chunk', b'\0\0\0\x06ab', 'hg_model.Chunk.chunk_text', b'ab')
     checks.equal('the payload of a chunk', b'ab', 'hg_model.Chunk.first_payload', b'\0\0\0\x06abcd')
+
+
+def check_magics(checks):
     checks.table('hg_model.Chunk.magic_fault', [
         ('the magic', (b'HG10UN..',), None),
         ('no magic', (b'',), fault('Truncated', 0)),

@@ -1,4 +1,6 @@
 """Checks of definitions on values, and the values that they share."""
+import contextlib
+
 from antt.values import NONE, Con, Rec, shown, some
 
 NULL = bytes(20)
@@ -34,6 +36,16 @@ class Checks:
 
     def value(self, path, *args):
         return self.definitions(path, *map(as_value, args))
+
+    @contextlib.contextmanager
+    def where(self, path, value):
+        """The checks inside are of definitions of which this one is another value."""
+        whole = self.definitions
+        self.definitions = whole.where(path, value)
+        try:
+            yield
+        finally:
+            self.definitions = whole
 
     def fail(self, name, why):
         self.failed += 1

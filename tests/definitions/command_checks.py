@@ -1,9 +1,10 @@
 """The commands by their words, what they come to, and what is printed of a run."""
 from antt.values import Con
 from checks import NULL, ONE, just, record, refusal
+from examples import example
 from formats import git, hg
-from state_checks import block_of, tag_object
-from view_checks import One
+from state_checks import block_of, kept, tag_object, two_blocks, two_tags
+from view_checks import One, Two
 
 ZEROS = b'0' * 40
 
@@ -14,6 +15,17 @@ def written(output):
 
 
 def check(checks):
+    check_words(checks)
+    check_other_words(checks)
+    check_reads(checks)
+    check_listings(checks)
+    check_counts(checks)
+    check_names(checks)
+    check_made(checks)
+    check_lines(checks)
+
+
+def check_words(checks):
     listing = just(Con('ListHg'))
     checks.table('command_model.Command.command_of', [
         ('no words list a bundle', ([],), listing),
@@ -33,6 +45,11 @@ def check(checks):
         ('the audit', ([b'verify'],), just(Con('Verify'))),
         ('a history that is made', ([b'make', b'300', b'7'],), just(Con('Make', (300, 7)))),
         ('the greatest numbers', ([b'make', b'0', b'%d' % (2 ** 64 - 1)],), just(Con('Make', (0, 2 ** 64 - 1)))),
+    ])
+
+
+def check_other_words(checks):
+    checks.table('command_model.Command.command_of', [
         ('a number that is too large', ([b'make', b'1', b'%d' % 2 ** 64],), None),
         ('a leading zero', ([b'make', b'01', b'7'],), None),
         ('a number is missing', ([b'make', b'1'],), None),
@@ -44,6 +61,10 @@ def check(checks):
         ('an empty word', ([b''],), None),
         ('a word too many', ([b'list-hg', b'list-hg'],), None),
     ])
+
+
+def check_reads(checks):
+    """What a command reads."""
     checks.table('command_model.Command.reads_input', [
         ('names that are set are read', (Con('SetNamesHg'),), True),
         ('names that are written are not', (Con('NamesGit'),), False),
@@ -56,6 +77,9 @@ def check(checks):
         ('what is saved is audited', (Con('Verify'),), True),
         ('a history is made of nothing', (Con('Make', (1, 7)),), False),
     ])
+
+
+def check_listings(checks):
     entry = hg.entry(ONE, bytes(20), bytes(20), ONE, b'')
     line = b'changeset ' + b'1' * 40 + b' ' + ZEROS + b' ' + ZEROS + b' ' + b'1' * 40 + b' 0\n'
     check_outcomes(checks, [
@@ -63,8 +87,10 @@ def check(checks):
         ('an entry is listed', (Con('ListHg'), hg.bundle([entry])), written(line)),
         ('an empty input is refused', (Con('ListHg'), b''), Con('Refused', (refusal('Truncated', 0),))),
     ])
-    check_counts(checks)
-    check_names(checks)
+
+
+def check_lines(checks):
+    """What is said on the errors of a run."""
     checks.table('command_model.Run.report_line', [
         ('nothing is said where the work was done', (Con('Done'),), b''),
         ('a refusal', (Con('IsRefused', (refusal('Trailing', 18),)),), b'refused Trailing ' + ZEROS + b' 18\n'),
@@ -95,8 +121,7 @@ def outcome(value, command, data):
         'CheckHg': ('hg_model.Reading.bundle_reading', 'saved_model.Written.revision_counts'),
         'CheckGit': ('git_model.Stream.stream_reading', 'saved_model.Written.object_counts'),
     }[command]
-    read = value(reading, [], data)
-    return written(value(counts, read.args[0])) if read.name == 'Ok' else Con('Refused', read.args)
+    return value('command_model.Command.written_of', value(counts), value(reading, [], data))
 
 
 def check_counts(checks):
@@ -116,6 +141,24 @@ def check_counts(checks):
          written(b'commits 0\ntrees 1\nblobs 2\ntags 0\n')),
         ('a missing object is refused', (Con('CheckGit'), blob + b'x missing\n'), Con('Refused', (refusal('Missing', len(blob)),))),
     ])
+
+
+def check_made(checks):
+    """What is printed of a history that was made, and the stream that its pull goes back from."""
+    first, second = two_blocks(checks)
+    marked = dict(second, commit=dict(second['commit'], value=dict(second['commit']['value'], headers=b'HG:user u\n')))
+    lines = b'changesets %d\ncommits %d\nmarked %d\nlast %s %s\n'
+    node, commit, marked_commit = (bytes(checks.value(path, block)).hex().encode() for path, block in [
+        ('pair_model.Block.node_of', first), ('pair_model.Block.id_of', first), ('pair_model.Block.id_of', marked)])
+    checks.table('command_model.Made.made_lines', [
+        ('no history is made', ([],), lines % (0, 0, 0, ZEROS, ZEROS)),
+        ('a changeset is made', ([first],), lines % (1, 1, 0, node, commit)),
+        ('two are made, of which one is marked', ([first, marked],), lines % (2, 2, 1, Two.node.hex().encode(), marked_commit)),
+        ('a link counts among the changesets', ([dict(first, links=[second['changeset']])],), lines % (2, 1, 0, node, commit)),
+    ])
+    tags = two_tags(checks)
+    stream = example('one-changeset.git') + b''.join(git.stream_object(b'tag', bytes(tag['content'])) for tag in tags)
+    checks.equal('the stream of a history and its tags', stream, 'command_model.Made.stream_of', kept([first], tags))
 
 
 def check_names(checks):

@@ -17,6 +17,7 @@ def check(checks):
     check_idents(checks)
     check_lines(checks)
     check_streams(checks)
+    check_ids(checks)
     check_shapes(checks)
     check_walks(checks)
     check_rows(checks)
@@ -30,54 +31,79 @@ def tree(*entries):
     return b''.join(mode + b' ' + name + b'\0' + ONE for mode, name in entries)
 
 
-def check_trees(checks):
-    def fault(name):
-        return lambda place: just(record(name=Con(name), place=place))
+def tree_fault(name):
+    """A fault of this name, by its place."""
+    return lambda place: just(record(name=Con(name), place=place))
 
-    shape, mode, name = fault('ObjectShape'), fault('ModeOut'), fault('NameUnfit')
+
+SHAPE, MODE, NAME = map(tree_fault, ('ObjectShape', 'ModeOut', 'NameUnfit'))
+
+
+def check_trees(checks):
+    check_tree_shapes(checks)
+    check_tree_modes(checks)
+    check_tree_names(checks)
+    entries = [record(mode=Con('Exec'), name=b'a', id=ONE), record(mode=Con('Directory'), name=b'b', id=TWO)]
+    content = b'100755 a\0' + ONE + b'40000 b\0' + TWO
+    checks.equal('the text of a tree', content, 'git_model.Tree.tree_text', entries)
+    checks.equal('the entries of a tree', entries, 'git_model.Tree.tree_entries', content)
+    checks.table('git_model.Tree.is_file_named', [
+        ('a file of the name', (b'a', entries[0]), True),
+        ('a file of another name', (b'b', entries[0]), False),
+        ('a folder of the name', (b'b', entries[1]), False),
+    ])
+
+
+def check_tree_shapes(checks):
     one = tree((FILE, b'a'))
     checks.table('git_model.Tree.tree_fault', [
         ('an empty tree', (b'',), None),
         ('a tree of all modes', (tree((FILE, b'a'), (FOLDER, b'b'), (LINK, b'c'), (EXEC, b'd'), (b'100664', b'e'), (b'160000', b'f')),), None),
         ('a folder sorts with a slash', (tree((FILE, b'a.b'), (FOLDER, b'a'), (FILE, b'a0')),), None),
         ('a name of 4,096 bytes', (tree((FILE, b'a' * 4096)),), None),
-        ('a cut id', (one[:-1],), shape(0)),
-        ('a cut second entry', (one + one[:5],), shape(29)),
-        ('no blank', (b'100644',), shape(0)),
-        ('no NUL', (b'100644 a' + ONE,), shape(0)),
-        ('an empty mode', (tree((b'', b'a')),), shape(0)),
-        ('a mode with an 8', (tree((b'100648', b'a')),), shape(0)),
-        ('a mode with a letter', (tree((b'10064x', b'a')),), shape(0)),
-        ('entries that fall', (tree((FILE, b'b'), (FILE, b'a')),), shape(29)),
-        ('an entry twice', (one + one,), shape(29)),
-        ('a folder before a file with a dot', (tree((FOLDER, b'a'), (FILE, b'a.b')),), shape(28)),
-        ('a file and a folder of one name', (tree((FILE, b'a'), (FOLDER, b'a')),), shape(29)),
-        ('the same with an entry between', (tree((FILE, b'a'), (FILE, b'a.b'), (FOLDER, b'a')),), shape(60)),
-        ('a gitlink', (tree((b'160000', b'a')),), None),
-        ('a mode that is none', (tree((b'100775', b'a')),), mode(0)),
-        ('a mode with a leading zero', (tree((b'040000', b'a')),), mode(0)),
-        ('a file that the group may write', (tree((b'100664', b'a')),), None),
-        ('a mode of one digit', (tree((b'7', b'a')),), mode(0)),
-        ('a gitlink that falls', (tree((FILE, b'b'), (b'160000', b'a')),), shape(29)),
-        ('a gitlink with an unfit name', (tree((b'160000', b'.git')),), name(0)),
-        ('a gitlink before a cut entry', (tree((b'160000', b'a')) + b'x',), shape(29)),
-        ('a gitlink before a file with a dot', (tree((b'160000', b'a'), (FILE, b'a.b')),), None),
-        ('another mode with an unfit name', (tree((b'100775', b'.git')),), mode(0)),
-        ('a name .git', (tree((FOLDER, b'.git')),), name(0)),
-        ('a name .hg', (tree((FILE, b'.hg')),), name(0)),
-        ('a name of one dot', (tree((FILE, b'.')),), name(0)),
-        ('a name of two dots', (tree((FILE, b'..')),), name(0)),
-        ('an empty name', (tree((FILE, b'')),), name(0)),
-        ('a name with a slash', (tree((FILE, b'a/b')),), name(0)),
-        ('a name with LF', (tree((FILE, b'a\nb')),), name(0)),
-        ('a name of 4,097 bytes', (tree((FILE, b'a' * 4097)),), name(0)),
-        ('an unfit name behind another entry', (tree((FILE, b'a'), (FILE, b'b\r')),), name(29)),
-        ('an unfit name before a bad mode', (tree((FILE, b'.git'), (b'160000', b'a')),), name(0)),
+        ('a cut id', (one[:-1],), SHAPE(0)),
+        ('a cut second entry', (one + one[:5],), SHAPE(29)),
+        ('no blank', (b'100644',), SHAPE(0)),
+        ('no NUL', (b'100644 a' + ONE,), SHAPE(0)),
+        ('an empty mode', (tree((b'', b'a')),), SHAPE(0)),
+        ('a mode with an 8', (tree((b'100648', b'a')),), SHAPE(0)),
+        ('a mode with a letter', (tree((b'10064x', b'a')),), SHAPE(0)),
+        ('entries that fall', (tree((FILE, b'b'), (FILE, b'a')),), SHAPE(29)),
+        ('an entry twice', (one + one,), SHAPE(29)),
+        ('a folder before a file with a dot', (tree((FOLDER, b'a'), (FILE, b'a.b')),), SHAPE(28)),
+        ('a file and a folder of one name', (tree((FILE, b'a'), (FOLDER, b'a')),), SHAPE(29)),
+        ('the same with an entry between', (tree((FILE, b'a'), (FILE, b'a.b'), (FOLDER, b'a')),), SHAPE(60)),
     ])
-    entries = [record(mode=Con('Exec'), name=b'a', id=ONE), record(mode=Con('Directory'), name=b'b', id=TWO)]
-    content = b'100755 a\0' + ONE + b'40000 b\0' + TWO
-    checks.equal('the text of a tree', content, 'git_model.Tree.tree_text', entries)
-    checks.equal('the entries of a tree', entries, 'git_model.Tree.tree_entries', content)
+
+
+def check_tree_modes(checks):
+    checks.table('git_model.Tree.tree_fault', [
+        ('a gitlink', (tree((b'160000', b'a')),), None),
+        ('a mode that is none', (tree((b'100775', b'a')),), MODE(0)),
+        ('a mode with a leading zero', (tree((b'040000', b'a')),), MODE(0)),
+        ('a file that the group may write', (tree((b'100664', b'a')),), None),
+        ('a mode of one digit', (tree((b'7', b'a')),), MODE(0)),
+        ('a gitlink that falls', (tree((FILE, b'b'), (b'160000', b'a')),), SHAPE(29)),
+        ('a gitlink with an unfit name', (tree((b'160000', b'.git')),), NAME(0)),
+        ('a gitlink before a cut entry', (tree((b'160000', b'a')) + b'x',), SHAPE(29)),
+        ('a gitlink before a file with a dot', (tree((b'160000', b'a'), (FILE, b'a.b')),), None),
+        ('another mode with an unfit name', (tree((b'100775', b'.git')),), MODE(0)),
+    ])
+
+
+def check_tree_names(checks):
+    checks.table('git_model.Tree.tree_fault', [
+        ('a name .git', (tree((FOLDER, b'.git')),), NAME(0)),
+        ('a name .hg', (tree((FILE, b'.hg')),), NAME(0)),
+        ('a name of one dot', (tree((FILE, b'.')),), NAME(0)),
+        ('a name of two dots', (tree((FILE, b'..')),), NAME(0)),
+        ('an empty name', (tree((FILE, b'')),), NAME(0)),
+        ('a name with a slash', (tree((FILE, b'a/b')),), NAME(0)),
+        ('a name with LF', (tree((FILE, b'a\nb')),), NAME(0)),
+        ('a name of 4,097 bytes', (tree((FILE, b'a' * 4097)),), NAME(0)),
+        ('an unfit name behind another entry', (tree((FILE, b'a'), (FILE, b'b\r')),), NAME(29)),
+        ('an unfit name before a bad mode', (tree((FILE, b'.git'), (b'160000', b'a')),), NAME(0)),
+    ])
 
 
 def check_commits(checks):
@@ -236,6 +262,18 @@ def check_streams(checks):
     checks.equal('the lines of a stream', lines, 'git_model.Stream.stream_listing', objects)
     checks.equal('the blobs of a stream', 1, 'git_model.Stream.count_of_kind', Con('blob'), objects)
     checks.equal('the tags of a stream', 0, 'git_model.Stream.count_of_kind', Con('tag'), objects)
+
+
+def check_ids(checks):
+    """An object is found where its id is that of its content."""
+    right, wrong = (record(id=HELLO, kind=Con('blob'), content=content) for content in (b'hello\n', b'hallo\n'))
+    bad = Con('BadObject', (refusal('Limit', 3),))
+    checks.table('git_model.Stream.checked_at', [
+        ('no object', (7, Con('NoObject')), Con('NoObject')),
+        ('an object with its id', (7, Con('Found', (right,))), Con('Found', (right,))),
+        ('an object with the id of another', (7, Con('Found', (wrong,))), Con('BadObject', (refusal('IdWrong', 7, HELLO),))),
+        ('an object that is refused already', (7, bad), bad),
+    ])
 
 
 def object_id(kind, content):

@@ -10,8 +10,11 @@ BASE = b'abcdef'
 
 def check(checks):
     check_deltas(checks)
+    check_hunks(checks)
     check_changesets(checks)
     check_dates(checks)
+    check_date_lines(checks)
+    check_extras(checks)
     check_manifests(checks)
     check_files(checks)
 
@@ -49,6 +52,16 @@ def check_deltas(checks):
     ]
     for name, delta, kind, place in bad:
         checks.equal(name, Con(kind, (place,)), 'hg_model.Delta.delta_reading', len(BASE), delta)
+
+
+def check_hunks(checks):
+    both = [record(start=1, finish=3, bytes=b'XYZ'), record(start=4, finish=4, bytes=b'Z')]
+    checks.equal('the text of a delta', hg.hunk(1, 3, b'XYZ') + hg.hunk(4, 4, b'Z'), 'hg_model.Delta.delta_text', both)
+    checks.table('hg_model.Delta.patched_size', [
+        ('the size of a base that nothing changes', (6, []), 6),
+        ('the size behind two hunks', (6, both), 8),
+        ('the size where the whole base is dropped', (6, [record(start=0, finish=6, bytes=b'')]), 0),
+    ])
     checks.table('hg_model.Delta.whole_delta', [
         ('no delta between empty texts', (0, b''), b''),
         ('a delta over nothing', (0, b'ab'), struct.pack('>III', 0, 0, 2) + b'ab'),
@@ -110,6 +123,54 @@ def check_dates(checks):
     checks.equal('a key that is missing', None, 'hg_model.Changeset.extra_at', b'c', extras)
 
 
+def raw(line):
+    return Con('Raw', (line,))
+
+
+def check_date_lines(checks):
+    """A line is that of a date, or else it is raw."""
+    rows = [
+        ('a date', b'1000 3600', plain(1000, 3600)),
+        ('a negative date and zone', b'-1 -19800', plain(-1, -19800)),
+        ('the greatest time and zone', b'%d %d' % (2**62, 2**31), plain(2**62, 2**31)),
+        ('the least time and zone', b'%d %d' % (-2**62, -2**31), plain(-2**62, -2**31)),
+        ('a date with an extra', b'0 0 branch:stable', plain(0, 0, (b'branch', b'stable'))),
+    ]
+    raws = [
+        ('no line', b''), ('a time alone', b'0'), ('a time and a blank', b'0 '), ('two blanks', b'0  0'), ('no time', b' 0'),
+        ('a leading zero', b'00 0'), ('zero below zero', b'-0 0'), ('a plus', b'+1 0'), ('a sign alone', b'- 0'), ('a letter', b'1a 0'),
+        ('a time that is too late', b'%d 0' % (2**62 + 1)), ('a time that is too early', b'-%d 0' % (2**62 + 1)),
+        ('a zone too far west', b'0 %d' % (2**31 + 1)), ('a zone too far east', b'0 -%d' % (2**31 + 1)),
+        ('a blank without extras', b'0 0 '), ('an extra without a colon', b'0 0 a'), ('keys that fall', b'0 0 b:\0a:'),
+    ]
+    checks.table('hg_model.Changeset.date_of', [(f'the line of {name}', (line,), wanted) for name, line, wanted in rows])
+    checks.table('hg_model.Changeset.date_of', [(f'{name} is no date', (line,), raw(line)) for name, line in raws])
+
+
+def check_extras(checks):
+    """Items that a text spells, and texts that spell none."""
+    def items(*pairs):
+        return just([record(key=key, value=value) for key, value in pairs])
+
+    checks.table('hg_model.Changeset.extras_of', [
+        ('one item', (b'a:1',), items((b'a', b'1'))),
+        ('two items', (b'a:1\0b:',), items((b'a', b'1'), (b'b', b''))),
+        ('colons in a value', (b'a:b:c',), items((b'a', b'b:c'))),
+        ('all escapes', (b'k:\\\\\\n\\r\\0:%',), items((b'k', b'\\\n\r\0:%'))),
+        ('an escaped key', (b'a\\n:1',), items((b'a\n', b'1'))),
+        ('keys rise unescaped', (b'\\n:\0!:',), items((b'\n', b''), (b'!', b''))),
+        ('keys that rise escaped alone', (b'!:\0\\n:',), None),
+        ('a key twice', (b'a:1\0a:2',), None),
+        ('no text', (b'',), None),
+        ('an empty key', (b':x',), None),
+        ('a NUL at the end', (b'a:\0',), None),
+        ('another escape', (b'k:\\x',), None),
+        ('half an escape', (b'k:\\',), None),
+        ('a bare CR', (b'k:\r',), None),
+        ('a bare LF', (b'k:\n',), None),
+    ])
+
+
 def check_manifests(checks):
     def bad(place):
         return just(Con('BadLine', (place,)))
@@ -145,6 +206,8 @@ def check_manifests(checks):
         ('an unfit path before a bad line', (line(b'a/', ONE) + b'x',), unfit(0)),
     ])
     entries = [record(path=b'a', node=ONE, flag=Con('Executable')), record(path=b'b', node=TWO, flag=Con('Regular'))]
+    checks.equal('the last path of a manifest', just(b'b'), 'hg_model.Manifest.last_path', entries)
+    checks.equal('no path of an empty manifest', None, 'hg_model.Manifest.last_path', [])
     checks.equal('the text of a manifest', b'a\0' + DIGITS + b'x\nb\0' + b'2' * 40 + b'\n', 'hg_model.Manifest.manifest_text', entries)
 
 

@@ -1,7 +1,7 @@
 """The plain rules, the links of octopus commits, and the forms of marks."""
 from antt.values import NONE, Con
 from checks import NULL, ONE, TWO, integer, just, record
-from view_checks import AUTHOR, LATER, NO_MANIFEST, One, PLAIN, Shapes, over, two_changesets
+from view_checks import NO_MANIFEST, One, PLAIN, Shapes, over, two_changesets
 
 ZEROS = b'0' * 40
 ONES, TWOS = b'1' * 40, b'22' * 20

@@ -1,6 +1,6 @@
 """The marks of changesets and commits, the residue of a tree among them, and what marks name."""
-from antt.values import NONE, Con
-from checks import NULL, ONE, TWO, integer, just, record
+from antt.values import Con
+from checks import ONE, TWO, integer, just, record
 from view_checks import LATER, NO_MANIFEST, One, Shapes, over
 
 ZEROS = b'0' * 40

@@ -1,12 +1,12 @@
 """A saved state: its text, its links and tags, and its limits."""
-import os
-
 from antt.values import Con
-from checks import ONE, TWO, record
-from formats import git
-from view_checks import One, Shapes
+from checks import ONE, TWO, just, record
+from examples import example
+from formats import git, hg
+from view_checks import One, Shapes, two_changesets
 
-EXAMPLES = os.path.join(os.path.dirname(os.path.dirname(os.path.dirname(os.path.abspath(__file__)))), 'examples')
+BUNDLE_SIZE = 427  # of a first block
+STREAM_SIZE = 295 + 151  # of its commit and a tag
 
 
 def check(checks):
@@ -17,15 +17,24 @@ def check(checks):
     check_limits(checks)
 
 
-def example(name):
-    with open(os.path.join(EXAMPLES, name), 'rb') as file:
-        return file.read()
-
-
 def block_of(checks):
     """The block of a first changeset."""
     shapes = Shapes(checks)
     return record(links=[], changeset=shapes.changeset([shapes.row(b'a', b'hello\n')]), commit=shapes.commit([(b'a', 'File', b'hello\n')]))
+
+
+def two_blocks(checks):
+    """The same and that of its child."""
+    shapes, first = Shapes(checks), block_of(checks)
+    _, child = two_changesets(checks)
+    commit = shapes.commit([(b'a', 'File', b'hello2\n')], [bytes(checks.value('pair_model.Block.id_of', first))], b'two\n')
+    return [first, record(links=[], changeset=child, commit=commit)]
+
+
+def two_tags(checks):
+    """Two tags of the first block's commit."""
+    commit = bytes(checks.value('pair_model.Block.id_of', block_of(checks))).hex().encode()
+    return [tag_object(commit, b'commit', name)[0] for name in (b'v1', b'v2')]
 
 
 def kept(blocks, tags=()):
@@ -49,7 +58,7 @@ def check_texts(checks):
     pair = b'map 1\n%s %s\n' % (commit, node)
     sides = b'hg-git-bridge 2\n' + section(b'hg', bundle) + section(b'git', stream) + pair
     one = [block_of(checks)]
-    nothing = b'hg-git-bridge 2\n' + section(b'hg', b'HG10UN' + bytes(12)) + section(b'git', b'') + b'map 0\n'
+    nothing = b'hg-git-bridge 2\n' + section(b'hg', hg.bundle()) + section(b'git', b'') + b'map 0\n'
     checks.table('state_model.Text.state_text', [
         ('the text of nothing', (record(blocks=[], tags=[], names=[]),), nothing + section(b'tags', b'') + section(b'names', b'')),
         ('the text of a block', (record(blocks=one, tags=[], names=[]),), sides + section(b'tags', b'') + section(b'names', b'')),
@@ -109,10 +118,23 @@ def check_tags(checks):
 
 
 def check_limits(checks):
-    block = block_of(checks)
-    checks.table('state_model.Saved.passes_limit', [
-        ('a block is within the limits', (kept([block]),), False),
-    ])
-    checks.table('saved_model.Step.first_large_block', [
-        ('no block is too large', (kept([]), [block]), None),
-    ])
+    """Two blocks and two tags within the limits; and each limit, reached and passed by one byte or one changeset."""
+    blocks, tags = two_blocks(checks), two_tags(checks)
+    first_block, first_tag = 'saved_model.Step.first_large_block', 'saved_model.Step.first_large_tag'
+    checks.equal('blocks and tags are within the limits', False, 'state_model.Saved.passes_limit', kept(blocks, tags))
+    checks.equal('no block is too large', None, first_block, kept([]), blocks)
+    checks.equal('no tag is too large', None, first_tag, kept(blocks), tags)
+    for limit, passes, first in [(BUNDLE_SIZE, False, blocks[1]), (BUNDLE_SIZE - 1, True, blocks[0])]:
+        check_limited(checks, 'dump_limit', limit, passes, kept(blocks[:1]), (first_block, kept([]), blocks, just(first)))
+    for limit, passes, first in [(STREAM_SIZE, False, tags[1]), (STREAM_SIZE - 1, True, tags[0])]:
+        check_limited(checks, 'dump_limit', limit, passes, kept(blocks[:1], tags[:1]), (first_tag, kept(blocks[:1]), tags, just(first)))
+    for limit, passes, first in [(1, False, blocks[1]), (0, True, blocks[0])]:
+        check_limited(checks, 'changeset_limit', limit, passes, kept(blocks[:1]), (first_block, kept([]), blocks, just(first)))
+
+
+def check_limited(checks, limit_name, limit, passes, state, first):
+    """Where a limit is so small: whether the state passes it, and what new one does first."""
+    path, before, new, wanted = first
+    with checks.where(f'state_model.Limits.{limit_name}', limit):
+        checks.equal(f'passed where {limit_name} is {limit}', passes, 'state_model.Saved.passes_limit', state)
+        checks.equal(f'the first that is too large where {limit_name} is {limit}', wanted, path, before, new)

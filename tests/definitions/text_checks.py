@@ -17,11 +17,13 @@ FAULTS = '''
 
 def check(checks):
     check_texts(checks)
+    check_cuts(checks)
     check_numbers(checks)
     check_lists(checks)
     check_ids(checks)
     check_escapes(checks)
     check_paths(checks)
+    check_limits(checks)
     check_reach(checks)
     for name in FAULTS:
         checks.equal(f'the word of {name}', name.encode(), 'text_model.Fault.fault_word', Con(name))
@@ -58,6 +60,9 @@ def check_texts(checks):
         ('one word', ([b'a'],), b'a'),
         ('no words', ([],), b''),
     ])
+
+
+def check_cuts(checks):
     checks.table('text_model.Cuts.cut_of', [
         ('cut at the first slash', (47, b'a/b/c'), just_pair(b'a', b'b/c')),
         ('cut at a slash in front', (47, b'/a'), just_pair(b'', b'a')),
@@ -196,6 +201,19 @@ def check_paths(checks):
 
 def named(path):
     return repr(path) if len(path) < 40 else f'of {len(path)} bytes and {path.count(b"/") + 1} components'
+
+
+def check_limits(checks):
+    """Each limit by its number."""
+    for path, limit in [
+        ('text_model.Limits.input_limit', 2**29), ('text_model.Limits.sum_limit', 2**30), ('text_model.Limits.text_limit', 2**26),
+        ('text_model.Limits.commit_limit', 2**24), ('text_model.Limits.rows_limit', 2**26), ('text_model.Limits.parent_limit', 64),
+        ('text_model.Limits.path_limit', 4096), ('text_model.Limits.component_limit', 256), ('text_model.Limits.line_limit', 4096),
+        ('state_model.Limits.dump_limit', 2**29), ('state_model.Limits.changeset_limit', 10**6), ('state_model.Limits.link_limit', 62),
+        ('state_model.Limits.slot_limit', 2**31 - 1), ('state_model.Limits.name_limit', 10**5), ('state_model.Limits.ref_limit', 4096),
+        ('partner_model.Given.depth_limit', 16), ('make_model.Dump.most_changesets', 20000),
+    ]:
+        checks.equal(f'the number of {path}', limit, path)
 
 
 def check_reach(checks):

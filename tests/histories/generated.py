@@ -6,7 +6,6 @@ from rules import Parent, files_given, manifest_given, revision_given
 from texts import Plain, copy_metadata
 
 FACTOR, TERM, MODULUS, SHIFT = 6364136223846793005, 1442695040888963407, 1 << 64, 1 << 33
-COUNT_LIMIT = 20000
 ZONES = (0, 3600, -19800, 90)
 BRANCH = ((b'branch', b'stable'),)
 

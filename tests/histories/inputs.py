@@ -1,5 +1,4 @@
 """Bundles and streams, read into what they bring. They are known to be well-formed, but for what `Refused` is raised for here."""
-import struct
 from typing import NamedTuple
 
 from formats import git as streams
@@ -60,11 +59,9 @@ def read_bundle(data):
 
 def patched(base, delta):
     """The base with each hunk's bytes in the place of those from its start to its end."""
-    pieces, done, at = [], 0, 0
-    while at < len(delta):
-        start, end, length = struct.unpack_from('>III', delta, at)
-        at += 12 + length
-        pieces += [base[done:start], delta[at - length:at]]
+    pieces, done = [], 0
+    for start, end, data in bundles.hunks_of(delta):
+        pieces += [base[done:start], data]
         done = end
     return b''.join(pieces) + base[done:]
 

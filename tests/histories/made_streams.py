@@ -2,8 +2,10 @@
 from formats import git as streams
 from inputs import Refused
 from made_members import Asked, Members
-from members import EMPTY_TREE, FILE, TREE, Commit, tree_objects
+from members import Commit, tree_objects
 from pulls import add_block, block_of_commit
+from small_histories import id_of
+from wide_trees import wide_texts
 
 TAG = b'object %s\ntype commit\ntag v1\ntagger Ann <ann@x> 0 +0000\n\nfirst\n'
 MISSING = b'1' * 40 + b' missing\n'
@@ -63,13 +65,7 @@ class Stream(Members):
 
 
 def wide_stream(levels):
-    """A commit of few objects whose tree has two to the power of so many files: two entries of a tree are the same tree below."""
-    mode, below = FILE, streams.stream_object(b'blob', b'')
-    texts = [below]
-    for _ in range(levels):
-        id = below[:len(EMPTY_TREE)]
-        entries = [streams.tree_entry(mode, first + b'n' * 200, id) for first in (b'a', b'b')]
-        below, mode = streams.stream_object(b'tree', b''.join(entries)), TREE
-        texts.append(below)
-    content = streams.commit_content(below[:len(EMPTY_TREE)], [], b'Ann <ann@x> 0 +0000', b'no LF at the end')
+    """A commit of few objects whose tree has two to the power of so many files."""
+    texts = wide_texts(levels)
+    content = streams.commit_content(id_of(texts[-1]), [], b'Ann <ann@x> 0 +0000', b'no LF at the end')
     return b''.join(texts) + streams.stream_object(b'commit', content)

@@ -1,7 +1,7 @@
 """Lists of marks, read and written: in a commit's headers and in a changeset's extras."""
 from typing import NamedTuple, Optional, Tuple
 
-from formats.hg import escape
+from formats.hg import escape, hex_of
 from members import Item
 from texts import TIME_LIMIT, ZONE_LIMIT, decimal, is_rising, node_of_hex, signed, unescape
 
@@ -48,10 +48,6 @@ def headers_of(marks):
         lines.append(line_of(b'raw', escape(marks.raw)))
     lines += [line_of(b'extra', escape(key), escape(value)) for key, value in marks.extras]
     return b''.join(lines)
-
-
-def hex_of(node):
-    return node.hex().encode()
 
 
 def line_of(word, *tokens):

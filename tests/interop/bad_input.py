@@ -11,12 +11,14 @@ ONE = b'\x11' * 20
 LEAST = hg.bundle()
 ENTRY = hg.entry(ONE, hg.NULL, hg.NULL, ONE, b'')
 LISTED = hg.bundle([ENTRY])
+LINE = b'changeset %s %s %s %s 0\n' % (b'11' * 20, b'00' * 20, b'00' * 20, b'11' * 20)
 DAMAGED = 300
 
 
 def check(report, program):
     check_words(report, program)
     check_framing(report, program)
+    check_listed(report, program)
     check_random(report, program)
     check_damaged(report, program)
     check_outside(report, program)
@@ -35,7 +37,7 @@ def check_words(report, program):
     ]
     for name, words in cases:
         report.check(f'{name} is no command', program.run(words, LEAST), USAGE)
-    report.check('no words at all list the bundle', program.run([], LISTED), program.run(['list-hg'], LISTED))
+    report.check('no words at all list the bundle', program.run([], LISTED), done(LINE))
     with open(__file__, 'rb') as file:
         program.run_on(['frob'], input=file)
         report.check('an unknown word reads nothing of the input', os.lseek(file.fileno(), 0, os.SEEK_CUR), 0)
@@ -82,8 +84,10 @@ def check_framing(report, program):
     ]
     for name, data, answer in cases:
         report.check(f'{name}: {_words(answer)}', program.run(['list-hg'], data), answer)
-    line = b'changeset %s %s %s %s 0\n' % (b'11' * 20, b'00' * 20, b'00' * 20, b'11' * 20)
-    report.check('an entry without a delta is listed', program.run(['list-hg'], LISTED), done(line))
+
+
+def check_listed(report, program):
+    report.check('an entry without a delta is listed', program.run(['list-hg'], LISTED), done(LINE))
     entry = hg.entry(ONE, hg.NULL, ONE, ONE, b'12345')
     line = b'file a%%20b%%25%%5C%%C3%%A9 %s %s %s %s 5\n' % (b'11' * 20, b'00' * 20, b'11' * 20, b'11' * 20)
     report.check('a path is listed escaped',
@@ -145,8 +149,7 @@ def check_outside(report, program):
     report.check('an output that nobody reads', run_unread(program), WRITE_FAULT)
     report.check('closed errors change no status', program.run_without(['list-hg'], '2>&-', b''),
                  refused('Truncated', 0)._replace(errors=b''))
-    closed = program.run_without(['list-hg'], '0<&-', b'')
-    report.verdict('a closed input is a fault or empty', closed in (READ_FAULT, refused('Truncated', 0)), f'got {closed}')
+    report.check('a closed input', program.run_without(['list-hg'], '0<&-', b''), READ_FAULT)
 
 
 def run_listed(program, output):

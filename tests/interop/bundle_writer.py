@@ -15,17 +15,12 @@ def check(report, program, copy):
         real_hg.make_repository(folder)
         data = read(folder, 'none-v1.hg')
         check_copy(report, program, copy, folder, data)
-        check_rest(report, program, copy, folder, data)
+        check_rest(report, copy, folder, data)
         check_least(report, copy)
 
 
 def written(copy, data, *words):
     return copy.run(list(words), data).output
-
-
-def revisions(data):
-    """Each revision by its group, node and parents in rising order; links and deltas are the writer's own."""
-    return {(e.group, e.node, *sorted([e.p, e.q])) for e in bundles.entries_of(data)}
 
 
 def changesets(data):
@@ -42,7 +37,7 @@ def check_copy(report, program, copy, folder, data):
     answer = copy.run([], data)
     again = answer.output
     report.check('a bundle of the real hg is copied', answer, done(again))
-    report.check('the copy has the same revisions', revisions(again), revisions(data))
+    report.check('the copy has the same revisions', bundles.revisions_of(again), bundles.revisions_of(data))
     report.check('its changesets stand in the same order', changesets(again), changesets(data))
     report.check('check-hg accepts the copy', program.run(['check-hg'], again), done(count_text(data)))
     report.check('the copy of the copy is the copy', written(copy, again), again)
@@ -61,13 +56,13 @@ def has_rising_paths(data):
     return names == sorted(set(names)) and size == len(data)
 
 
-def check_rest(report, program, copy, folder, data):
+def check_rest(report, copy, folder, data):
     """The first half by the real hg, and the rest as a bundle of its own."""
     rest = written(copy, data, str(HALF))
     report.check('the rest has the changesets from there on', changesets(rest), changesets(data)[HALF:])
     hg(folder, 'bundle', '--base', 'null', *[w for n in range(HALF) for w in ('-r', str(n))], '--type', 'none-v1', 'half.hg')
     half = read(folder, 'half.hg')
-    report.check('it has what the first half lacks', revisions(rest), revisions(data) - revisions(half))
+    report.check('it has what the first half lacks', bundles.revisions_of(rest), bundles.revisions_of(data) - bundles.revisions_of(half))
     with tempfile.TemporaryDirectory() as other:
         unbundle(other, half)
         unbundle(other, rest)

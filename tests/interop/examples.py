@@ -11,10 +11,14 @@ EXAMPLES = os.path.join(os.path.dirname(os.path.abspath(__file__)), '..', '..', 
 BODY = b'hello\n'
 
 
+def example(name):
+    return read(EXAMPLES, name)
+
+
 def check(report, program):
-    bundle, listing = read(EXAMPLES, 'one-changeset.hg'), read(EXAMPLES, 'one-changeset.hg.list')
+    bundle, listing = example('one-changeset.hg'), example('one-changeset.hg.list')
     report.check('examples: the bundle is that of the formats', bundle, example_bundle())
-    report.check('examples: the stream is that of the formats', read(EXAMPLES, 'one-changeset.git'), example_stream())
+    report.check('examples: the stream is that of the formats', example('one-changeset.git'), example_stream())
     report.check('examples: the bundle is listed', program.run(['list-hg'], bundle), done(listing))
     report.check('examples: the bundle is checked', program.run(['check-hg'], bundle), done(b'changesets 1\nmanifests 1\nfiles 1\n'))
     report.check('examples: the stream is checked', program.run(['check-git'], example_stream()),

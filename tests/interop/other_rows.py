@@ -8,6 +8,7 @@ import tempfile
 
 from formats import git as streams
 from program import done
+from real_git import object_ids
 from tools import git, write
 
 
@@ -77,8 +78,7 @@ def commit_tree(repository, entries, message):
 
 def stream_of(repository, tip='--all'):
     """The stream of all objects that a commit leads to, as the documents tell users to make it."""
-    lines = git(repository, 'rev-list', '--objects', tip).splitlines()
-    ids = b''.join(line.split(b' ')[0] + b'\n' for line in lines)
+    ids = object_ids(repository, tip)
     return ids, git(repository, 'cat-file', '--batch', data=ids)
 
 

@@ -1,4 +1,5 @@
 """Runs of the program, each in an empty folder of its own."""
+import contextlib
 import os
 import subprocess
 import tempfile
@@ -62,30 +63,30 @@ class Program:
 
     def run_stream(self, words, blocks):
         """The same over blocks of bytes that come through a pipe and never stand in memory together."""
+        pipes = dict(stdin=subprocess.PIPE, stdout=subprocess.PIPE, stderr=subprocess.PIPE)
         with tempfile.TemporaryDirectory() as folder:
-            run = subprocess.Popen([self.path, *words], stdin=subprocess.PIPE, stdout=subprocess.PIPE,
-                                   stderr=subprocess.PIPE, cwd=folder)
-            feeder = threading.Thread(target=_feed, args=(run.stdin, blocks))
-            feeder.start()
-            output, errors = run.stdout.read(), run.stderr.read()
-            feeder.join()
-            run.stdout.close()
-            run.stderr.close()
-            return Answer(run.wait(), output, errors, left_in(folder, words, run.returncode))
+            with subprocess.Popen([self.path, *words], cwd=folder, **pipes) as run:
+                feeder = threading.Thread(target=_feed, args=(run.stdin, blocks))
+                run.stdin = None
+                feeder.start()
+                try:
+                    output, errors = run.communicate(timeout=SECONDS)
+                finally:
+                    run.kill()
+                    feeder.join()
+            return Answer(run.returncode, output, errors, left_in(folder, words, run.returncode))
 
 
 def left_in(folder, words, status):
-    """The files of the folder, without the state of a pull that is done, which must be there."""
+    """The files of the folder, without the state of a pull that is done; where that isn't there, `no` stands before its name."""
     left = os.listdir(folder)
     if status == 0 and words and words[0] in ('pull-hg', 'pull-git'):
-        left.remove(STATE)
+        return [name for name in left if name != STATE] if STATE in left else [*left, f'no {STATE}']
     return left
 
 
 def _feed(pipe, blocks):
-    try:
+    """Writes the blocks into the pipe and closes it, also where the program ends before it has read them."""
+    with contextlib.suppress(BrokenPipeError), pipe:
         for block in blocks:
             pipe.write(block)
-        pipe.close()
-    except BrokenPipeError:
-        pass

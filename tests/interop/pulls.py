@@ -39,7 +39,7 @@ def check_from_hg(report, program):
             check_files(report, folder, repository, pairs)
         back = program.run(['pull-git'], stream)
         report.check('its stream is pulled', back, done(back.output))
-        report.check('all nodes come back, with their parents', revisions(back.output), revisions(data))
+        report.check('all nodes come back, with their parents', bundles.revisions_of(back.output), bundles.revisions_of(data))
         check_unbundled(report, folder, back.output)
         again = program.run(['pull-hg'], back.output)
         report.check('the bundle that came back gives the same stream', again, done(stream))
@@ -57,11 +57,6 @@ def pairs_of(data, stream):
     nodes = [e.node.hex().encode() for e in bundles.entries_of(data) if e.group == b'changeset']
     commits = [o.id for o in streams.objects_of(stream) if o.kind == b'commit']
     return dict(zip(nodes, commits))
-
-
-def revisions(data):
-    """Each revision by its group, node and parents in rising order; links, order and deltas are the writer's own."""
-    return {(e.group, e.node, *sorted([e.p, e.q])) for e in bundles.entries_of(data)}
 
 
 def loaded(report, folder, stream, commits):

@@ -86,9 +86,9 @@ def add_raw_commits(folder):
     git(folder, 'update-ref', 'refs/heads/signed', head)
 
 
-def object_ids(folder):
-    """The ids of all objects, a line each: `git rev-list --objects --all | cut -d' ' -f1`."""
-    lines = git(folder, 'rev-list', '--objects', '--all').splitlines()
+def object_ids(folder, tip='--all'):
+    """The ids of all objects, or of those that a commit leads to, a line each: `git rev-list --objects --all | cut -d' ' -f1`."""
+    lines = git(folder, 'rev-list', '--objects', tip).splitlines()
     return b''.join(line.split(b' ')[0] + b'\n' for line in lines)
 
 

@@ -49,18 +49,10 @@ def check_shape(report, data):
         'binary files': sum(b'\0\0' in e.delta[12:] for e in files),
         'runnable files': len(re.findall(rb'[0-9a-f]{40}x\n', manifests)),
         'symbolic links': len(re.findall(rb'[0-9a-f]{40}l\n', manifests)),
-        'deltas of several hunks': sum(hunks_of(e.delta) > 1 for e in entries),
+        'deltas of several hunks': sum(len(list(bundles.hunks_of(e.delta))) > 1 for e in entries),
     }
     missing = {name: counts[name] for name in LEAST_COUNTS if counts[name] < LEAST_COUNTS[name]}
     report.check('the history has merges, copies, links, binary files and deltas of several hunks', missing, {})
-
-
-def hunks_of(delta):
-    count = at = 0
-    while at < len(delta):
-        at += 12 + int.from_bytes(delta[at + 8:at + 12], 'big')
-        count += 1
-    return count
 
 
 def check_listing(report, program, folder, data):
@@ -151,8 +143,5 @@ def check_flipped(report, program, data, entries, kind):
 
 def ends_with_text(delta):
     """The last hunk of the delta brings bytes."""
-    at = size = 0
-    while at < len(delta):
-        size = int.from_bytes(delta[at + 8:at + 12], 'big')
-        at += 12 + size
-    return size > 0
+    hunks = list(bundles.hunks_of(delta))
+    return bool(hunks and hunks[-1][2])

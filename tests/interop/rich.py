@@ -3,8 +3,9 @@ import tempfile
 
 import real_git
 from formats import git as streams
+from formats.hg import revisions_of
 from program import done
-from pulls import check_unbundled, loaded, pairs_of, revisions
+from pulls import check_unbundled, loaded, pairs_of
 from tools import git, hg, read, write
 
 CHANGESETS = 600
@@ -30,7 +31,7 @@ def check_from_hg(report, program):
             loaded(report, other, stream, pairs_of(data, stream).values())
         back = program.run(['pull-git'], stream)
         report.check('its stream is pulled', back, done(back.output))
-        report.check('all nodes of the rich history come back, with their parents', revisions(back.output), revisions(data))
+        report.check('all nodes of the rich history come back, with their parents', revisions_of(back.output), revisions_of(data))
         check_unbundled(report, folder, back.output)
         report.check('the bundle that came back gives the same stream', program.run(['pull-hg'], back.output), done(stream))
 

@@ -4,8 +4,9 @@ import os
 import subprocess
 import tempfile
 
-from growing import example, second
+from examples import example
 from saved import NEW_STATE, STATE, Answer, Saved
+from small_histories import second_changeset
 
 SLOT_FAULT = b'slot fault\n'
 DISK = 64 << 10
@@ -13,7 +14,7 @@ DISK = 64 << 10
 
 def check(report, program):
     bundle = example('one-changeset.hg')
-    more = second(bundle)
+    more = second_changeset()
     check_folder_in_the_way(report, program, bundle, more)
     check_no_file(report, program, bundle)
     check_read_only(report, program, bundle, more)

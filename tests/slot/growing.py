@@ -2,35 +2,13 @@
 import os
 import tempfile
 
+from examples import example
 from formats import hg
-from saved import Answer, Saved, sections
+from saved import STATE, Answer, Saved, sections
+from small_histories import second_changeset
 
-EXAMPLES = os.path.join(os.path.dirname(os.path.dirname(os.path.dirname(os.path.abspath(__file__)))), 'examples')
-LEAST = b'HG10UN' + bytes(12)
+LEAST = hg.bundle()
 EMPTY = b'hg-git-bridge 2\nhg 18\n' + LEAST + b'\ngit 0\n\nmap 0\ntags 0\n\nnames 0\n\n'
-
-
-def example(name):
-    with open(os.path.join(EXAMPLES, name), 'rb') as file:
-        return file.read()
-
-
-def second(bundle):
-    """A bundle with a changeset over that of the example: another line in its file."""
-    first = {e.group: e for e in hg.entries_of(bundle)}
-    file, manifest, changeset = first[b'file a'], first[b'manifest'], first[b'changeset']
-    lines = hg.manifest_line(b'a', file.node)
-    body, old = b'hello2\n', b'hello\n'
-    node = hg.node_id(file.node, hg.NULL, body)
-    rows = hg.manifest_line(b'a', node)
-    names = hg.node_id(manifest.node, hg.NULL, rows)
-    text = b'%s\nAnn <ann@x>\n1 0\na\n\ntwo' % names.hex().encode()
-    own = hg.node_id(changeset.node, hg.NULL, text)
-    old_size = len(changeset.delta) - 12
-    return hg.bundle(
-        [hg.entry(own, changeset.node, hg.NULL, own, hg.whole_delta(old_size, text))],
-        [hg.entry(names, manifest.node, hg.NULL, own, hg.whole_delta(len(lines), rows))],
-        [(b'a', [hg.entry(node, file.node, hg.NULL, own, hg.whole_delta(len(old), body))])])
 
 
 def check(report, program):
@@ -44,8 +22,9 @@ def check(report, program):
         report.check('its stream is pulled', from_git.run('pull-git', stream), Answer(0, bundle, b''))
         report.check('both leave the same state', from_git.text, saved.text)
         check_dumps(report, saved, bundle, stream)
-        check_second(report, saved, bundle, second(bundle))
+        check_second(report, saved, second_changeset())
     check_bad_states(report, program, bundle)
+    check_too_long(report, program, bundle)
 
 
 def check_empty(report, saved):
@@ -74,7 +53,7 @@ def check_dumps(report, saved, bundle, stream):
     report.check('and the same is saved again', saved.text, before)
 
 
-def check_second(report, saved, bundle, more):
+def check_second(report, saved, more):
     output = saved.output_of('pull-hg', more)
     report.check('one more changeset brings a blob, a tree and a commit', [line.split(b' ')[1] for line in output.split(b'\n') if line.count(b' ') == 2 and len(line.split(b' ')[0]) == 40], [b'blob', b'tree', b'commit'])
     parts = sections(saved.text)
@@ -94,6 +73,10 @@ def check_second(report, saved, bundle, more):
         report.check('so is the dump of the other side', other.run('pull-git', saved.output_of('dump-git')), Answer(0, saved.output_of('dump-hg'), b''))
         report.check('and saves the same too', other.text, text)
 
+
+# the words that begin with what is saved
+SLOT_WORDS = 'pull-hg pull-git dump-hg dump-git map verify set-names-hg set-names-git names-hg names-git'.split()
+TOO_LONG = 1 << 31
 
 # texts of no state: a name, what is done to a text, and the line on the errors
 BAD_STATES = [
@@ -118,5 +101,17 @@ def check_bad_states(report, program, bundle):
             saved.output_of('pull-hg', bundle)
             bad = change(saved.text)
             saved.text = bad
-            for word in ['map', 'dump-hg', 'dump-git', 'pull-hg', 'pull-git']:
+            for word in SLOT_WORDS:
                 report.check(f'{word} over a state with {name}', (saved.run(word, bundle), saved.text), (Answer(6, b'', line), bad))
+
+
+def check_too_long(report, program, bundle):
+    """A file of one byte more than a state may have; it takes no room on the disk."""
+    with tempfile.TemporaryDirectory() as folder:
+        saved = Saved(program, folder)
+        saved.text = b''
+        path = os.path.join(folder, STATE)
+        os.truncate(path, TOO_LONG)
+        wanted = Answer(6, b'', b'state TooLong 0\n'), TOO_LONG
+        for word in SLOT_WORDS:
+            report.check(f'{word} over a state that is too long', (saved.run(word, bundle), os.path.getsize(path)), wanted)

@@ -3,7 +3,7 @@ import os
 import random
 import tempfile
 
-from growing import example
+from examples import example
 from saved import Answer, Saved, sections
 from tools import git, write
 

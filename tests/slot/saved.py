@@ -3,9 +3,9 @@ import os
 import subprocess
 from typing import NamedTuple, Optional
 
-STATE = 'hggit.state'
-NEW_STATE = 'hggit.state.new'
-SECONDS = 300
+from program import SECONDS, STATE
+
+NEW_STATE = f'{STATE}.new'
 
 
 class Answer(NamedTuple):

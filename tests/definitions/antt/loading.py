@@ -71,6 +71,10 @@ class Module:
             return self.modules[path].meaning(original)
         return WORDS[original]
 
+    def unasked(self):
+        """The names of its own that compute, and whose meaning nobody asked for; a type's name begins with a capital letter."""
+        return [name for name in self.clauses if name[0].islower() and name not in self.meanings]
+
     def parsed(self, text):
         return Parser(text, self.is_constructor).clause()
 
@@ -92,6 +96,7 @@ class Definitions:
     """The definitions of all crates of a repository."""
 
     def __init__(self, crates):
+        self.crates = crates
         self.modules = {}
         for path in sorted(glob.glob(os.path.join(crates, '*', 'specs', '*.antt'))):
             crate, name = path.split(os.sep)[-3], os.path.splitext(os.path.basename(path))[0]
@@ -101,5 +106,26 @@ class Definitions:
 
     def __call__(self, path, *args):
         """The value of `crate.File.name`, applied to the arguments."""
+        module, name = self.found(path)
+        return apply(module.meaning(name), args)
+
+    def found(self, path):
+        """The module of `crate.File.name`, and the name."""
         crate, file, name = path.split('.')
-        return apply(self.modules[f'Rattle.{crate}.specs.{file}'].meaning(name), args)
+        return self.modules[f'Rattle.{crate}.specs.{file}'], name
+
+    def where(self, path, value):
+        """The same definitions, but that `crate.File.name` is this value. They are read anew, since modules keep what they found."""
+        others = Definitions(self.crates)
+        module, name = others.found(path)
+        if name not in module.clauses:
+            raise KeyError(path)
+        module.meanings[name] = value
+        return others
+
+    def unasked(self, crate_end):
+        """The definitions whose meaning nobody asked for, of the crates whose names end so."""
+        for path, module in self.modules.items():
+            _, crate, _, file = path.split('.')
+            if crate.endswith(crate_end):
+                yield from (f'{crate}.{file}.{name}' for name in module.unasked())
