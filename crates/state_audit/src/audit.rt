@@ -19,8 +19,8 @@ use std::sync::ledger::Ledger;
 /// Whether each block of a saved history is right: its commit is the partner of its changeset over the blocks before it, its links are those of the commit, and
 /// the blobs of its files are the bodies of the changeset. Or the first block that isn't.
 ///
-/// Nothing is taken for granted of whether both sides agree. Each file revision is compared with its blob once, and its blob's id is looked up unless the
-/// block before has the same revision. A step is counted for each unmarking: at most 18 for each block.
+/// Nothing is taken for granted of whether both sides agree. Each file revision is compared with its blob once. A step is counted for each unmarking: at
+/// most 18 for each block.
 pub fn verify<L: Ledger>(state: &State, steps: &mut Steps<L>) -> Result<Verdict, NoMemory>
     requires saved { (m : saved.State) × IsState m × Stands state.now m }
     ensures holds { IfOk result (λ found. (m : saved.State) → IsState m → Stands state.now m → HoldsExactly state.now m → (n : ℕ)
