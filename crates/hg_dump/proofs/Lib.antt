@@ -4,6 +4,7 @@ pub mod EntryLemmas
 pub mod FileLemmas
 pub mod GroupLemmas
 pub mod HeldLemmas
+pub mod HeldLines
 pub mod MeetLemmas
 pub mod NamedLemmas
 pub mod OnceLemmas
@@ -12,3 +13,4 @@ pub mod RefersLemmas
 pub mod StripLemmas
 pub mod ToldLemmas
 pub mod WalkLemmas
+pub mod Walked

@@ -1,9 +1,10 @@
 pub mod Begins
+pub mod Dumps
+pub mod Held
 pub mod Marks
 pub mod Referred
-pub mod Written
-pub mod State
 pub mod Refers
-pub mod Dumps
+pub mod State
 pub mod Told
 pub mod ToldParts
+pub mod Written

@@ -11,11 +11,11 @@ ghost use Rattle.hg_store.specs.Known.{AreAdded};
 ghost use Rattle.hg_manifest.specs.Values.{manifest_entry};
 ghost use Rattle.view_model.specs.Held.{IsChangesetHeld, AreChangesetsHeld};
 ghost use Rattle.hg_dump.specs.Referred.{referred, nothing};
-ghost use Rattle.hg_dump.specs.Marks.{file_mark, manifest_marks, view_marks, marks_of, marks_in, IsMet, Met, meet};
+ghost use Rattle.hg_dump.specs.Marks.{own_mark, file_mark, manifest_marks, view_marks, marks_of, marks_in, IsMet, Met, meet};
 ghost use Rattle.hg_dump.specs.State.{AreBrought, files_at, referred_in, met_of, Steps, StepsAfter, IsLineMet};
 
 use crate::references::{Reference, References};
-use bridge_text::{Id, NoMemory};
+use bridge_text::{Id, IdSet, NoMemory};
 use hg_manifest::{Beside, Entry, Near};
 use hg_store::{Group, HgStore};
 use std::alloc::Global;
@@ -86,6 +86,7 @@ impl Brought {
     }
 
     /// Adds what changesets refer to, in their order. It is written only if they are new. Each line of the manifest before was met.
+    /// A manifest that several of them name is walked once.
     pub fn refer_all<'a>(
         &mut self,
         store: &'a HgStore,
@@ -99,30 +100,27 @@ impl Brought {
         ensures steps { OnOk result ((hs : List ChangesetView) → AreChangesetsHeld store.now nodes.now hs → StepsAfter previous.entry is_new (marks_in hs) self.old self.new) }
         ensures known { OnOk result (0 < length nodes.now → AreAdded store.now) }
     {
+        let mut walked = IdSet::new(self.alloc);
         for node in nodes {
             let (manifest_node, lines) = named_lines(store, node);
-            let newer = store.newer(&manifest_node, &before);
-            let walk = Beside::of(lines.again(), previous, newer);
-            self.refer_view(node, &manifest_node, walk, is_new)?;
+            self.refer_own(node, &manifest_node, is_new)?;
+            if walked.insert(manifest_node)? {
+                let newer = store.newer(&manifest_node, &before);
+                let walk = Beside::of(lines.again(), previous, newer);
+                self.refer_files(walk, node, is_new)?;
+            }
             before = manifest_node;
             previous = lines;
         }
         Ok(())
     }
 
-    // Adds what a changeset refers to: itself, its manifest and the file revisions that the lines of this name.
-    fn refer_view(
-        &mut self,
-        node: &Id,
-        manifest_node: &Id,
-        walk: Beside<'_>,
-        is_new: bool,
-    ) -> Result<(), NoMemory>
-        ensures { OnOk result (StepsAfter (walk.entry).other is_new (view_marks node.now manifest_node.now (walk.entry).lines) self.old self.new) }
+    // Adds a changeset and its manifest.
+    fn refer_own(&mut self, node: &Id, manifest_node: &Id, is_new: bool) -> Result<(), NoMemory>
+        ensures { OnOk result (Steps is_new (own_mark node.now ∷ manifest_marks node.now manifest_node.now) self.old self.new) }
     {
         self.refer(Group::Changesets, node, node, is_new)?;
-        self.refer_manifest(manifest_node, node, is_new)?;
-        self.refer_files(walk, node, is_new)
+        self.refer_manifest(manifest_node, node, is_new)
     }
 
     /// Adds a manifest. The null one is no revision.

@@ -1,7 +1,6 @@
 //! The changesets of a saved state, read from their dump.
 #![tactic(auto)]
 
-mod held;
 mod nodes;
 mod read;
 mod section;

@@ -4,9 +4,8 @@ ghost use Rattle.view_model.specs.View.{ChangesetView};
 ghost use Rattle.hg_dump.specs.Told.{TellsTexts};
 ghost use Rattle.hg_section.specs.Section.{IsWrittenOf};
 
-use crate::held::are_held;
 use bridge_text::{IdList, NoMemory};
-use hg_dump::read_is_dump;
+use hg_dump::{are_held, read_is_dump};
 use hg_store::HgStore;
 use std::alloc::Global;
 
@@ -21,7 +20,7 @@ pub fn is_written(
     ensures yes { IfOk result (λ yes. OnTrue yes ((hs : List ChangesetView) × IsWrittenOf store.now nodes.now bytes.now hs)) }
     ensures no { IfOk result (λ yes. (hs : List ChangesetView) → IsWrittenOf store.now nodes.now bytes.now hs → IsTrue yes) }
 {
-    if !are_held(store, nodes) {
+    if !are_held(alloc, store, nodes)? {
         return Ok(false);
     }
     read_is_dump(alloc, store, nodes, bytes)

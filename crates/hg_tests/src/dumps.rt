@@ -365,7 +365,8 @@ fn written(
     from: usize,
 ) -> Result<Vec<u8>, Fail> {
     assert!(rt; from <= order.len());
-    assert!(rt; are_held(store, order));
+    let is_held = are_held(alloc, store, order)?;
+    assert!(rt; is_held);
     let len = written_len(alloc, store, order.as_slice())?;
     let bytes = write(alloc, store, order, from)?.joined()?;
     assert!(rt; from > 0 || len == bytes.len() as u64);

@@ -16,7 +16,7 @@ use Rattle.hg_manifest.specs.declared.ahead.Ahead.{Ahead}
 use Rattle.hg_manifest.proofs.BesideLemmas.{lines-later, later-more}
 use Rattle.hg_store.specs.Views.{is_unknown, first_unknown}
 use Rattle.hg_store.proofs.ViewLemmas.{position-none}
-use Rattle.hg_section.specs.Held.{IsLineKnown, AreLinesKnown}
+use Rattle.hg_dump.specs.Held.{IsLineKnown, AreLinesKnown}
 
 -- a line that stands among lines that are known
 pub line-known : (known : List Revision) (entries : List ManifestEntry) (e : ManifestEntry) → AreLinesKnown known entries → HasLine e.path e.node entries → IsLineKnown known e

@@ -1,6 +1,6 @@
 use Rattle.std.proofs.Common.{length}
-use Rattle.hg_section.proofs.HeldLines.{AreKnownTo}
-use Rattle.hg_section.proofs.held.are_known_beside.Given as goal
+use Rattle.hg_dump.proofs.HeldLines.{AreKnownTo}
+use Rattle.hg_dump.proofs.held.are_known_beside.Given as goal
 
 abbrev pub invariant-loop-line : goal.invariant-loop-line
 invariant-loop-line l = AreKnownTo l.store l.fn.walk.lines l.fn.walk.other l.walk

@@ -1,7 +1,7 @@
 use Rattle.std.proofs.Common.{sym, ◌∙◌}
 use Rattle.hg_manifest.specs.Values.{manifest_entry}
-use Rattle.hg_section.proofs.HeldLines.{starts, goes-on, ends}
-use Rattle.hg_section.proofs.held.are_known_beside.Goals as goal
+use Rattle.hg_dump.proofs.HeldLines.{starts, goes-on, ends}
+use Rattle.hg_dump.proofs.held.are_known_beside.Goals as goal
 
 pub loop-line-init : goal.loop-line-init
 loop-line-init c = starts c.args.store.now c.args.walk
