@@ -1,12 +1,12 @@
 // What a check prints, how many revisions or objects of each kind there are, and what an audit does, how many blocks.
-ghost use Rattle.std.specs.Prelude.{◌≡◌, ◌++◌, IfOk, OnOk, codes};
-ghost use Rattle.std.specs.Io.{StartsWith};
+ghost use Rattle.std.specs.Prelude.{◌≡◌, IfOk, codes};
 ghost use Rattle.saved_model.specs.Written.{count_line};
 ghost use Rattle.bridge_cli.specs.Counts.{arrival_counts, stream_counts};
 
-use bridge_text::{Kind, NoMemory, decimal_into};
+use bridge_text::{Kind, NoMemory};
 use git_batch::{ObjectArrivals, count_objects};
 use hg_bundle::{Arrivals, RevKind, count_entries};
+use state_part::count_into;
 use std::alloc::Global;
 
 /// How many changesets, manifests and file revisions a bundle brought, a line each.
@@ -14,17 +14,17 @@ pub fn revision_counts(alloc: Global, arrivals: &Arrivals) -> Result<Vec<u8>, No
     ensures { IfOk result (λ lines. lines.items ≡ arrival_counts arrivals.now) }
 {
     let mut lines = Vec::new(alloc);
-    put_count(
+    count_into(
         &mut lines,
         b"changesets",
         count_entries(arrivals, RevKind::Changeset) as u64,
     )?;
-    put_count(
+    count_into(
         &mut lines,
         b"manifests",
         count_entries(arrivals, RevKind::Manifest) as u64,
     )?;
-    put_count(
+    count_into(
         &mut lines,
         b"files",
         count_entries(arrivals, RevKind::File) as u64,
@@ -37,22 +37,22 @@ pub fn object_counts(alloc: Global, arrivals: &ObjectArrivals) -> Result<Vec<u8>
     ensures { IfOk result (λ lines. lines.items ≡ stream_counts arrivals.now) }
 {
     let mut lines = Vec::new(alloc);
-    put_count(
+    count_into(
         &mut lines,
         b"commits",
         count_objects(arrivals, Kind::Commit) as u64,
     )?;
-    put_count(
+    count_into(
         &mut lines,
         b"trees",
         count_objects(arrivals, Kind::Tree) as u64,
     )?;
-    put_count(
+    count_into(
         &mut lines,
         b"blobs",
         count_objects(arrivals, Kind::Blob) as u64,
     )?;
-    put_count(
+    count_into(
         &mut lines,
         b"tags",
         count_objects(arrivals, Kind::Tag) as u64,
@@ -65,17 +65,6 @@ pub fn verified_count(alloc: Global, blocks: u64) -> Result<Vec<u8>, NoMemory>
     ensures { IfOk result (λ lines. lines.items ≡ count_line (codes "verified") blocks) }
 {
     let mut lines = Vec::new(alloc);
-    put_count(&mut lines, b"verified", blocks)?;
+    count_into(&mut lines, b"verified", blocks)?;
     Ok(lines)
-}
-
-// Appends the line of a count.
-fn put_count(out: &mut Vec<u8>, word: &[u8], count: u64) -> Result<(), NoMemory>
-    ensures { OnOk result (out.new.items ≡ out.old.items ++ count_line word.now count) }
-{
-    out.extend_from_slice(word)?;
-    out.push(b' ')?;
-    decimal_into(out, count)?;
-    out.push(b'\n')?;
-    Ok(())
 }

@@ -1,8 +1,5 @@
 -- Histories that are made, in the words of the model.
-use Rattle.std.specs.Prelude.{◌≡◌, ◌<◌, ◌≤◌, ℕ, true, codes, ⊤}
-use Rattle.text_model.specs.Text.{Bytes}
-use Rattle.text_model.specs.Fault as fault
-use Rattle.text_model.specs.Fault.{fault_word}
+use Rattle.std.specs.Prelude.{◌≡◌, ◌<◌, ◌≤◌, ℕ, true, ⊤}
 use Rattle.make_model.specs.Numbers as model
 use Rattle.make_model.specs.Dump.{most_changesets, made_collides}
 use Rattle.pair_state.specs.declared.fault.PushFault.{PushFault}
@@ -27,12 +24,6 @@ numbers_value x = record {
 abbrev pub make_refused : PushFault → MakeFault
 make_refused push.Collision = Collision
 make_refused push.Memory = Memory
-
--- the word that is printed
-abbrev pub name_of : MakeFault → Bytes
-name_of CountLimit = fault_word fault.CountLimit
-name_of Collision = fault_word fault.Collision
-name_of Memory = codes "Memory"
 
 -- why a history is not made
 abbrev pub IsMakeFault : ℕ → ℕ → MakeFault → Type 0

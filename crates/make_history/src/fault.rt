@@ -1,8 +1,8 @@
 ghost use Rattle.std.specs.Prelude.{◌≡◌};
-ghost use Rattle.make_history.specs.Made.{make_refused, name_of};
+ghost use Rattle.make_history.specs.Made.{make_refused};
 ghost use Rattle.make_history.specs.declared.fault.MakeFault.TheVariants.{Memory};
 
-use bridge_text::{Fault, NoMemory};
+use bridge_text::NoMemory;
 use pair_state::PushFault;
 use std::alloc::AllocError;
 use thiserror::Error;
@@ -19,20 +19,6 @@ pub enum MakeFault {
     /// Memory ran out.
     #[error("out of memory")]
     Memory,
-}
-
-impl MakeFault {
-    /// The word that is printed: the variant's name.
-    #[tactic(auto, unfolding(text_model::specs::Fault::fault_word))]
-    pub fn name(&self) -> &'static [u8]
-        ensures { result.now ≡ name_of self.now }
-    {
-        match self {
-            MakeFault::CountLimit => Fault::CountLimit.name(),
-            MakeFault::Collision => Fault::Collision.name(),
-            MakeFault::Memory => b"Memory",
-        }
-    }
 }
 
 impl From<NoMemory> for MakeFault {
