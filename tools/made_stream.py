@@ -1,4 +1,4 @@
-"""A stream of many octopus commits, for benchmarks."""
+"""Streams of many commits of one kind, for benchmarks."""
 from formats import git
 
 FILES = 20
@@ -24,7 +24,14 @@ class Made:
         if parents:
             self.change(number)
         tree = self.put(b'tree', b''.join(git.tree_entry(b'100644', b'file%02d' % place, id) for place, id in enumerate(self.blobs)))
+        return self.commit_of(tree, number, parents)
+
+    def commit_of(self, tree, number, parents):
         return self.put(b'commit', git.commit_content(tree, parents, b'Ann <ann@x> %d +0000' % number, b'commit %d\n' % number))
+
+    def folder(self, file_count, blob):
+        """A tree of so many files with one body."""
+        return self.put(b'tree', b''.join(git.tree_entry(b'100644', b'file%06d' % place, blob) for place in range(file_count)))
 
 
 def write_octopuses(count, path):
@@ -36,3 +43,14 @@ def write_octopuses(count, path):
             sides = [made.commit(number + side, [last]) for side in range(SIDES)]
             last = made.commit(number + SIDES, [last] + sides)
             number += SIDES + 1
+
+
+def write_branches(count, file_count, path):
+    """A stream of two branches that change no file, whose commits come in turn: so many in all. Each file of one has another body than that of the other."""
+    with open(path, 'wb') as file:
+        made = Made(file)
+        trees = [made.folder(file_count, id) for id in made.blobs[:2]]
+        last = [[], []]
+        for number in range(count):
+            side = number % 2
+            last[side] = [made.commit_of(trees[side], number, last[side])]
