@@ -29,19 +29,19 @@ keeps-all : {X : Type 0} (test : X → Bool) (xs : List X) → Each (λ x. test 
 keeps-all test [] h = refl
 keeps-all test (x ∷ xs) h = rw h.0 (ap (λ y. x ∷ y) (keeps-all test xs h.1))
 
-keeps-none : {X : Type 0} (test : X → Bool) (xs : List X) → Each (λ x. test x ≡ false) xs → filter test xs ≡ []
+pub keeps-none : {X : Type 0} (test : X → Bool) (xs : List X) → Each (λ x. test x ≡ false) xs → filter test xs ≡ []
 keeps-none test [] h = refl
 keeps-none test (x ∷ xs) h = rw h.0 (keeps-none test xs h.1)
 
 -- ---- the commits that came
 
-abbrev is_commit : Object → Bool
+abbrev pub is_commit : Object → Bool
 is_commit o = same_kind commit o.kind
 
-abbrev ancestry : Object → Ancestry
+abbrev pub ancestry : Object → Ancestry
 ancestry o = record { id = o.id; parents = parent_ids o.content }
 
-commits-came : (came : List Placed) → ancestries came ≡ map ancestry (filter is_commit (objects_among came))
+pub commits-came : (came : List Placed) → ancestries came ≡ map ancestry (filter is_commit (objects_among came))
 commits-came [] = refl
 commits-came (p ∷ came) = by (is_commit p.object) refl (commits-came came)
   where
@@ -49,7 +49,7 @@ commits-came (p ∷ came) = by (is_commit p.object) refl (commits-came came)
     by true e go = rw (e, bytes_eq-sym (kind_word (p.object).kind) (kind_word commit) ∙ e) (ap (λ l. ancestry p.object ∷ l) go)
     by false e go = rw (e, bytes_eq-sym (kind_word (p.object).kind) (kind_word commit) ∙ e) go
 
-own-ancestries : (blocks : List Block) → Each IsCommitView (commits_in blocks) → map ancestry (map own (commits_in blocks)) ≡ map ancestry_of_block blocks
+pub own-ancestries : (blocks : List Block) → Each IsCommitView (commits_in blocks) → map ancestry (map own (commits_in blocks)) ≡ map ancestry_of_block blocks
 own-ancestries [] views = refl
 own-ancestries (b ∷ blocks) views =
     let c = b.commit in
@@ -60,7 +60,7 @@ own-ancestries (b ∷ blocks) views =
 tag-alone : (o : Object) → IsTrue (is_tag o) → is_commit o ≡ false
 tag-alone o t = ap (λ kind. same_kind commit kind) (same_kind-is o.kind tag t)
 
-part-alone : (c : CommitView) → IsCommitView c → (o : Object) → In o (commit_objects c) → is_tag o ≡ false
+pub part-alone : (c : CommitView) → IsCommitView c → (o : Object) → In o (commit_objects c) → is_tag o ≡ false
 part-alone c v o i = elim (of_append o (shapes_of c) (own c ∷ []) (subst (λ (l : List Object). In o l) (commit_split c) i)) [
   | inl j ↦ (commit_parts c v o j).no_tag
   | inr (inl q) ↦ ap is_tag q

@@ -17,7 +17,7 @@ use Rattle.history_law.proofs.Dumps.{each-dumped}
 use Rattle.next_law.proofs.Known.{IsSaved, in-order, own-known}
 use Rattle.closure_model.specs.Arrives.{BundleArrives}
 
-among-group : (arrivals : List Arrival) → revisions_among (changesets_among arrivals) ≡ of_group Changesets (revisions_among arrivals)
+pub among-group : (arrivals : List Arrival) → revisions_among (changesets_among arrivals) ≡ of_group Changesets (revisions_among arrivals)
 among-group [] = refl
 among-group (a ∷ arrivals) = by (is_changesets (a.revision).group) refl (among-group arrivals)
   where

@@ -48,7 +48,7 @@ pub each-commit : (P : CommitView → Type 0) (blocks : List Block) → Each P (
 each-commit P [] each = tt
 each-commit P (b ∷ blocks) each = (each.0, each-commit P blocks each.1)
 
-each-held : (known : List Object) (blocks : List Block) → AreCommitsHeld known (map commit_id (commits_in blocks)) (commits_in blocks) → Each (λ b. IsCommitHeld known (id_of b) b.commit) blocks
+pub each-held : (known : List Object) (blocks : List Block) → AreCommitsHeld known (map commit_id (commits_in blocks)) (commits_in blocks) → Each (λ b. IsCommitHeld known (id_of b) b.commit) blocks
 each-held known [] held = tt
 each-held known (b ∷ blocks) held = (held.0, each-held known blocks held.1)
 
@@ -73,7 +73,7 @@ module _ (k : Kept) (saved : IsSaved k) where
   pub all-known : Each (λ o. In o known) (objects_in cs)
   all-known = each_from (λ o. In o known) (objects_in cs) (λ o i. (find-in (has_id o.id) known o (there o i)).0)
 
-  no-tree : (o : Object) → In o k.tags → IsTrue (same_kind o.kind tree) → ⊥
+  pub no-tree : (o : Object) → In o k.tags → IsTrue (same_kind o.kind tree) → ⊥
   no-tree o i t =
       let kind = same_kind-is o.kind tree t in
       true≢false (sym (each_in (λ o. IsTrue (is_tag o)) k.tags o (saved.tags).tags_only i) ∙ ap (λ kind. same_kind kind tag) kind)

@@ -18,3 +18,4 @@ pub mod AuditLemmas
 pub mod MadeLemmas
 pub mod AcrossLemmas
 pub mod ReturnLemmas
+pub mod OutputLemmas

@@ -8,6 +8,7 @@ ghost use Rattle.command_model.specs.Run as run;
 ghost use Rattle.command_model.specs.Headline.{Headline};
 ghost use Rattle.command_model.specs.Across.{NamesLaw};
 ghost use Rattle.closure_law.specs.Returned.{DumpReturns};
+ghost use Rattle.increment_law.specs.Taken.{OutputReturns};
 ghost use Rattle.bridge_cli.specs.Complete.{Completes, NoFault};
 ghost use Rattle.bridge_cli.specs.Ends.{Ends, EndsBy};
 ghost use Rattle.bridge_cli.specs.Makes.{Finishes};
@@ -56,6 +57,12 @@ pub fn run<I: Source, O: Sink, E: Sink, K: Slot, L: Ledger>(
     // history.
     ensures returns { (command : model.Command) → command_of words.now ≡ Some command → result ≡ Status.Done
         → DumpReturns command (K.held slot.old) (O.taken output.old) (O.taken output.new) }
+
+    // What a pull writes comes back. Behind any list of pulls, with names set in between or not: what a pull that is done writes is accepted by the pull of
+    // the other side over each saved state of the pairs that were there, and refused for nothing. It brings just the new pairs, in their order. All this
+    // where they can be saved there too.
+    ensures comes_back { (command : model.Command) → command_of words.now ≡ Some command → result ≡ Status.Done
+        → OutputReturns command (I.left input.old) (K.held slot.old) (K.held slot.new) (O.taken output.old) (O.taken output.new) }
 
     ensures usage { (result ≡ Status.Usage) ↔ (command_of words.now ≡ None) }
     ensures untouched { result ≡ Status.Usage → (input.new ≡ input.old) × (output.new ≡ output.old) × (slot.new ≡ slot.old) }

@@ -16,7 +16,7 @@ use Rattle.closure_law.proofs.Kept.{kept-right, empty-right}
 
 -- ---- the slot
 
-state-of : (held : Option Bytes) (s : State) → SlotHolds held s → IsState s
+pub state-of : (held : Option Bytes) (s : State) → SlotHolds held s → IsState s
 state-of None s is = subst IsState (sym is) is-state
 state-of (Some text) s holds = holds.0
 

@@ -105,6 +105,16 @@ module _ (k next : Kept) (saved : IsSaved k) (x : AreShaped next) (blobs : AreBl
       holds_too with all next.blocks g views blobs (objects_in (commits_in next.blocks)) (λ o i. i) (known_of next).revisions all x.ground one
       (subst (λ (l : List Block). Holds with all [] l) (sym e) brought)
 
+-- a state of the same blocks is right too, whatever tags it has
+pub right-again : (s t : State) → IsState s → IsState t → s.blocks ≡ t.blocks → StateHolds s → StateHolds t
+right-again s t is on e h =
+    let a = kept_of s in
+    let b = kept_of t in
+    let x = shaped b (saved-of t on) in
+    let blobs = each-blob t.blocks ((saved-of t on).commits).views in
+    holds_too (known_of a).revisions (known_of a).objects t.blocks (subst (λ (l : List Block). IsGround l (IsHeldView (known_of a).revisions)) e (shaped a (saved-of s is)).ground) (views a b (saved-of s is) x blobs) blobs
+    (objects_in (commits_in t.blocks)) (λ o i. i) (known_of b).revisions (known_of b).objects x.ground (one a b (saved-of s is) x blobs) (subst (λ (l : List Block). Holds (known_of a).revisions (known_of a).objects [] l) e h)
+
 pub kept-right : (s next : State) (pull : Pull) (made : Bytes) → IsState s → IsState next → Steps (kept_of s) pull (kept_of next) made → StateHolds s → StateHolds next
 kept-right s next (OfBundle bundle) made is on (new, tags, a, e, out) h =
     let saved = saved-of next on in

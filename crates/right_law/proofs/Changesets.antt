@@ -1,5 +1,5 @@
 -- The changesets of a right history, in order, bring its blocks.
-use Rattle.std.proofs.Common.{◌≡◌, ◌≢◌, true, false, List, [], ◌∷◌, ◌++◌, map, None, refl, sym, ap, subst, ◌∙◌, inl, inr, append-nil}
+use Rattle.std.proofs.Common.{◌≡◌, ◌≢◌, ◌⊎◌, true, false, List, [], ◌∷◌, ◌++◌, map, None, refl, sym, ap, subst, ◌∙◌, inl, inr, append-nil}
 use Rattle.std.specs.Prelude.{not, is_some, IsTrue, bytes_eq}
 use Rattle.std.specs.List.{flat_map, list_any}
 use Rattle.std.proofs.lemmas.Bool.{true≢false}
@@ -59,48 +59,46 @@ pub objects_before : (blocks before after : List Block) → blocks ≡ before ++
 objects_before blocks before after e o i =
     subst (λ (x : List Block). In o (objects_in (commits_in x))) (sym e) (subst (In o) (sym (objects_front before after)) (in_left o (objects_in (commits_in before)) (objects_in (commits_in after)) i))
 
-module _ (blocks before after : List Block) (b : Block) (e : blocks ≡ before ++ b ∷ after) where
-  -- ---- the commit of a block doesn't collide with those before it
+-- ---- no changeset of a block stands before it
 
-  module _ (d : IsTrue (has_distinct (map id_of blocks))) (one : has_other_content (objects_in (commits_in blocks)) ≡ false) where
-    joined : (o : Object) → In o (objects_in (commits_in before) ++ commit_objects b.commit) → In o (objects_in (commits_in blocks))
-    joined o i = elim (of_append o (objects_in (commits_in before)) (commit_objects b.commit) i) [
-      | inl j ↦ objects_before blocks before (b ∷ after) e o j
-      | inr j ↦ objects_of_block blocks b (split_in blocks before after b e) o j
-    ]
+module _ (blocks before after : List Block) (b : Block) (e : blocks ≡ before ++ b ∷ after) (d : IsTrue (has_distinct (map changeset_node (changesets_in blocks)))) where
+  pub nodes_apart : (x v : ChangesetView) → In x (changesets_in before) → In v (b.links ++ b.changeset ∷ []) → changeset_node x ≢ changeset_node v
+  nodes_apart x v i j =
+      let whole = subst (λ (z : List ChangesetView). IsTrue (has_distinct (map changeset_node z))) (ap changesets_in e ∙ changesets_front before (b ∷ after)) d in
+      distinct_apart changeset_node (changesets_in before) (changesets_in (b ∷ after)) whole x v i (in_left v (b.links ++ b.changeset ∷ []) (changesets_in after) j)
 
-    own_fits : list_any (λ o. list_any (is_other_content o) (objects_in (commits_in before) ++ commit_objects b.commit)) (commit_objects b.commit) ≡ false
-    own_fits = none_all (λ o. list_any (is_other_content o) (objects_in (commits_in before) ++ commit_objects b.commit)) (commit_objects b.commit) (λ o i.
-        none_all (is_other_content o) (objects_in (commits_in before) ++ commit_objects b.commit) (λ p j.
-        none_in (is_other_content o) (objects_in (commits_in blocks)) p (none_in (λ q. list_any (is_other_content q) (objects_in (commits_in blocks))) (objects_in (commits_in blocks)) o one (objects_of_block blocks b (split_in blocks before after b e) o i)) (joined p j)))
+-- ---- a block behind others collides with nothing
 
-    id_free : block_of_id before (id_of b) ≡ None
-    id_free = finds_none id_of (id_of b) before (λ x i. distinct_apart id_of before (b ∷ after) (subst (λ (z : List Block). IsTrue (has_distinct (map id_of z))) e d) x b i (inl refl))
+module _ (all : List Object) (blocks before after : List Block) (b : Block) (e : blocks ≡ before ++ b ∷ after) (one : has_other_content all ≡ false) (here : AreHere (objects_in (commits_in blocks)) all) where
+  own_here : AreHere (commit_objects b.commit) all
+  own_here o i = here o (objects_of_block blocks b (split_in blocks before after b e) o i)
 
-    no_collision : commit_collides (objects_in (commits_in before)) before b.commit ≡ false
-    no_collision =
-        let second : is_some (block_of_id before (commit_id b.commit)) ≡ false = ap is_some id_free in
-        rw (own_fits, second) refl
+  own_fits : (objects : List Object) → AreHere objects all → list_any (λ o. list_any (is_other_content o) (objects ++ commit_objects b.commit)) (commit_objects b.commit) ≡ false
+  own_fits objects old = none_all (λ o. list_any (is_other_content o) (objects ++ commit_objects b.commit)) (commit_objects b.commit) (λ o i.
+      none_all (is_other_content o) (objects ++ commit_objects b.commit) (λ p j.
+      none_in (is_other_content o) all p (none_in (λ q. list_any (is_other_content q) all) all o one (own_here o i)) (joined p (of_append p objects (commit_objects b.commit) j))))
+    where
+      joined : (p : Object) → In p objects ⊎ In p (commit_objects b.commit) → In p all
+      joined p (inl j) = old p j
+      joined p (inr j) = own_here p j
 
-  -- ---- no changeset of a block stands before it
-
-  module _ (d : IsTrue (has_distinct (map changeset_node (changesets_in blocks)))) where
-    pub nodes_apart : (x v : ChangesetView) → In x (changesets_in before) → In v (b.links ++ b.changeset ∷ []) → changeset_node x ≢ changeset_node v
-    nodes_apart x v i j =
-        let whole = subst (λ (z : List ChangesetView). IsTrue (has_distinct (map changeset_node z))) (ap changesets_in e ∙ changesets_front before (b ∷ after)) d in
-        distinct_apart changeset_node (changesets_in before) (changesets_in (b ∷ after)) whole x v i (in_left v (b.links ++ b.changeset ∷ []) (changesets_in after) j)
-
+  module _ (nodes : IsTrue (has_distinct (map changeset_node (changesets_in blocks)))) where
     not_saved_block : is_saved before (node_of b) ≡ false
     not_saved_block =
         let own : In b.changeset (b.links ++ b.changeset ∷ []) = in_right b.changeset b.links (b.changeset ∷ []) (inl refl) in
-        ap is_some (finds_none node_of (node_of b) before (λ x j. nodes_apart x.changeset b.changeset (block_in before x j) own))
+        ap is_some (finds_none node_of (node_of b) before (λ x j. nodes_apart blocks before after b e nodes x.changeset b.changeset (block_in before x j) own))
 
     no_link_saved : is_any_saved before b.links ≡ false
     no_link_saved = none_all (λ h. is_some (view_at (changesets_in before) (changeset_node h))) b.links (λ l i.
-        ap is_some (finds_none changeset_node (changeset_node l) (changesets_in before) (λ x j. nodes_apart x l j (in_left l b.links (b.changeset ∷ []) i))))
+        ap is_some (finds_none changeset_node (changeset_node l) (changesets_in before) (λ x j. nodes_apart blocks before after b e nodes x l j (in_left l b.links (b.changeset ∷ []) i))))
 
-    apart : IsTrue (has_distinct (map id_of blocks)) → has_other_content (objects_in (commits_in blocks)) ≡ false → commit_side_collides (objects_in (commits_in before)) before b ≡ false
-    apart ids one = rw (no_collision ids one, no_link_saved) refl
+    apart : (objects : List Object) → AreHere objects all → IsTrue (has_distinct (map id_of blocks)) → commit_side_collides objects before b ≡ false
+    apart objects old ids =
+        let whole = subst (λ (z : List Block). IsTrue (has_distinct (map id_of z))) e ids in
+        let free : block_of_id before (id_of b) ≡ None = finds_none id_of (id_of b) before (λ x i. distinct_apart id_of before (b ∷ after) whole x b i (inl refl)) in
+        let second : is_some (block_of_id before (commit_id b.commit)) ≡ false = ap is_some free in
+        let commit : commit_collides objects before b.commit ≡ false = rw (own_fits objects old, second) refl in
+        rw (commit, no_link_saved) refl
 
 -- ---- which revisions are of links
 
@@ -166,16 +164,16 @@ by_nodes came objects before (r ∷ rs) (s ∷ ss) new e h = by (λ os bs zs. by
 
 -- ---- the law
 
-module _ (known came : List Revision) (objects : List Object) (blocks : List Block) (g : IsGround blocks (IsHeldView known)) (k : IsGround blocks (IsHeldView came)) (views : AreViews blocks) (are : AreBlocks blocks)
-    (one : has_other_content (objects_in (commits_in blocks)) ≡ false) (here : AreHere (objects_in (commits_in blocks)) objects) where
-  -- a right block, judged as the changesets before it have brought theirs
-  gives : (before after : List Block) (b : Block) → blocks ≡ before ++ b ∷ after → HasPartner known objects before b.changeset b → GivesBlock came (objects_in (commits_in before)) before (node_of b) b
-  gives before after b e p =
+module _ (known came : List Revision) (judged all : List Object) (blocks : List Block) (g : IsGround blocks (IsHeldView known)) (k : IsGround blocks (IsHeldView came)) (views : AreViews blocks) (are : AreBlocks blocks)
+    (one : has_other_content all ≡ false) (here : AreHere (objects_in (commits_in blocks)) all) (less : AreHere all judged) where
+  -- a right block, judged over fewer objects
+  gives : (objects : List Object) → AreHere objects all → (before after : List Block) (b : Block) → blocks ≡ before ++ b ∷ after → HasPartner known judged before b.changeset b
+      → GivesBlock came objects before (node_of b) b
+  gives objects old before after b e p =
       let among = split_in blocks before after b e in
-      let first = front_ground known objects blocks g views before (b ∷ after) e in
-      let second = front_ground came objects blocks k views before (b ∷ after) e in
-      let links = links_known blocks (IsHeldView came) k b among in
-      let own = partner_less known came objects (objects_in (commits_in before)) before b.changeset b first second links p (λ o i. here o (objects_before blocks before (b ∷ after) e o i)) in
+      let first = front_ground known judged blocks g views before (b ∷ after) e in
+      let second = front_ground came judged blocks k views before (b ∷ after) e in
+      let own = partner_less known came judged objects before b.changeset b first second (links_known blocks (IsHeldView came) k b among) p (λ o i. less o (old o i)) in
       record {
         view = b.changeset;
         is_held = each_in (IsHeldView came) (changesets_in blocks) b.changeset k.known (block_in blocks b among);
@@ -188,24 +186,30 @@ module _ (known came : List Revision) (objects : List Object) (blocks : List Blo
           fits = own.fits;
           files_in_time = own.files_in_time;
           manifest_in_time = own.manifest_in_time;
-          apart = apart blocks before after b e g.nodes g.ids one;
+          apart = apart all blocks before after b e one here g.nodes objects old g.ids;
         };
       }
 
-  brings_by : (before rest : List Block) → blocks ≡ before ++ rest → Holds known objects before rest → BringBlocks came (objects_in (commits_in before)) before (map own_revision (changesets_in rest)) rest
+  pub brings_by : (objects : List Object) → AreHere objects all → (before rest : List Block) → blocks ≡ before ++ rest → Holds known judged before rest
+      → BringBlocks came objects before (map own_revision (changesets_in rest)) rest
   unfolding BringBlocks Holds
-  brings_by before [] e h = refl
-  brings_by before (b ∷ rest) e h =
+  brings_by objects old before [] e h = refl
+  brings_by objects old before (b ∷ rest) e h =
       let among = split_in blocks before rest b e in
       let shape = each_in (λ (d : Block). Each (λ l. IsTrue (is_link_view l)) d.links × (is_link_view d.changeset ≡ false)) blocks b are among in
       let held_links = each_from (IsHeldView came) b.links (λ l j. each_in (IsHeldView came) (changesets_in blocks) l k.known (link_in blocks b among l j)) in
-      let given = gives before rest b e (own_at known objects blocks g views before rest b e h.0) in
-      let more = brings_by (before ++ b ∷ []) rest (e ∙ behind before b rest) h.1 in
-      let next = subst (λ (x : List Object). BringBlocks came x (before ++ b ∷ []) (map own_revision (changesets_in rest)) rest) (objects_push before b) more in
+      let given = gives objects old before rest b e (own_at known judged blocks g views before rest b e h.0) in
+      let next = brings_by (objects ++ commit_objects b.commit) (more b among) (before ++ b ∷ []) rest (e ∙ behind before b rest) h.1 in
       let held = each_in (IsHeldView came) (changesets_in blocks) b.changeset k.known (block_in blocks b among) in
-      let own = inr (inr (no_known_link came b.changeset held shape.1, not_saved_block blocks before rest b e g.nodes, b, rest, refl, given, next)) in
-      subst (λ (x : List Revision). BringBlocks came (objects_in (commits_in before)) before x (b ∷ rest)) (sym (own_revisions b rest))
-      (behind_links came (objects_in (commits_in before)) before b.links (own_revision b.changeset ∷ map own_revision (changesets_in rest)) (b ∷ rest) held_links shape.0 own)
+      let own = inr (inr (no_known_link came b.changeset held shape.1, not_saved_block all blocks before rest b e one here g.nodes, b, rest, refl, given, next)) in
+      subst (λ (x : List Revision). BringBlocks came objects before x (b ∷ rest)) (sym (own_revisions b rest))
+      (behind_links came objects before b.links (own_revision b.changeset ∷ map own_revision (changesets_in rest)) (b ∷ rest) held_links shape.0 own)
+    where
+      more : (b : Block) → In b blocks → AreHere (objects ++ commit_objects b.commit) all
+      more b i o j = elim (of_append o objects (commit_objects b.commit) j) [ inl x ↦ old o x | inr x ↦ here o (objects_of_block blocks b i o x) ]
 
-  pub changesets_bring : Holds known objects [] blocks → BringBlocks came [] [] (map own_revision (changesets_in blocks)) blocks
-  changesets_bring h = brings_by [] blocks refl h
+-- behind nothing, the changesets of the whole
+pub changesets_bring : (known came : List Revision) (objects : List Object) (blocks : List Block) → IsGround blocks (IsHeldView known) → IsGround blocks (IsHeldView came) → AreViews blocks → AreBlocks blocks
+    → has_other_content (objects_in (commits_in blocks)) ≡ false → AreHere (objects_in (commits_in blocks)) objects → Holds known objects [] blocks → BringBlocks came [] [] (map own_revision (changesets_in blocks)) blocks
+changesets_bring known came objects blocks g k views are one here h =
+    brings_by known came objects (objects_in (commits_in blocks)) blocks g k views are one (λ o i. i) here [] (λ o i. absurd i) [] blocks refl h

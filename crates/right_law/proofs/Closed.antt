@@ -46,7 +46,7 @@ accepted_bundle k bundle new why sound a (inr x) =
 
 -- ---- the bundle of the whole history
 
-own_nodes : (hs : List ChangesetView) → map (λ (r : Revision). r.node) (map own_revision hs) ≡ map changeset_node hs
+pub own_nodes : (hs : List ChangesetView) → map (λ (r : Revision). r.node) (map own_revision hs) ≡ map changeset_node hs
 own_nodes [] = refl
 own_nodes (h ∷ hs) = ap (λ (ns : List Bytes). changeset_node h ∷ ns) (own_nodes hs)
 

@@ -1,5 +1,6 @@
 -- The commits of a right history, in its order, bring just its blocks: none of them is refused.
-use Rattle.std.proofs.Common.{◌≡◌, true, false, ◌||◌, List, [], ◌∷◌, ◌++◌, map, None, refl, sym, ap, subst, ◌∙◌, inl, append_assoc}
+use Rattle.std.proofs.Common.{◌≡◌, true, false, ◌||◌, List, [], ◌∷◌, ◌++◌, map, None, refl, sym, ap, subst, ◌∙◌, inl, append_assoc, inr}
+use Rattle.std.specs.Prelude.{IsTrue}
 use Rattle.std.specs.List.{list_any}
 use Rattle.text_model.specs.Lists.{Each, In}
 use Rattle.text_model.specs.Id.{is_null}
@@ -22,6 +23,7 @@ use Rattle.partner_model.specs.Table.{AreBlobsApart}
 use Rattle.history_model.specs.Pull.{CommitsBring, CommitGives, FilesPass}
 use Rattle.state_model.specs.Kept.{Kept}
 use Rattle.state_model.specs.Saved.{has_otherwise}
+use Rattle.dump_law.proofs.Streams.{of_append}
 use Rattle.verify_model.specs.Holds.{HasPartner, IsRight, Holds}
 use Rattle.next_law.proofs.LikeNew.{in-all}
 use Rattle.frame_law.specs.Ground.{IsGround}
@@ -35,18 +37,20 @@ use Rattle.stream_return_law.proofs.Way.{partner_of, way_back, not_deep_back, no
 use Rattle.frame_law.proofs.Right.{right_links, right_paired}
 use Rattle.stream_return_law.proofs.Parts.{known_push, own, all_revisions, each_before, each_own, none_saved}
 
-module _ (before after : List Block) (b : Block) where
-  -- its revisions and those before it are of the history, in which each has one text
-  no_clash : has_distinct (map changeset_node (changesets_in (before ++ b ∷ after))) ≡ true → has_otherwise (revisions_in (changesets_in (before ++ b ∷ after))) ≡ false
-      → Each (λ r. is_null r.node ≡ false) (revisions_in (changesets_in (before ++ b ∷ after))) → changeset_side_collides (known_brought before) before b ≡ false
-  no_clash distinct one real =
-      or_neither (list_any (λ r. is_null r.node || list_any (is_otherwise r) (known_brought before ++ new)) new) (is_any_saved before (own before after b)) (none_all (λ r. is_null r.node || list_any (is_otherwise r) (known_brought before ++ new)) new each) (none_saved before after b distinct)
-    where
-      new : List Revision
-      new = revisions_in (own before after b)
+-- ---- no revision is known otherwise
 
+module _ (known : List Revision) (before after : List Block) (b : Block) (of_known : (r : Revision) → In r known → In r (revisions_in (changesets_in before))) where
+  pub no_clash : IsTrue (has_distinct (map changeset_node (changesets_in (before ++ b ∷ after)))) → has_otherwise (revisions_in (changesets_in (before ++ b ∷ after))) ≡ false
+      → Each (λ r. is_null r.node ≡ false) (revisions_in (changesets_in (before ++ b ∷ after))) → changeset_side_collides known before b ≡ false
+  no_clash distinct one real =
+      or_neither (list_any (λ r. is_null r.node || list_any (is_otherwise r) (known ++ new)) new) (is_any_saved before (own before after b))
+      (none_all (λ r. is_null r.node || list_any (is_otherwise r) (known ++ new)) new each) (none_saved before after b distinct)
+    where
       old : List Revision
       old = revisions_in (changesets_in before)
+
+      new : List Revision
+      new = revisions_in (own before after b)
 
       all : List Revision
       all = revisions_in (changesets_in (before ++ b ∷ after))
@@ -54,17 +58,14 @@ module _ (before after : List Block) (b : Block) where
       new_in : (r : Revision) → In r new → In r all
       new_in r i = subst (In r) (sym (all_revisions before after b)) (in_right r old (new ++ revisions_in (changesets_in after)) (in_left r new (revisions_in (changesets_in after)) i))
 
-      old_in : (r : Revision) → In r (known_brought before) → In r all
-      old_in r i = subst (In r) (sym (all_revisions before after b)) (in_left r old (new ++ revisions_in (changesets_in after)) (in-all [] old r i))
+      old_in : (r : Revision) → In r known → In r all
+      old_in r i = subst (In r) (sym (all_revisions before after b)) (in_left r old (new ++ revisions_in (changesets_in after)) (of_known r i))
 
-      each : (r : Revision) → In r new → is_null r.node || list_any (is_otherwise r) (known_brought before ++ new) ≡ false
+      each : (r : Revision) → In r new → is_null r.node || list_any (is_otherwise r) (known ++ new) ≡ false
       each r i =
           let alone = none_in (λ r. list_any (is_otherwise r) all) all r one (new_in r i) in
-          let here = λ (q : Revision) (j : In q all). none_in (is_otherwise r) all q alone j in
-          let apart : Each (λ q. is_otherwise r q ≡ false) (known_brought before ++ new) = Each-append (λ q. is_otherwise r q ≡ false) (known_brought before) new
-          (each_from (λ q. is_otherwise r q ≡ false) (known_brought before) (λ q j. here q (old_in q j))) (each_from (λ q. is_otherwise r q ≡ false) new (λ q j. here q (new_in q j))) in
-          or_neither (is_null r.node) (list_any (is_otherwise r) (known_brought before ++ new)) (each_in (λ r. is_null r.node ≡ false) all r real (new_in r i))
-          (none_all (is_otherwise r) (known_brought before ++ new) (λ q j. each_in (λ q. is_otherwise r q ≡ false) (known_brought before ++ new) q apart j))
+          or_neither (is_null r.node) (list_any (is_otherwise r) (known ++ new)) (each_in (λ r. is_null r.node ≡ false) all r real (new_in r i))
+          (none_all (is_otherwise r) (known ++ new) (λ q j. none_in (is_otherwise r) all q alone (elim (of_append q known new j) [ inl x ↦ old_in q x | inr x ↦ new_in q x ])))
 
 -- ---- one commit
 
@@ -141,7 +142,7 @@ commits_by known objects k g shaped apart read before (b ∷ rest) e h =
     let view = (Each-rest IsChangesetView b.links (b.changeset ∷ []) (at IsChangesetView shaped.changesets)).0 in
     let sound = each_in (λ b. IsCommitView b.commit) k.blocks b shaped.commits among in
     let plain = each_in (λ b. is_link_view b.changeset ≡ false) k.blocks b g.no_links among in
-    let clash = no_clash before rest b (subst (λ (x : List Block). has_distinct (map changeset_node (changesets_in x)) ≡ true) e g.nodes) (subst (λ (x : List Block). has_otherwise (revisions_in (changesets_in x)) ≡ false) e shaped.one_revision)
+    let clash = no_clash (known_brought before) before rest b (λ r i. in-all [] (revisions_in (changesets_in before)) r i) (subst (λ (x : List Block). has_distinct (map changeset_node (changesets_in x)) ≡ true) e g.nodes) (subst (λ (x : List Block). has_otherwise (revisions_in (changesets_in x)) ≡ false) e shaped.one_revision)
     (subst (λ (x : List Block). Each (λ r. is_null r.node ≡ false) (revisions_in (changesets_in x))) e shaped.real) in
     let here = passes known objects before rest b first second view sound plain (subst (λ (x : List Block). AreBlobsApart (changesets_in x)) e apart) h.0 (at ChangesetFits shaped.fits) clash in
     let gives : CommitGives (known_brought before) objects before (id_of b) b = record {

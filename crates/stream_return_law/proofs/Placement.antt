@@ -1,10 +1,11 @@
--- The commits of a right history that come in its order are placed in it.
-use Rattle.std.proofs.Common.{◌≡◌, ℕ, zero, suc, ◌<◌, false, true, ◌||◌, List, [], ◌∷◌, ◌++◌, length, map, take, Some, None, refl, sym, ap, subst, ◌∙◌, inl, inr, arith}
-use Rattle.std.specs.Prelude.{IsTrue, bytes_eq, slice_get, option_map}
+-- The last commits of a right history that come in its order are placed in it, where those before them are saved; so are all of them where none is.
+use Rattle.std.proofs.Common.{◌≡◌, ℕ, zero, suc, ◌<◌, Bool, false, true, not, ◌||◌, List, [], ◌∷◌, ◌++◌, length, map, take, Some, None, refl, sym, ap, subst, ◌∙◌, inl, inr, arith, append_assoc}
+use Rattle.std.specs.Prelude.{IsTrue, ◌&&◌, bytes_eq, slice_get, option_map}
 use Rattle.std.specs.List.{list_all, find}
+use Rattle.std.proofs.lemmas.List.Folds.{list_any-append}
 use Rattle.text_model.specs.Lists.{Each, In}
 use Rattle.text_model.specs.Id.{Id}
-use Rattle.text_model.proofs.Elements.{in_any, in_map, none_all}
+use Rattle.text_model.proofs.Elements.{in_any, in_left, in_map, in_right, map_append, none_all}
 use Rattle.text_model.proofs.TestLemmas.{bytes_eq-self, bytes_eq-other}
 use Rattle.hg_model.specs.Revision.{Revision}
 use Rattle.git_model.specs.Object.{Object}
@@ -15,8 +16,8 @@ use Rattle.unmark_law.proofs.Tables.{HasId, finds}
 use Rattle.dump_law.proofs.Elements.{of-map}
 use Rattle.verify_model.specs.Holds.{Holds}
 use Rattle.frame_law.proofs.Fronts.{holds_at}
-use Rattle.closure_model.specs.Arrives.{ancestry_of_block}
 use Rattle.frame_law.proofs.Right.{right_paired}
+use Rattle.closure_model.specs.Arrives.{ancestry_of_block}
 use Rattle.right_law.proofs.Changesets.{distinct_apart}
 
 -- ---- which commit is next
@@ -24,22 +25,36 @@ use Rattle.right_law.proofs.Changesets.{distinct_apart}
 has_own : (blocks : List Block) (b : Block) → In b blocks → has (map id_of blocks) (id_of b) ≡ true
 has_own blocks b i = in_any (bytes_eq (id_of b)) (map id_of blocks) (id_of b) (in_map id_of b blocks i) (bytes_eq-self (id_of b))
 
-has_parents : (blocks : List Block) (ids : List Id) → Each (HasId blocks) ids → list_all (λ p. has [] p || has (map id_of blocks) p) ids ≡ true
-has_parents blocks [] h = refl
-has_parents blocks (i ∷ is) h =
-    let f = finds id_of i blocks h.0 in
-    let e : has (map id_of blocks) i ≡ true = subst (λ (x : Id). has (map id_of blocks) x ≡ true) f.is (has_own blocks f.it f.among) in
-    rw (e, has_parents blocks is h.1) refl
+has_none : (blocks : List Block) (b : Block) → ((d : Block) → In d blocks → id_of d ≡ id_of b → ⊥) → has (map id_of blocks) (id_of b) ≡ false
+has_none blocks b other =
+    none_all (bytes_eq (id_of b)) (map id_of blocks) (λ x i. let of = of-map id_of x blocks i in bytes_eq-other (id_of b) x (λ e. other of.0 of.1 (sym (e ∙ of.2))))
 
--- those that are placed don't wait, and the next one is ready
-next_is : (placed : List Id) (before after : List Block) (b : Block) → ((d : Block) → In d before → has placed (id_of d) ≡ true) → has placed (id_of b) ≡ false → list_all (λ p. has [] p || has placed p) ((b.commit).value).parents ≡ true
-    → find (is_ready [] placed) (map ancestry_of_block (before ++ b ∷ after)) ≡ Some (ancestry_of_block b)
-next_is placed [] after b f new ready = rw (new, ready) refl
-next_is placed (d ∷ before) after b f new ready = rw (f d (inl refl)) (next_is placed before after b (λ x i. f x (inr i)) new ready)
+has_parents : (saved placed : List Block) (ids : List Id) → Each (HasId (saved ++ placed)) ids → list_all (λ p. has (map id_of saved) p || has (map id_of placed) p) ids ≡ true
+has_parents saved placed [] h = refl
+has_parents saved placed (p ∷ ids) h = rw (one, has_parents saved placed ids h.1) refl
+  where
+    one : has (map id_of saved) p || has (map id_of placed) p ≡ true
+    one =
+        let f = finds id_of p (saved ++ placed) h.0 in
+        sym (list_any-append (bytes_eq p) (map id_of saved) (map id_of placed)) ∙ ap (λ (l : List Id). has l p) (sym (map_append id_of saved placed))
+        ∙ subst (λ (x : Id). has (map id_of (saved ++ placed)) x ≡ true) f.is (has_own (saved ++ placed) f.it f.among)
 
-none_waits : (placed : List Id) (blocks : List Block) → ((d : Block) → In d blocks → has placed (id_of d) ≡ true) → find (is_waiting [] placed) (map ancestry_of_block blocks) ≡ None
-none_waits placed [] f = refl
-none_waits placed (d ∷ blocks) f = rw (f d (inl refl)) (none_waits placed blocks (λ x i. f x (inr i)))
+-- a commit that is placed doesn't wait
+placed_rests : (saved placed : List Id) (d : Block) → has placed (id_of d) ≡ true → is_waiting saved placed (ancestry_of_block d) ≡ false
+placed_rests saved placed d e = rw e (by (has saved (id_of d)))
+  where
+    by : (t : Bool) → (not t && false) ≡ false
+    by true = refl
+    by false = refl
+
+next_is : (saved placed : List Id) (before after : List Block) (b : Block) → ((d : Block) → In d before → has placed (id_of d) ≡ true) → is_ready saved placed (ancestry_of_block b) ≡ true
+    → find (is_ready saved placed) (map ancestry_of_block (before ++ b ∷ after)) ≡ Some (ancestry_of_block b)
+next_is saved placed [] after b f ready = rw ready refl
+next_is saved placed (d ∷ before) after b f ready = rw (placed_rests saved placed d (f d (inl refl))) (next_is saved placed before after b (λ x i. f x (inr i)) ready)
+
+none_waits : (saved placed : List Id) (blocks : List Block) → ((d : Block) → In d blocks → has placed (id_of d) ≡ true) → find (is_waiting saved placed) (map ancestry_of_block blocks) ≡ None
+none_waits saved placed [] f = refl
+none_waits saved placed (d ∷ blocks) f = rw (placed_rests saved placed d (f d (inl refl))) (none_waits saved placed blocks (λ x i. f x (inr i)))
 
 -- ---- the blocks before a place
 
@@ -60,17 +75,26 @@ split (b ∷ blocks) (suc k) l =
 
 -- ---- the law
 
-place : (known : List Revision) (objects : List Object) (blocks : List Block) → IsTrue (has_distinct (map id_of blocks)) → Holds known objects [] blocks → (k : ℕ) → k < length (map id_of blocks)
-    → slice_get (map id_of blocks) k ≡ option_map (λ c. c.id) (next_ready (map ancestry_of_block blocks) [] (take k (map id_of blocks)))
-place known objects blocks d h k l =
-    let s = split blocks k l in
-    let paired = right_paired known objects s.before s.it (holds_at known objects [] s.before s.it s.after (subst (λ (x : List Block). Holds known objects [] x) s.is h)) in
-    let new : has (map id_of s.before) (id_of s.it) ≡ false =
-    none_all (bytes_eq (id_of s.it)) (map id_of s.before) (λ x i. let of = of-map id_of x s.before i in bytes_eq-other (id_of s.it) x
-    (λ e. distinct_apart id_of s.before (s.it ∷ s.after) (subst (λ (l : List Block). IsTrue (has_distinct (map id_of l))) s.is d) of.0 s.it of.1 (inl refl) (sym (e ∙ of.2)))) in
-    let next = next_is (map id_of s.before) s.before s.after s.it (has_own s.before) new (has_parents s.before ((s.it).commit).value.parents paired) in
-    let all : find (is_ready [] (take k (map id_of blocks))) (map ancestry_of_block blocks) ≡ Some (ancestry_of_block s.it) = (λ i. find (is_ready [] (s.taken i)) (map ancestry_of_block (s.is i))) ∙ next in
-    s.got ∙ sym (ap (λ o. option_map (λ (c : Ancestry). c.id) o) all)
+module _ (known : List Revision) (objects : List Object) (saved new : List Block) (distinct : IsTrue (has_distinct (map id_of (saved ++ new)))) (h : Holds known objects [] (saved ++ new)) where
+  abbrev ids : List Id
+  ids = map id_of saved
+
+  ready : (before after : List Block) (b : Block) → new ≡ before ++ b ∷ after → is_ready ids (map id_of before) (ancestry_of_block b) ≡ true
+  ready before after b is =
+      let all : saved ++ new ≡ (saved ++ before) ++ b ∷ after = ap (λ (l : List Block). saved ++ l) is ∙ sym (append_assoc saved before (b ∷ after)) in
+      let paired = right_paired known objects (saved ++ before) b (holds_at known objects [] (saved ++ before) b after (subst (λ (x : List Block). Holds known objects [] x) all h)) in
+      let other = λ (d : Block) (i : In d (saved ++ before)). distinct_apart id_of (saved ++ before) (b ∷ after) (subst (λ (l : List Block). IsTrue (has_distinct (map id_of l))) all distinct) d b i (inl refl) in
+      rw (has_none saved b (λ d i. other d (in_left d saved before i)), has_none before b (λ d i. other d (in_right d saved before i)), has_parents saved before ((b.commit).value).parents paired) refl
+
+  place : (k : ℕ) → k < length (map id_of new) → slice_get (map id_of new) k ≡ option_map (λ c. c.id) (next_ready (map ancestry_of_block new) ids (take k (map id_of new)))
+  place k l =
+      let s = split new k l in
+      let next = next_is ids (map id_of s.before) s.before s.after s.it (has_own s.before) (ready s.before s.after s.it s.is) in
+      let all : find (is_ready ids (take k (map id_of new))) (map ancestry_of_block new) ≡ Some (ancestry_of_block s.it) = (λ i. find (is_ready ids (s.taken i)) (map ancestry_of_block (s.is i))) ∙ next in
+      s.got ∙ sym (ap (λ o. option_map (λ (c : Ancestry). c.id) o) all)
+
+  pub order_behind : IsOrder (map ancestry_of_block new) ids (map id_of new)
+  order_behind = record { places = place; all = none_waits ids (map id_of new) new (has_own new) }
 
 pub in_order : (known : List Revision) (objects : List Object) (blocks : List Block) → IsTrue (has_distinct (map id_of blocks)) → Holds known objects [] blocks → IsOrder (map ancestry_of_block blocks) [] (map id_of blocks)
-in_order known objects blocks d h = record { places = place known objects blocks d h; all = none_waits (map id_of blocks) blocks (has_own blocks) }
+in_order known objects blocks d h = order_behind known objects [] blocks d h

@@ -14,6 +14,7 @@ use Rattle.bridge_cli.specs.declared.status.Status.{Status}
 use Rattle.bridge_cli.specs.declared.status.Status.TheVariants as status
 use Rattle.bridge_cli.proofs.AcrossLemmas.{done-is, names-hold}
 use Rattle.bridge_cli.proofs.CompleteLemmas.{complete-holds}
+use Rattle.bridge_cli.proofs.OutputLemmas.{output-returns}
 use Rattle.bridge_cli.proofs.ReturnLemmas.{dump-returns}
 use Rattle.bridge_cli.proofs.RunLemmas.{takes-or-fails, of-words, no-words, ends-same, run-headline}
 use Rattle.bridge_cli.proofs.command.run.Given.{Over}
@@ -61,6 +62,11 @@ pub returns-clause-returns : goal.returns-clause-returns
 returns-clause-returns g c = λ command e done.
     dump-returns command (g.I.Source.left c.args.input.now) (g.I.Source.left c.match-command.input) (g.O.Sink.taken c.args.output.now) (g.O.Sink.taken c.match-command.output) (g.K.Slot.held c.args.slot.now)
     (g.K.Slot.held c.match-command.slot) (ends-done g (goal.at.returns-clause-returns g c).After-status command e done)
+
+pub returns-clause-comes_back : goal.returns-clause-comes_back
+returns-clause-comes_back g c = λ command e done.
+    output-returns command (g.I.Source.left c.args.input.now) (g.I.Source.left c.match-command.input) (g.O.Sink.taken c.args.output.now) (g.O.Sink.taken c.match-command.output) (g.K.Slot.held c.args.slot.now)
+    (g.K.Slot.held c.match-command.slot) (ends-done g (goal.at.returns-clause-comes_back g c).After-status command e done)
 
 pub returns-clause-report : goal.returns-clause-report
 returns-clause-report g c =
