@@ -30,13 +30,13 @@ def apart(work, *args):
         raise RuntimeError(f'{work.__name__} failed')
 
 
-def run_once(words, path, output=os.devnull, state=None):
+def run_once(words, path, output=os.devnull, state=None, environment=None):
     """Runs a command over a file as its input, in a folder of its own with a copy of a saved state, where one is given; it must end with status 0."""
     with tempfile.TemporaryDirectory() as folder, open(path, 'rb') as source, open(output, 'wb') as sink:
         if state:
             shutil.copy(state, os.path.join(folder, STATE))
         start = time.perf_counter()
-        child = subprocess.Popen(words, stdin=source, stdout=sink, cwd=folder)
+        child = subprocess.Popen(words, stdin=source, stdout=sink, cwd=folder, env=environment)
         _, status, usage = os.wait4(child.pid, 0)
         elapsed = time.perf_counter() - start
     child.returncode = os.waitstatus_to_exitcode(status)
@@ -56,13 +56,13 @@ def saved_dumps(program, folder, bundle):
     return os.path.join(folder, STATE), dumps
 
 
-def middle_runs(commands: Dict[str, List], rounds=ROUNDS, state=None) -> Dict[str, Run]:
+def middle_runs(commands: Dict[str, List], rounds=ROUNDS, state=None, environment=None) -> Dict[str, Run]:
     """For each named pair of words and input file the middle times of some runs, over a saved state where one is given. The commands take turns, since
     the speed of a machine that others use too changes from one moment to the next, and the best of few runs is then a matter of luck."""
     runs = {name: [] for name in commands}
     for _ in range(rounds):
         for name, (words, path) in commands.items():
-            runs[name].append(run_once(words, path, state=state))
+            runs[name].append(run_once(words, path, state=state, environment=environment))
     return {name: middle_of(some) for name, some in runs.items()}
 
 

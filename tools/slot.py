@@ -28,6 +28,7 @@ LOCKS_OF_REFS = {name: ANY for name in (b'HEAD.lock', b'packed-refs.lock', b'pac
 REFUSED, BAD_STATE = 1, 6
 FIRST_LINE = b'hg-git-bridge 2\n'
 PAIR_SIZE = 82
+TUNABLES, HUGE_PAGES = 'GLIBC_TUNABLES', 'glibc.malloc.hugetlb'
 
 
 class Locked(Fault):
@@ -51,6 +52,13 @@ def program_path():
     if found is None:
         raise Fault('the program hggit is neither beside this tool nor in the path; the variable HGGIT can name it')
     return os.path.abspath(found)
+
+
+def with_huge_pages(words):
+    """An environment in which the C library asks the system for huge pages, unless it says something of them: the program fills more memory than others, and
+    takes a tenth of its time less then."""
+    said = words.get(TUNABLES, '')
+    return words if HUGE_PAGES in said else dict(words, **{TUNABLES: ':'.join(filter(None, [said, f'{HUGE_PAGES}=1']))})
 
 
 @contextlib.contextmanager
@@ -175,7 +183,7 @@ class Slot:
         """Lets the program do a command from a file, or nothing, to a file. The file can be what a program of Git writes meanwhile."""
         try:
             process = subprocess.Popen([self.program, word], stdin=source or subprocess.DEVNULL, stdout=target, stderr=subprocess.PIPE, cwd=self.folder,
-                                       env=environment(), pass_fds=self.keep)
+                                       env=with_huge_pages(environment()), pass_fds=self.keep)
         except OSError as error:
             raise Fault(f'{self.program}: {error.strerror}') from None
         return Run(word, process, self.path(STATE), writer)
