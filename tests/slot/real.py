@@ -1,4 +1,5 @@
-"""A history of the real git in three streams, with a bundle between two of them: both dumps give the same state again."""
+"""A history of the real git in three streams, with a bundle between two of them: both dumps give the same state again, and so does what each pull writes
+where the other side pulls it into a second state."""
 import os
 import random
 import tempfile
@@ -11,15 +12,19 @@ COMMITS = 300
 FILES = 200
 PARTS = 3
 TAGS = {b'v1': 90, b'v2': 280}
+BACK = {'pull-git': 'pull-hg', 'pull-hg': 'pull-git'}
+SIDES = [b'hg', b'git', b'map']
 
 
 def check(report, program):
-    with tempfile.TemporaryDirectory() as repository, tempfile.TemporaryDirectory() as folder:
+    with tempfile.TemporaryDirectory() as repository, tempfile.TemporaryDirectory() as folder, tempfile.TemporaryDirectory() as second:
         commits = make_history(repository)
-        saved = Saved(program, folder)
-        statuses = pull_parts(saved, repository, commits)
+        saved, mirror = Saved(program, folder), Saved(program, second)
+        statuses, back = pull_parts(saved, mirror, repository, commits)
         report.check('three streams and a bundle are pulled', statuses, [0] * (PARTS + 1))
-        parts = sections(saved.text)
+        report.check('what each writes is pulled into a second state', back, [0] * (PARTS + 1))
+        parts, others = sections(saved.text), sections(mirror.text)
+        report.check('which has the same sections', [word for word in SIDES if others[word] != parts[word]], [])
         report.check('each commit and the changeset has its pair', parts[b'map'].count(b'\n'), COMMITS + 1)
         report.check('each pair is right', saved.run('verify'), Answer(0, b'verified %d\n' % (COMMITS + 1), b''))
         report.check('both tags are kept', [name for name in TAGS if b'\ntag %s\n' % name in parts[b'tags']], list(TAGS))
@@ -27,7 +32,7 @@ def check(report, program):
 
 
 def check_dumped(report, program, saved, parts):
-    for dump, pull, same in [('dump-hg', 'pull-hg', [b'hg', b'git', b'map']), ('dump-git', 'pull-git', [b'hg', b'git', b'map', b'tags'])]:
+    for dump, pull, same in [('dump-hg', 'pull-hg', SIDES), ('dump-git', 'pull-git', [*SIDES, b'tags'])]:
         with tempfile.TemporaryDirectory() as folder:
             other = Saved(program, folder)
             report.check(f'{dump} is pulled', other.run(pull, saved.output_of(dump)).status, 0)
@@ -75,18 +80,24 @@ def merge(folder, numbers, commits):
     return [aside, git(folder, 'rev-parse', 'HEAD').decode().strip()]
 
 
-def pull_parts(saved, repository, commits):
-    """The streams one after another, each with what the earlier ones don't reach, and a bundle behind the first."""
-    statuses, done = [], []
+def pull_parts(saved, mirror, repository, commits):
+    """The streams one after another, each with what the earlier ones don't reach, and a bundle behind the first; and the other pull of what each writes, into
+    a second state."""
+    answers, back, done = [], [], []
     size = COMMITS // PARTS
+
+    def pull(word, data):
+        answers.append(saved.run(word, data))
+        back.append(mirror.run(BACK[word], answers[-1].output))
+
     for part in range(PARTS):
         heads = commits[part * size:(part + 1) * size]
         names = [name.decode() for name, place in TAGS.items() if place // size == part]
-        statuses.append(saved.run('pull-git', stream_of(repository, heads + names, done)).status)
+        pull('pull-git', stream_of(repository, heads + names, done))
         done += heads
         if part == 0:
-            statuses.append(saved.run('pull-hg', example('one-changeset.hg')).status)
-    return statuses
+            pull('pull-hg', example('one-changeset.hg'))
+    return [answer.status for answer in answers], [answer.status for answer in back]
 
 
 def stream_of(repository, heads, done):
