@@ -1,6 +1,6 @@
 // The words of a command line.
-ghost use Rattle.std.specs.Prelude.{◌≡◌, ◌++◌, ◌∷◌, [], List, ℕ, OnOk, OnErr, option_map};
-ghost use Rattle.command_model.specs.Command.{command_of, command_named, names_commands};
+ghost use Rattle.std.specs.Prelude.{◌≡◌, ◌++◌, ◌∷◌, [], List, ℕ, map, OnOk, OnErr, option_map};
+ghost use Rattle.command_model.specs.Command.{command_of, command_named};
 ghost use Rattle.bridge_cli.specs.Status.{command_value};
 
 use bridge_text::{Bytes, NoMemory, decimal_of};
@@ -42,6 +42,24 @@ pub enum Command {
     Make { n: u64, seed: u64 },
 }
 
+/// The word of each command that has no numbers.
+const COMMANDS: [(&[u8], Command); 14] = [
+    (b"list-hg", Command::ListHg),
+    (b"check-hg", Command::CheckHg),
+    (b"list-git", Command::ListGit),
+    (b"check-git", Command::CheckGit),
+    (b"pull-hg", Command::PullHg),
+    (b"pull-git", Command::PullGit),
+    (b"dump-hg", Command::DumpHg),
+    (b"dump-git", Command::DumpGit),
+    (b"map", Command::Map),
+    (b"verify", Command::Verify),
+    (b"set-names-hg", Command::SetNamesHg),
+    (b"set-names-git", Command::SetNamesGit),
+    (b"names-hg", Command::NamesHg),
+    (b"names-git", Command::NamesGit),
+];
+
 /// The words of a command line, after the program's name.
 #[derive(Debug, Drop)]
 pub struct Words {
@@ -82,63 +100,22 @@ impl Words {
     {
         match self.list.as_slice() {
             [] => Some(Command::ListHg),
-            [word] => command_named(word.as_slice()),
+            [word] => command_among(&COMMANDS, word.as_slice()),
             [word, n, seed] => made_command(word.as_slice(), n.as_slice(), seed.as_slice()),
             _ => None,
         }
     }
 }
 
-fn command_named(word: &[u8]) -> Option<Command>
-    ensures { option_map command_value result ≡ command_of (word.now ∷ []) }
+// The command of a word in a table.
+fn command_among(mut table: &[(&[u8], Command)], word: &[u8]) -> Option<Command>
+    ensures { option_map command_value result ≡ command_named word.now (map (λ p. (p.0.now, command_value p.1)) table.entry.now) }
 {
-    if b"list-hg".as_slice() == word {
-        return Some(Command::ListHg);
-    }
-    if b"check-hg".as_slice() == word {
-        return Some(Command::CheckHg);
-    }
-    if b"list-git".as_slice() == word {
-        return Some(Command::ListGit);
-    }
-    if b"check-git".as_slice() == word {
-        return Some(Command::CheckGit);
-    }
-    if b"pull-hg".as_slice() == word {
-        return Some(Command::PullHg);
-    }
-    if b"pull-git".as_slice() == word {
-        return Some(Command::PullGit);
-    }
-    if b"dump-hg".as_slice() == word {
-        return Some(Command::DumpHg);
-    }
-    if b"dump-git".as_slice() == word {
-        return Some(Command::DumpGit);
-    }
-    if b"map".as_slice() == word {
-        return Some(Command::Map);
-    }
-    if b"verify".as_slice() == word {
-        return Some(Command::Verify);
-    }
-    command_on_names(word)
-}
-
-fn command_on_names(word: &[u8]) -> Option<Command>
-    ensures { option_map command_value result ≡ command_named word.now names_commands }
-{
-    if b"set-names-hg".as_slice() == word {
-        return Some(Command::SetNamesHg);
-    }
-    if b"set-names-git".as_slice() == word {
-        return Some(Command::SetNamesGit);
-    }
-    if b"names-hg".as_slice() == word {
-        return Some(Command::NamesHg);
-    }
-    if b"names-git".as_slice() == word {
-        return Some(Command::NamesGit);
+    while let [named, rest @ ..] = table {
+        if named.0 == word {
+            return Some(named.1);
+        }
+        table = rest;
     }
     None
 }
